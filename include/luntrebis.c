@@ -1,6 +1,52 @@
-/* The calls that only read. Each hands the handle to a proved call, which hands it out again as it was, in the same
- * block. So the caller's handle, which isn't written, still holds it. */
 #include "luntrebis.h"
+
+#include <inttypes.h>
+#include <stdio.h>
+
+#ifndef LT_MADE
+#define LT_MADE "commit ------------, not proved"
+#endif
+
+const char *lt_version_text(void) {
+    return LT_VERSION ", " LT_MADE;
+}
+
+int lt_is_error(uint8_t tag) {
+    return tag == LT_NO_SPACE || tag == LT_BAD_LENGTH || tag == LT_CLASH || tag == LT_NO_CELL || tag == LT_WRONG_KIND ||
+           tag == LT_NO_BLOCK || tag == LT_STILL_WAITING;
+}
+
+/* Writes a command as a line of the program's dialogue. Returns its length. */
+static size_t tell_command(const struct lt_command *command, char *buffer, size_t room) {
+    static const char *const words[] = {"", "alloc i", "alloc m", "release", "fetch", "store", "take", "put", "", "reset"};
+    unsigned element = command->element;
+    const char *word = command->tag <= LT_RESET ? words[command->tag] : "";
+    if (command->tag == LT_CONFIRM)
+        return (size_t)snprintf(buffer, room, "confirm %u %" PRIu64, element, command->number);
+    if (!*word) return (size_t)snprintf(buffer, room, "%u.%" PRIu64 " of tag %d", element, command->number, command->tag);
+    if (command->tag == LT_STORE || command->tag == LT_PUT)
+        return (size_t)snprintf(buffer, room, "%u.%" PRIu64 " %s %" PRIu32 " %" PRIu64, element, command->number, word,
+                                command->address, command->value);
+    return (size_t)snprintf(buffer, room, "%u.%" PRIu64 " %s %" PRIu32, element, command->number, word, command->address);
+}
+
+size_t lt_tell(const struct lt_command *command, const struct lt_outcome *outcome, char *buffer, size_t room) {
+    char name[16] = {0}, asked[80];
+    tell_command(command, asked, sizeof asked);
+    if (outcome->refusal) {
+        lt_refusal_name(outcome->refusal, name, sizeof name - 1);
+        return (size_t)snprintf(buffer, room, "%s: refused %d %s", asked, outcome->refusal, name);
+    }
+    lt_answer_name(outcome->tag, name, sizeof name - 1);
+    if (outcome->tag == LT_VALUE || outcome->tag == LT_BASE)
+        return (size_t)snprintf(buffer, room, "%s: %s %" PRIu64, asked, name, outcome->value);
+    return (size_t)snprintf(buffer, room, "%s: %s", asked, name);
+}
+
+/* ---- The calls that only read
+ *
+ * Each hands the handle to a proved call, which hands it out again as it was, in the same block. So the caller's handle,
+ * which isn't written, still holds it. */
 
 void lt_held_memory_collect(struct lt_memory memory, uint16_t element, uint64_t number, struct lt_memory *next,
                             struct lt_outcome *outcome);

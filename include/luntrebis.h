@@ -34,6 +34,10 @@ extern "C" {
 /* The version of the library: 10,000 for each major version, 100 for each minor one, 1 for each patch. */
 uint32_t lt_version(void);
 
+/* What the library says of its own making, such as "0.1.0, commit 3f2a91c07d1b, all proved". A library that was built
+ * with no proof says "not proved" at the end. */
+const char *lt_version_text(void);
+
 /* The version of the layout in which images are made and opened. */
 uint16_t lt_layout_version(void);
 
@@ -67,6 +71,10 @@ enum lt_answer {
     LT_CLEARED = 12,
     LT_CONFIRMED = 128
 };
+
+/* Whether an answer says that the program asked for something impossible: LT_NO_SPACE, LT_BAD_LENGTH, LT_CLASH,
+ * LT_NO_CELL, LT_WRONG_KIND, LT_NO_BLOCK or LT_STILL_WAITING. Such a request is answered, and confirmed as any other. */
+int lt_is_error(uint8_t tag);
 
 /* Why a call is refused. 0 means that it isn't. The other numbers up to 24 are refusals of the program imem. No call
  * here returns them, but lt_refusal_name names them, too. */
@@ -295,6 +303,10 @@ size_t lt_refusal_name(uint8_t refusal, char *buffer, size_t room);
 
 /* Returns the length of the name of an answer, by its tag, in the same way. No name has more than 12 letters. */
 size_t lt_answer_name(uint8_t tag, char *buffer, size_t room);
+
+/* Writes what a command asked and how it was answered, such as "2.7 store 1 2: clash", as far as there is room, with a
+ * zero at its end. Returns the length of the whole text. */
+size_t lt_tell(const struct lt_command *command, const struct lt_outcome *outcome, char *buffer, size_t room);
 
 #ifdef __cplusplus
 }

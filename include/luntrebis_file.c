@@ -579,6 +579,30 @@ void ltf_close(struct ltf *file) {
     free(file);
 }
 
+/* What a refusal means, as a sentence. */
+static const char *sentence(int refusal) {
+    switch (refusal) {
+    case LT_GAP: return "the number is beyond the element's next one";
+    case LT_FORGOTTEN: return "the number is below the window: its entry was confirmed";
+    case LT_WINDOW_FULL: return "64 entries of the element are kept: confirm some";
+    case LT_MISMATCH: return "the number was used for another request";
+    case LT_NO_ELEMENT: return "the image has no such element";
+    case LT_NOT_ANSWERED: return "an entry below the number still waits";
+    case LT_JOURNAL_FULL: return "the journal has no room";
+    case LT_DEVICE: return "a step was lost: close the image and open it again";
+    case LT_NO_MEMORY: return "there wasn't enough memory";
+    case LT_WRONG_LENGTH: return "the file doesn't have the length of an image";
+    case LT_NO_HEADER: return "the file is no image, or one that was never finished, or is damaged";
+    case LT_BAD_HEADER: return "the image is damaged in a header";
+    case LT_BAD_PAGE: return "the image is damaged in a page";
+    case LT_BAD_RECORD: return "the image is damaged in a record";
+    case LT_BAD_LIMITS: return "there are 1 to 1048576 cells, 1 to 64 elements and 16 to 4096 slots";
+    case LT_OLD_VERSION: return "an image of the first layout: imem migrate makes one of this layout";
+    case LT_UNSERVED: return "the command wasn't served, and changed nothing: put it again";
+    default: return "an unknown tag, or no group";
+    }
+}
+
 size_t ltf_say(int answer, char *buffer, size_t room) {
     char name[16] = "";
     int length;
@@ -590,7 +614,7 @@ size_t ltf_say(int answer, char *buffer, size_t room) {
         length = snprintf(buffer, room, "%s", strerror(-answer));
     else {
         lt_refusal_name((uint8_t)answer, name, sizeof name - 1);
-        length = snprintf(buffer, room, "refused %d %s", answer, name);
+        length = snprintf(buffer, room, "refused %d %s: %s", answer, name, sentence(answer));
     }
     return length < 0 ? 0 : (size_t)length;
 }

@@ -15,6 +15,8 @@ SERIES = "1"  # Of the calls: it changes if a program that was built before woul
 SONAME = f"libluntrebis.so.{SERIES}"
 ARCHIVE, SHARED, IMEM = OUT / "libluntrebis.a", OUT / SONAME, OUT / "imem"
 OWN = OUT / "libim_c.a"  # The library without its part in C.
+UNPROVED = OUT / "unproved"  # The library with no proof, by the same names.
+UNPROVED_IMEM = OUT / "imem-unproved"
 PROVED = OUT / "libluntrebis.proved"  # Of which commit the library is, and what the prover said of it.
 FLAGS = ["-std=c11", "-O2", "-fPIC", "-Wall", "-Wextra", "-Werror"]
 SAFE = "-Wl,-z,defs,-z,relro,-z,now,-z,noexecstack"
@@ -38,24 +40,25 @@ def take_apart(archive, folder):
     return sorted(folder.iterdir())
 
 
-def compile_sources(folder):
+def compile_sources(folder, proved):
     """Compiles the C files beside the headers, and yields their objects."""
+    made_of = f'-DLT_MADE="{words_of_making(proved)}"'
     for source in sorted(headers.FOLDER.glob("*.c")):
         made = folder / f"{source.stem}.c.o"
-        subprocess.run(["cc", *FLAGS, f"-I{headers.FOLDER}", "-c", source, "-o", made], check=True)
+        subprocess.run(["cc", *FLAGS, made_of, f"-I{headers.FOLDER}", "-c", source, "-o", made], check=True)
         yield made
 
 
-def put_together(archives, archive=ARCHIVE, shared=SHARED):
+def put_together(archives, archive=ARCHIVE, shared=SHARED, proved=True):
     """The library of these archives and of the C files of include/, as an archive of one object and as a shared one.
 
     Both have the headers' calls alone: two libraries of this toolchain in one program would else meet in the others.
     """
-    archive.parent.mkdir(exist_ok=True)
+    archive.parent.mkdir(parents=True, exist_ok=True)
     with tempfile.TemporaryDirectory() as named:
         room = Path(named)
         objects = [it for at, part in enumerate(archives) for it in take_apart(part, room / str(at))]
-        objects += compile_sources(room)
+        objects += compile_sources(room, proved)
         subprocess.run(["ld", "-r", "-o", room / "all.o", *objects], check=True)
         (room / "names").write_text("".join(f"{it}\n" for it in names()))
         one = room / "luntrebis.o"
@@ -125,6 +128,15 @@ def commit():
     return f"{told[:11]}+" if has_changed else told[:12]
 
 
+def words_of_making(proved):
+    return f"commit {commit()}, {'all' if proved else 'not'} proved"
+
+
+def unproved(*made):
+    """Returns those of these programs and libraries that say of themselves that they aren't proved."""
+    return [it for it in made if it.exists() and re.search(rb"commit .{12}, not proved", it.read_bytes())]
+
+
 def stamp(program, proved):
     """Writes over the words that the program prints at `--version` of which commit it is, and whether all was proved.
 
@@ -132,7 +144,7 @@ def stamp(program, proved):
     is, and says nothing of its commit.
     """
     data = program.read_bytes()
-    words = f"commit {commit()}, {'all' if proved else 'not'} proved".encode()
+    words = words_of_making(proved).encode()
     if MARK not in data or len(words) != len(MARK):
         return
     made = program.with_name(f"{program.name}.new")

@@ -23,11 +23,6 @@ def jobs():
     return max(1, min(len(os.sched_getaffinity(0)), memory // ROOM_FOR_A_JOB))
 
 
-def kit():
-    """Returns the folder of the toolchain."""
-    return Path(subprocess.run(["rt", "doc"], capture_output=True, text=True, check=True).stdout.strip()).parent
-
-
 def prove(room, crate):
     """Proves a crate and those that it stands on, in this folder. Prints how far it is, and what was said if it fails.
     Returns the crate's folder, or None."""
@@ -72,7 +67,7 @@ def build_library(crate, to):
         if not folder:
             return None
         to.parent.mkdir(exist_ok=True)
-        ran = subprocess.run([kit() / "bin" / "rattle", *words_for(crate, to)], cwd=folder, stdin=subprocess.DEVNULL, capture_output=True, text=True)
+        ran = subprocess.run([sources.kit() / "bin" / "rattle", *words_for(crate, to)], cwd=folder, stdin=subprocess.DEVNULL, capture_output=True, text=True)
     said = (ran.stdout + ran.stderr).strip()
     if ran.returncode:
         print(f"{crate}: NOT BUILT\n{said[-3000:]}")
@@ -82,7 +77,7 @@ def build_library(crate, to):
 
 def words_for(crate, to):
     """Yields the words with which `rattle` proves and builds a static library in its folder."""
-    made, own, below = kit(), sources.rows()[crate][1], sources.below([crate])
+    made, own, below = sources.kit(), sources.rows()[crate][1], sources.below([crate])
     yield from ("build", "--crate-name", crate, "src/lib.rt", "--crate-type", "staticlib", "--links", f"{crate}=")
     for name in ["std", *own]:
         yield from ("--extern", f"{name}={f'../{name}/out' if name in below else made}/{'rlib' if name in below else 'rlibs'}/{name}.rlib")

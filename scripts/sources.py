@@ -102,7 +102,13 @@ def copied(folder, crates, more=()):
 def need_rt():
     """Ends the script where the toolchain isn't there."""
     if not shutil.which("rt"):
-        sys.exit("this needs the toolchain's command `rt`, which isn't on the PATH")
+        sys.exit("this needs the toolchain's command `rt`, which isn't on the PATH (README.md, The toolchain)")
+
+
+def kit():
+    """Returns the folder of the toolchain."""
+    need_rt()
+    return Path(subprocess.run(["rt", "doc"], capture_output=True, text=True, check=True).stdout.strip()).parent
 
 
 def functions(crate, top=TOP):

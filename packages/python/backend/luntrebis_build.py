@@ -1,33 +1,46 @@
 """A build backend (PEP 517) with no dependencies, so that `pip install .` works with no network.
 
-It puts the shared library into the wheel. It takes that of LUNTREBIS_LIBRARY, that of this checkout, where
-`make library` leaves it in out/, or the installed one, by pkg-config.
+It puts the shared library and the program `imem` into the wheel, or the one that there is. It takes those that
+LUNTREBIS_LIBRARY and LUNTREBIS_IMEM name, those of this checkout, the proved ones first, or the installed ones.
 """
 import base64
 import hashlib
 import os
 import re
+import shutil
 import subprocess
+import sys
 import sysconfig
 import zipfile
 from pathlib import Path
 
 TOP = Path(__file__).resolve().parent.parent
+OUT = TOP.parent.parent / "out"
 NAME = "luntrebis"
 PROJECT = (TOP / "pyproject.toml").read_text()
+NONE = """there is neither the program nor the library to put into the package. In the checkout, with no proof:
+`make try` builds the program, which luntrebis.aio.serve needs, in two or three minutes;
+`make try-library` builds the library, which all else needs, in a minute or two.
+(LUNTREBIS_IMEM and LUNTREBIS_LIBRARY name others.)"""
 
 
 def said(key):
     return re.search(rf'^{key} = "(.*)"$', PROJECT, re.M)[1]
 
 
+def first(places):
+    return next((Path(it) for it in places if it and Path(it).is_file()), None)
+
+
 def library():
-    """Returns the shared library that goes into the wheel."""
-    places = [os.environ.get("LUNTREBIS_LIBRARY"), TOP.parent.parent / "out" / "libluntrebis.so.1", *installed()]
-    for place in places:
-        if place and Path(place).is_file():
-            return Path(place).read_bytes()
-    raise SystemExit("there is no libluntrebis.so.1: run `make library`, install the library, or set LUNTREBIS_LIBRARY")
+    """Returns the shared library that goes into the wheel, or None."""
+    below = [OUT / "libluntrebis.so.1", OUT / "unproved" / "libluntrebis.so.1"]
+    return first([os.environ.get("LUNTREBIS_LIBRARY"), *below, *installed()])
+
+
+def program():
+    """Returns the program that goes into the wheel, or None."""
+    return first([os.environ.get("LUNTREBIS_IMEM"), OUT / "imem", OUT / "imem-unproved", shutil.which("imem")])
 
 
 def installed():
@@ -39,22 +52,45 @@ def installed():
     return [f"{told.stdout.strip()}/libluntrebis.so.1"] if told.returncode == 0 else []
 
 
+def made(path):
+    """Returns what a program or a library says of its own making."""
+    found = re.search(rb"commit .{12}, (?:all|not) proved", path.read_bytes()) if path else None
+    return found[0].decode() if found else "of which nothing is told"
+
+
+def about(held):
+    """Returns a sentence about what the wheel has."""
+    parts = [f"{what}: {path} ({made(path)})" if path else f"no {what}" for what, path in held.items()]
+    return f"luntrebis {said('version')} with {'; '.join(parts)}"
+
+
 def tag():
     return f"py3-none-{re.sub('[-.]', '_', sysconfig.get_platform())}"
 
 
 def files():
-    """Yields the path and the bytes of each file of the wheel."""
-    info = f"{NAME}-{said('version')}.dist-info"
+    """Yields the path and the bytes of each file of the wheel, and whether it can be run."""
+    info, held = f"{NAME}-{said('version')}.dist-info", {"library": library(), "program": program()}
+    if not any(held.values()):
+        raise SystemExit(NONE)
+    print(about(held), file=sys.stderr)
     for path in sorted((TOP / NAME).iterdir()):
-        if path.is_file() and path.suffix != ".so":
-            yield f"{NAME}/{path.name}", path.read_bytes()
-    yield f"{NAME}/libluntrebis.so", library()
-    about = {"Metadata-Version": "2.1", "Name": NAME, "Version": said("version"), "Summary": said("description")}
-    more = {"Requires-Python": said("requires-python"), "License": said("license")}
-    yield f"{info}/METADATA", lines({**about, **more})
+        if path.is_file() and path.suffix != ".so" and path.name != "imem":
+            yield f"{NAME}/{path.name}", path.read_bytes(), False
+    for what, name in (("library", "libluntrebis.so"), ("program", "imem")):
+        if held[what]:
+            yield f"{NAME}/{name}", held[what].read_bytes(), what == "program"
+    yield f"{info}/METADATA", metadata(held), False
     wheel = {"Wheel-Version": "1.0", "Generator": "luntrebis_build", "Root-Is-Purelib": "false", "Tag": tag()}
-    yield f"{info}/WHEEL", lines(wheel)
+    yield f"{info}/WHEEL", lines(wheel), False
+
+
+def metadata(held):
+    fields = {"Metadata-Version": "2.1", "Name": NAME, "Version": said("version"), "Summary": said("description")}
+    more = {"Requires-Python": said("requires-python"), "License": said("license")}
+    text = f"{(TOP / 'README.md').read_text()}\nThis package has the {', the '.join(it for it in held if held[it])}: "
+    text += "; ".join(f"{what} {made(path)}" for what, path in held.items() if path)
+    return lines({**fields, **more, "Description-Content-Type": "text/markdown"}) + f"\n{text}.\n".encode()
 
 
 def lines(fields):
@@ -63,7 +99,7 @@ def lines(fields):
 
 def record(held):
     """Yields the list of the files with their sums."""
-    for name, data in held:
+    for name, data, _ in held:
         digest = base64.urlsafe_b64encode(hashlib.sha256(data).digest()).rstrip(b"=").decode()
         yield f"{name},sha256={digest},{len(data)}\n"
 
@@ -71,10 +107,12 @@ def record(held):
 def build_wheel(wheel_directory, config_settings=None, metadata_directory=None):
     name, held = f"{NAME}-{said('version')}-{tag()}.whl", list(files())
     listed = f"{NAME}-{said('version')}.dist-info/RECORD"
-    held.append((listed, f"{''.join(record(held))}{listed},,\n".encode()))
+    held.append((listed, f"{''.join(record(held))}{listed},,\n".encode(), False))
     with zipfile.ZipFile(Path(wheel_directory) / name, "w", zipfile.ZIP_DEFLATED) as wheel:
-        for path, data in held:
-            wheel.writestr(path, data)
+        for path, data, runs in held:
+            entry = zipfile.ZipInfo(path, (2026, 1, 1, 0, 0, 0))
+            entry.external_attr, entry.compress_type = (0o100755 if runs else 0o100644) << 16, zipfile.ZIP_DEFLATED
+            wheel.writestr(entry, data)
     return name
 
 

@@ -1,18 +1,26 @@
 """A durable memory of I-structures and M-structures, in an image file.
 
-    with luntrebis.create("a.img", cells=64, elements=4) as image:
-        one = image.element(1)
-        base = one.alloc_i(8)
-        late = one.fetch(base)            # a Deferred: nobody has stored yet
-        image.element(2).store(base, 5)
-        assert late.get() == 5
+    with luntrebis.Shared.open_or_create("a.img") as image:
+        maker, one = image.element(0), image.element(1)
+        counter = maker.alloc_m(1).result()
+        maker.put(counter, 0).result()
+        for _ in range(10):
+            value = one.take(counter).result()
+            one.put(counter, value + 1).result()
+            one.done().result()               # a unit of work is over
 
-`Image` is for one thread. `Shared` is for many threads, with futures. `luntrebis.aio` is for tasks of an event loop.
-`Memory` has no disk. A refusal raises a subclass of `Refused`. A reply which says that the program asked for something
-impossible raises a subclass of `Answered`. A file's errors are `OSError`.
+Kill it at any moment and run it again: each element begins at its last `done`, asks the same again, gets the same
+answers, and goes on. `maker` calls no `done`, so it gets the same block each time.
+
+`Shared` is for many threads, with futures. `luntrebis.aio` is for tasks of an event loop, and its `serve` needs the
+program `imem` alone, no library. `Image` is for one thread. `Memory` has no disk. `element_anew` numbers anew: it
+doesn't ask again. A refusal raises a subclass of `Refused`. A reply which says that the program asked for something
+impossible raises a subclass of `Answered`. A file's errors are `OSError`. `version()` says which library it is, and
+whether it was proved.
 """
-from ._memories import Deferred, Element, Image, Memory, answered, create, inspect, open, open_or_create
-from ._shared import Shared, SharedElement
+from ._library import version
+from ._memories import Deferred, Element, ElementAnew, Image, Memory, answered, create, inspect, open, open_or_create
+from ._shared import Shared, SharedElement, SharedElementAnew
 from ._words import (
     Answer,
     Answered,
@@ -54,8 +62,9 @@ from ._words import (
 
 __all__ = [
     "Answer", "Answered", "BadHeader", "BadLength", "BadLimits", "BadPage", "BadRecord", "Clash", "Deferred",
-    "Device", "Element", "Failed", "Forgotten", "Gap", "Image", "JournalFull", "Memory", "Mismatch", "NoBlock",
-    "NoCall", "NoCell", "NoElement", "NoHeader", "NoMemory", "NoSpace", "NotAnswered", "OldVersion", "Refused",
-    "Reply", "Request", "Shared", "SharedElement", "StillWaiting", "SyncFailed", "Tag", "Unserved", "Waiting", "Window",
-    "WindowFull", "Work", "WrongKind", "WrongLength", "answered", "create", "inspect", "open", "open_or_create",
+    "Device", "Element", "ElementAnew", "Failed", "Forgotten", "Gap", "Image", "JournalFull", "Memory", "Mismatch",
+    "NoBlock", "NoCall", "NoCell", "NoElement", "NoHeader", "NoMemory", "NoSpace", "NotAnswered", "OldVersion",
+    "Refused", "Reply", "Request", "Shared", "SharedElement", "SharedElementAnew", "StillWaiting", "SyncFailed",
+    "Tag", "Unserved", "Waiting", "Window", "WindowFull", "Work", "WrongKind", "WrongLength", "answered", "create",
+    "inspect", "open", "open_or_create", "version",
 ]

@@ -219,7 +219,9 @@ class ltf_fault(c.Structure):
 # What each gives, and what it is given.
 CALLS: dict[str, tuple[Any, ...]] = {
     "lt_version": (c.c_uint32,),
+    "lt_version_text": (c.c_char_p,),
     "lt_layout_version": (c.c_uint16,),
+    "lt_is_error": (c.c_int, c.c_uint8),
     "lt_memory_new": (c.c_uint8, c.c_uint32, c.c_uint16, c.POINTER(lt_memory)),
     "lt_memory_step": (c.c_uint8, lt_memory, c.POINTER(lt_command), c.POINTER(lt_memory), c.POINTER(lt_outcome)),
     "lt_memory_collect": (c.c_uint8, c.POINTER(lt_memory), c.c_uint16, c.c_uint64, c.POINTER(lt_outcome)),
@@ -255,6 +257,7 @@ CALLS: dict[str, tuple[Any, ...]] = {
     "lt_inspect": (c.c_uint8, c.c_char_p, c.c_size_t, c.c_char_p, c.c_size_t, c.POINTER(c.c_size_t)),
     "lt_refusal_name": (c.c_size_t, c.c_uint8, c.c_char_p, c.c_size_t),
     "lt_answer_name": (c.c_size_t, c.c_uint8, c.c_char_p, c.c_size_t),
+    "lt_tell": (c.c_size_t, c.POINTER(lt_command), c.POINTER(lt_outcome), c.c_char_p, c.c_size_t),
     "ltf_create": (c.c_int, c.c_char_p, c.c_uint32, c.c_uint16, c.c_uint32, c.POINTER(c.POINTER(ltf))),
     "ltf_open": (c.c_int, c.c_char_p, c.POINTER(c.POINTER(ltf))),
     "ltf_open_or_create": (c.c_int, c.c_char_p, c.c_uint32, c.c_uint16, c.c_uint32, c.POINTER(c.POINTER(ltf))),

@@ -6,15 +6,16 @@ import fcntl
 import io
 import os
 import threading
-from typing import Any, Iterable, Iterator, Sequence, Union
+from typing import Any, Iterable, Iterator, Optional, Sequence, Union
 
 from ._calls import LTF_UNSYNCED, lt_command, lt_memory, lt_outcome, ltf
 from ._library import LIB
-from ._words import Answer, Device, Refused, Reply, Request, SyncFailed, Tag, Waiting, Window, Work
-from ._words import passed, refusal, spelled, told
+from ._requests import FULL, KEPT
+from ._words import Answer, BadLimits, Device, Forgotten, Gap, Mismatch, NoElement, Refused, Reply, Request, SyncFailed
+from ._words import Tag, Waiting, Window, WindowFull, Work, passed, refusal, spelled, told
 
 Path = Union[str, "os.PathLike[str]"]
-KEPT = 64
+LIMITS = "there are 1 to 1048576 cells, 1 to 64 elements and 16 to 4096 slots"
 RULE = "a sync failed: mount the file system anew, or restart, before the image is opened again"
 
 
@@ -44,13 +45,24 @@ class Held:
     def _serve(self, command: lt_command) -> lt_outcome:
         raise NotImplementedError
 
+    def _of(self, request: Request) -> str:
+        """Returns how an exception names a request."""
+        return str(request)
+
+    def _why(self, request: Request, refused: int) -> str:
+        """Returns what else an exception says about a refused request."""
+        return ""
+
     def ask(self, request: Request) -> Reply:
         """Sends one request and returns its reply. The same request again is answered as before, without acting."""
-        return told(self._serve(spelled(request)))
+        outcome = self._serve(spelled(request))
+        if outcome.refusal:
+            raise refusal(outcome.refusal, self._of(request), self._why(request, outcome.refusal))
+        return told(outcome, lambda: self._of(request))
 
     def confirm(self, element: int, upto: int) -> None:
         """Drops the entries of the element below the number. Their replies can't be asked for again."""
-        passed(self._serve(lt_command(Tag.CONFIRM, element, 0, upto, 0)).refusal)
+        self.ask(Request(Tag.CONFIRM, element, upto))
 
 
 class Memory(Held):
@@ -59,7 +71,7 @@ class Memory(Held):
     def __init__(self, cells: int, elements: int) -> None:
         super().__init__()
         self._handle = lt_memory(None)
-        passed(LIB.lt_memory_new(cells, elements, self._handle))
+        passed(LIB.lt_memory_new(cells, elements, self._handle), f"{cells} cells, {elements} elements", LIMITS)
 
     def __enter__(self) -> Memory:
         return self
@@ -81,7 +93,7 @@ class Memory(Held):
         with self._lock:
             self._check()
             LIB.lt_memory_collect(self._handle, element, number, outcome)
-        return told(outcome)
+        return told(outcome, lambda: f"{element}.{number}")
 
 
 class Image(Held):
@@ -94,7 +106,9 @@ class Image(Held):
     def __init__(self, call: str, path: Path, *limits: int) -> None:
         """Use `create`, `open` or `open_or_create` of this module instead."""
         super().__init__()
-        self._file, name = c.POINTER(ltf)(), os.fsdecode(path)
+        self._file, self.path = c.POINTER(ltf)(), os.fsdecode(path)
+        self._elements: dict[int, Element] = {}
+        name = self.path
         if "\0" in name:
             raise ValueError("embedded null byte")
         answer = getattr(LIB, call)(os.fsencode(name), *limits, c.byref(self._file))
@@ -103,13 +117,27 @@ class Image(Held):
             raise OSError(-answer, os.strerror(-answer), name)
         if answer == LTF_UNSYNCED:
             raise SyncFailed(0, f"{RULE} (the note is {name}.unsynced)")
-        passed(answer)
+        passed(answer, name, LIMITS if answer == BadLimits.number else "")
 
     def __enter__(self) -> Image:
         return self
 
     def _free(self) -> None:
         LIB.ltf_close(self._file)
+
+    def _of(self, request: Request) -> str:
+        return f"{self.path}: {request}"
+
+    def _why(self, request: Request, refused: int) -> str:
+        if refused == NoElement.number:
+            return f"its elements are 0 to {self.limits[1] - 1}"
+        if refused == Mismatch.number:
+            before = self.entry(request.element, request.number)
+            return f"under this number it asked before: {before}" if before else ""
+        if refused in (Gap.number, Forgotten.number):
+            base, after = self.window(request.element)
+            return f"the numbers {base} to {after - 1} are kept, and {after} is the next"
+        return FULL if refused == WindowFull.number else ""
 
     def _call(self, name: str, *words: Any) -> Any:
         with self._lock:
@@ -121,9 +149,9 @@ class Image(Held):
         if answer == Device.number:
             fault = self._call("ltf_failure")
             if fault.sync:
-                raise SyncFailed(fault.error, RULE)
+                raise SyncFailed(fault.error, f"{self.path}: {RULE}")
             if fault.error:
-                raise OSError(fault.error, os.strerror(fault.error))
+                raise OSError(fault.error, os.strerror(fault.error), self.path)
         return answer
 
     def _serve(self, command: lt_command) -> lt_outcome:
@@ -134,10 +162,11 @@ class Image(Held):
     def ask_all(self, requests: Iterable[Request]) -> list[Union[Reply, Refused]]:
         """Sends any requests, in their order. Returns the reply or the refusal of each. Up to sixteen neighbours are
         put on the disk together: of one element or several, with confirmations (the tag CONFIRM) among them."""
-        asked = [spelled(it) for it in requests]
+        named = list(requests)
+        asked = [spelled(it) for it in named]
         commands, outcomes = (lt_command * len(asked))(*asked), (lt_outcome * len(asked))()
-        passed(self._carried_out(self._call("ltf_serve_all", commands, len(asked), outcomes)))
-        return [refusal(it.refusal) if it.refusal else told(it) for it in outcomes]
+        passed(self._carried_out(self._call("ltf_serve_all", commands, len(asked), outcomes)), self.path)
+        return [self._reply(*it) for it in zip(named, outcomes)]
 
     def ask_group(self, requests: Sequence[Request]) -> list[Union[Reply, Refused]]:
         """Sends the first of these requests, at most sixteen, and puts them on the disk together. Returns the reply or
@@ -145,8 +174,13 @@ class Image(Held):
         again. It is for a program to which requests keep coming."""
         asked = [spelled(it) for it in requests]
         commands, outcomes, served = (lt_command * len(asked))(*asked), (lt_outcome * len(asked))(), c.c_size_t()
-        passed(self._carried_out(self._call("ltf_serve_group", commands, len(asked), outcomes, served)))
-        return [refusal(it.refusal) if it.refusal else told(it) for it in outcomes[: served.value]]
+        passed(self._carried_out(self._call("ltf_serve_group", commands, len(asked), outcomes, served)), self.path)
+        return [self._reply(*it) for it in zip(requests, outcomes[: served.value])]
+
+    def _reply(self, request: Request, outcome: lt_outcome) -> Union[Reply, Refused]:
+        if outcome.refusal:
+            return refusal(outcome.refusal, self._of(request), self._why(request, outcome.refusal))
+        return told(outcome, lambda: self._of(request))
 
     def woken(self) -> list[tuple[int, int]]:
         """Returns the requests that the last `ask`, `ask_all` or `ask_group` resumed: they waited before, and are
@@ -160,20 +194,29 @@ class Image(Held):
         """Returns the reply that is kept under an element's number."""
         outcome = lt_outcome()
         self._call("ltf_collect", element, number, outcome)
-        return told(outcome)
+        return told(outcome, lambda: f"{self.path}: {self.entry(element, number) or f'{element}.{number}'}")
+
+    def entry(self, element: int, number: int) -> Optional[Request]:
+        """Returns the request that is kept under an element's number, or None."""
+        asked = self._call("ltf_entry", element, number)
+        if not asked.tag:
+            return None
+        return Request(Tag(asked.tag), asked.element, asked.number, asked.address, asked.value)
 
     def make_room(self) -> bool:
         """Makes room in the journal, by a sweep or a turn of a checkpoint, if less than half of it is free. Returns
         whether there was anything to do. Each request does it, too; this is for a program that is idle."""
         answer = self._carried_out(self._call("ltf_tidy"))
         if answer > 1:
-            passed(answer)
+            passed(answer, self.path)
         return answer == 1
 
     def window(self, element: int) -> Window:
         """Returns the window of an element: which of its numbers are kept."""
         bounds = self._call("ltf_window", element)
-        passed(bounds.refusal)
+        if bounds.refusal:
+            why = f"its elements are 0 to {self.limits[1] - 1}"
+            raise refusal(bounds.refusal, f"{self.path}: element {element}", why if bounds.refusal == 5 else "")
         return Window(bounds.base, bounds.next)
 
     @property
@@ -199,8 +242,14 @@ class Image(Held):
         return Work(counts.groups, counts.syncs, counts.writes, counts.sweeps, counts.turns)
 
     def element(self, number: int) -> Element:
-        """Returns an element whose requests are numbered here, from its window's next number on."""
-        return Element(self, number)
+        """Returns the element, whose requests are numbered here from the first that isn't confirmed on: a program that
+        was killed makes them again and goes on where it was. It is the same at each call."""
+        return self._elements.get(number) or self._elements.setdefault(number, Element(self, number))
+
+    def element_anew(self, number: int) -> ElementAnew:
+        """Returns an element whose requests get new numbers. What a run before asked is not asked again, so a value that
+        it had taken when it was killed is lost to the program."""
+        return ElementAnew(self, number)
 
 
 class Deferred:
@@ -219,34 +268,21 @@ class Deferred:
     def get(self) -> int:
         """Returns the value. Raises `Waiting` if there is none yet."""
         reply = self.image.collect(self.element, self.number)
-        if reply.answer == Answer.WAITING:
-            raise Waiting(f"{self.element}.{self.number}")
         return reply.get()
 
 
-class Element:
-    """Makes all requests of one element. When its window is full, answered entries are confirmed."""
+class Asking:
+    """Makes the requests of one element."""
 
     def __init__(self, image: Image, number: int) -> None:
         self.image, self.number = image, number
         self.base, self.next = image.window(number)
 
     def _ask(self, tag: Tag, address: int, value: int = 0) -> tuple[int, Reply]:
-        if self.next - self.base >= KEPT:
-            self.confirm()
         number = self.next
         reply = self.image.ask(Request(tag, self.number, number, address, value))
         self.next += 1
         return number, reply
-
-    def confirm(self) -> None:
-        """Drops all entries before the first that waits. A `Deferred` of one of them then raises `Forgotten`."""
-        upto = self.base
-        while upto < self.next and self.image.collect(self.number, upto).answer != Answer.WAITING:
-            upto += 1
-        if upto > self.base:
-            self.image.confirm(self.number, upto)
-            self.base = upto
 
     def alloc_i(self, length: int) -> int:
         """Makes a block of I cells, to be fetched and stored. Returns its base."""
@@ -287,6 +323,42 @@ class Element:
         self._ask(Tag.RESET, base)[1].get()
 
 
+class Element(Asking):
+    """Makes the requests of one element, under the numbers from the first that isn't confirmed on.
+
+    A program that was killed makes the same requests again from its last `done` on. They are answered as before, and
+    act once. So it goes on where it was, if it asks the same whenever it gets the same answers. At most 64 requests
+    may follow a `done`.
+    """
+
+    def __init__(self, image: Image, number: int) -> None:
+        super().__init__(image, number)
+        self.next = self.base
+
+    def done(self) -> None:
+        """A unit of work is over: the next run begins here. All that was asked has to be answered."""
+        self.image.confirm(self.number, self.next)
+        self.base = self.next
+
+
+class ElementAnew(Asking):
+    """Makes requests of one element, under new numbers. When its window is full, answered entries are confirmed."""
+
+    def _ask(self, tag: Tag, address: int, value: int = 0) -> tuple[int, Reply]:
+        if self.next - self.base >= KEPT:
+            self.confirm()
+        return super()._ask(tag, address, value)
+
+    def confirm(self) -> None:
+        """Drops all entries before the first that waits. A `Deferred` of one of them then raises `Forgotten`."""
+        upto = self.base
+        while upto < self.next and self.image.collect(self.number, upto).answer != Answer.WAITING:
+            upto += 1
+        if upto > self.base:
+            self.image.confirm(self.number, upto)
+            self.base = upto
+
+
 def create(path: Path, cells: int = 4096, elements: int = 16, slots: int = 256) -> Image:
     """Makes the image of an empty memory. Raises `FileExistsError` if something is at the path."""
     return Image("ltf_create", path, cells, elements, slots)
@@ -309,7 +381,8 @@ def inspect(path: Path) -> str:
         data = file.read()
     room, length = c.create_string_buffer(1), c.c_size_t()
     for _ in range(2):  # The first call returns the length.
-        passed(LIB.lt_inspect(data, len(data), room, len(room), length))
+        answer = LIB.lt_inspect(data, len(data), room, len(room), length)
+        passed(answer, f"{os.fsdecode(path)}, which has {len(data)} bytes")
         room = room if length.value <= len(room) else c.create_string_buffer(length.value)
     return room.raw[: length.value].decode()
 

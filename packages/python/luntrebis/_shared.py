@@ -2,18 +2,24 @@
 from __future__ import annotations
 
 import collections
-import contextlib
 import queue
 import threading
-from concurrent.futures import CancelledError, Future, InvalidStateError
-from typing import Any, Callable, Generic, NamedTuple, Optional, TypeVar, Union
+from concurrent.futures import CancelledError, Future
+from typing import Any, Callable, NamedTuple, Optional, TypeVar, Union
 
 from . import _memories
-from ._memories import KEPT, Image, Path
-from ._words import Answer, Device, Refused, Reply, Request, Tag, Window, spelled
+from ._memories import Image, Path
+from ._requests import FULL, KEPT, Requests, give
+from ._words import Answer, Device, Refused, Reply, Request, Tag, Window, WindowFull, spelled
 
 T = TypeVar("T")
 MOST = 16  # The most members of a group.
+
+
+class Counted:
+    """The numbers of an element that asks again what isn't confirmed: the next one, once its window was read."""
+
+    next: Optional[int] = None
 
 
 class Asked(NamedTuple):
@@ -23,6 +29,7 @@ class Asked(NamedTuple):
     future: Future[Reply]
     waits: bool  # Whether its future is done only once it is answered.
     is_numbered: bool  # Whether it came with a number; else it gets the element's next one.
+    counted: Optional[Counted] = None  # Of an element that numbers from its window's base on.
 
 
 class Called(NamedTuple):
@@ -32,73 +39,57 @@ class Called(NamedTuple):
     future: Future[Any]
 
 
-def give(future: Future[Any], value: Any) -> None:
-    """Gives the future its value or its exception. A future that was cancelled gets neither."""
-    with contextlib.suppress(InvalidStateError):
-        if isinstance(value, BaseException):
-            future.set_exception(value)
-        else:
-            future.set_result(value)
+def valued(asked: Future[Reply]) -> Future[int]:
+    """Returns a future of a reply's value."""
+    value: Future[int] = Future()
 
+    def tell(done: Future[Reply]) -> None:
+        try:
+            give(value, done.result().get())
+        except CancelledError:
+            value.cancel()
+        except BaseException as fault:
+            give(value, fault)
 
-class Requests(Generic[T]):
-    """Makes all requests of one element."""
-
-    def _ask(self, tag: Tag, address: int, value: int = 0) -> T:
-        raise NotImplementedError
-
-    def alloc_i(self, length: int) -> T:
-        """Makes a block of I cells, to be fetched and stored. Gives its base."""
-        return self._ask(Tag.ALLOC_I, length)
-
-    def alloc_m(self, length: int) -> T:
-        """Makes a block of M cells, to be taken and put. Gives its base."""
-        return self._ask(Tag.ALLOC_M, length)
-
-    def fetch(self, address: int) -> T:
-        """Reads an I cell, once it is stored."""
-        return self._ask(Tag.FETCH, address)
-
-    def store(self, address: int, value: int) -> T:
-        """Writes an I cell, once."""
-        return self._ask(Tag.STORE, address, value)
-
-    def take(self, address: int) -> T:
-        """Empties an M cell, once it is full."""
-        return self._ask(Tag.TAKE, address)
-
-    def put(self, address: int, value: int) -> T:
-        """Fills an empty M cell."""
-        return self._ask(Tag.PUT, address, value)
-
-    def release(self, base: int) -> T:
-        """Gives a block back."""
-        return self._ask(Tag.RELEASE, base)
-
-    def reset(self, base: int) -> T:
-        """Empties the cells of a block."""
-        return self._ask(Tag.RESET, base)
+    asked.add_done_callback(tell)
+    return value
 
 
 class SharedElement(Requests["Future[int]"]):
-    """Makes the requests of an element, each with a future of its value, its base, or 0. Any thread may ask."""
+    """Makes the requests of an element, each with a future of its value, its base, or 0. Any thread may ask.
+
+    The numbers begin at the first that isn't confirmed. So a program that was killed makes the same requests again from
+    its last `done` on. They are answered as before, and act once. It goes on where it was, if it asks the same whenever
+    it gets the same answers. At most 64 requests may follow a `done`.
+    """
+
+    def __init__(self, shared: Shared, number: int) -> None:
+        self.shared, self.number, self._counted = shared, number, Counted()
+
+    def _send(self, request: Request) -> Future[int]:
+        spelled(request)
+        future: Future[Reply] = Future()
+        self.shared._send(Asked(request, future, True, True, self._counted))
+        return valued(future)
+
+    def _ask(self, tag: Tag, address: int, value: int = 0) -> Future[int]:
+        return self._send(Request(tag, self.number, 0, address, value))
+
+    def done(self) -> Future[int]:
+        """A unit of work is over: the next run begins here. All that was asked has to be answered. Nobody has to wait for
+        the future."""
+        return self._send(Request(Tag.CONFIRM, self.number, 0))
+
+
+class SharedElementAnew(Requests["Future[int]"]):
+    """Makes requests of an element under new numbers, each with a future of its value, its base, or 0. Answered entries
+    are confirmed when the window is full. Any thread may ask."""
 
     def __init__(self, shared: Shared, number: int) -> None:
         self.shared, self.number = shared, number
 
     def _ask(self, tag: Tag, address: int, value: int = 0) -> Future[int]:
-        asked, told = self.shared.submit(Request(tag, self.number, 0, address, value)), Future[int]()
-
-        def tell(done: Future[Reply]) -> None:
-            try:
-                give(told, done.result().get())
-            except CancelledError:
-                told.cancel()
-            except BaseException as fault:
-                give(told, fault)
-
-        asked.add_done_callback(tell)
-        return told
+        return valued(self.shared.submit(Request(tag, self.number, 0, address, value)))
 
 
 class Shared:
@@ -115,6 +106,7 @@ class Shared:
         """Use `create`, `open` or `open_or_create` instead."""
         self._asked: queue.SimpleQueue[Union[Asked, Called, None]] = queue.SimpleQueue()
         self._closed, self._lock = False, threading.Lock()
+        self._elements: dict[int, SharedElement] = {}
         began: Future[None] = Future()
         owner = Owner(self._asked)
         self._thread = threading.Thread(target=owner.run, args=(make, began), name="luntrebis", daemon=True)
@@ -176,8 +168,14 @@ class Shared:
         return future
 
     def element(self, number: int) -> SharedElement:
-        """Returns an element whose requests are numbered here."""
-        return SharedElement(self, number)
+        """Returns the element, whose requests are numbered here from the first that isn't confirmed on: a program that
+        was killed makes them again and goes on where it was. It is the same at each call."""
+        return self._elements.setdefault(number, SharedElement(self, number))
+
+    def element_anew(self, number: int) -> SharedElementAnew:
+        """Returns an element whose requests get new numbers. What a run before asked is not asked again, so a value that
+        it had taken when it was killed is lost to the program."""
+        return SharedElementAnew(self, number)
 
     def close(self) -> None:
         """Serves the requests that were sent, and closes the image."""
@@ -198,10 +196,16 @@ class Group:
         self.asked: list[Optional[Asked]] = []
         self.windows: dict[int, Window] = {}  # As the requests that are numbered here leave them.
         self.others: set[int] = set()  # The elements of the other commands.
+        self.confirmed: set[int] = set()  # The elements of confirmations.
 
     def takes(self, asked: Asked) -> bool:
         """Adds a command, under its number. Returns False if it has to wait for the next group."""
         request = asked.request
+        if asked.counted:
+            counted = self.count(asked.counted, request)
+            if counted is None:
+                return False
+            request = counted
         if asked.is_numbered:
             self.others.add(request.element)
         else:
@@ -211,6 +215,23 @@ class Group:
             request = request._replace(number=number)
         self.add(asked, request)
         return True
+
+    def count(self, counted: Counted, request: Request) -> Optional[Request]:
+        """Returns a request under the next number of its element, or a confirmation of all before. Returns None if it has
+        to wait until the confirmation in this group is served."""
+        element = request.element
+        if counted.next is None:
+            counted.next = self.image.window(element).base
+        if request.tag == Tag.CONFIRM:
+            self.confirmed.add(element)
+            return request._replace(number=counted.next)
+        if counted.next - self.image.window(element).base >= KEPT:
+            if element in self.confirmed:
+                return None
+            named = request._replace(number=counted.next)
+            raise WindowFull(None, f"{self.image.path}: {named}", FULL)
+        counted.next += 1
+        return request._replace(number=counted.next - 1)
 
     def add(self, asked: Optional[Asked], command: Request) -> None:
         self.asked.append(asked)
@@ -238,6 +259,11 @@ class Group:
         while number < after and self.image.collect(element, number).answer != Answer.WAITING:
             number += 1
         return number
+
+
+def again(asked: Asked, command: Request) -> Asked:
+    """Returns what comes first in the next group: a counted request keeps its number."""
+    return asked._replace(request=command, counted=None) if asked.counted else asked
 
 
 class Owner:
@@ -331,7 +357,8 @@ class Owner:
                 give(failed.future, fault)
             self.tell_lost()
             return
-        self.ready.extendleft(filter(None, reversed(group.asked[len(replies) :])))
+        left = list(zip(group.asked, group.commands))[len(replies) :]
+        self.ready.extendleft(again(*it) for it in reversed(left) if it[0])
         for asked, command, reply in zip(group.asked, group.commands, replies):
             if asked:
                 self.tell(asked, command, reply)
@@ -351,7 +378,7 @@ class Owner:
         """Fails all futures that wait, because a step was lost: no answer comes any more."""
         for futures in self.waiting.values():
             for future in futures:
-                give(future, Device())
+                give(future, Device(None, self.image.path))
         self.waiting.clear()
 
     def tell_resumed(self, of: tuple[int, int]) -> None:

@@ -1,8 +1,8 @@
 """Requests, replies, and the exceptions for refusals."""
 from __future__ import annotations
 
-from dataclasses import dataclass
-from typing import NamedTuple
+from dataclasses import dataclass, field
+from typing import Callable, NamedTuple
 
 from ._calls import lt_answer, lt_command, lt_outcome, lt_tag
 
@@ -10,14 +10,21 @@ Answer = lt_answer
 Tag = lt_tag
 
 
+def said_of(kind: type[Exception]) -> str:
+    """Returns the first sentence about a kind of exception, to stand behind a colon."""
+    sentence = " ".join((kind.__doc__ or "").split()).split(". ")[0].rstrip(".")
+    return sentence[:1].lower() + sentence[1:]
+
+
 class Refused(Exception):
     """A call was refused. Each refusal that the library returns has a subclass of its own."""
 
     number = 0
 
-    def __init__(self, number: int | None = None) -> None:
+    def __init__(self, number: int | None = None, of: str = "", why: str = "") -> None:
         self.number = type(self).number if number is None else number
-        super().__init__(f"refused {self.number} {type(self).__name__}")
+        said = f"refused {self.number} {type(self).__name__}"
+        super().__init__(": ".join(filter(None, [of, said, why or said_of(type(self))])))
 
 
 class Gap(Refused):
@@ -147,7 +154,8 @@ class Answered(Exception):
 
     def __init__(self, reply: Reply) -> None:
         self.reply = reply
-        super().__init__(reply.answer.name.lower().replace("_", "-"))
+        said = reply.answer.name.lower().replace("_", "-")
+        super().__init__(": ".join(filter(None, [reply.of, said, said_of(type(self))])))
 
 
 class Clash(Answered):
@@ -206,6 +214,14 @@ class Request(NamedTuple):
     address: int = 0
     value: int = 0
 
+    def __str__(self) -> str:
+        """The request as a line of the program's dialogue, such as `2.7 store 1 2`."""
+        if self.tag == Tag.CONFIRM:
+            return f"confirm {self.element} {self.number}"
+        value = f" {self.value}" if self.tag in (Tag.STORE, Tag.PUT) else ""
+        word = self.tag.name.lower().replace("_", " ") if isinstance(self.tag, Tag) else f"tag {self.tag}"
+        return f"{self.element}.{self.number} {word} {self.address}{value}"
+
 
 class Window(NamedTuple):
     """An element's window. Its entries are kept from `base` on; `next` is the number of its next new request."""
@@ -227,41 +243,51 @@ class Work(NamedTuple):
 
 @dataclass(frozen=True)
 class Reply:
-    """The reply to a request. It has a `value` if the answer is VALUE or BASE."""
+    """The reply to a request. It has a `value` if the answer is VALUE or BASE. `of` says which request of which file."""
 
     answer: Answer
     value: int = 0
+    of: str = field(default="", compare=False, repr=False)
 
     def get(self) -> int:
         """Returns the value, the base, or 0. Raises `Waiting`, or the subclass of `Answered` for the reply."""
         if self.answer == Answer.WAITING:
-            raise Waiting()
+            raise Waiting(self.of)
         if self.answer in ERRORS:
             raise ERRORS[self.answer](self)
         return self.value
 
 
-def refusal(number: int) -> Refused:
+def refusal(number: int, of: str = "", why: str = "") -> Refused:
     """Returns the exception for a refusal."""
-    return REFUSALS[number]() if number in REFUSALS else Refused(number)
+    return REFUSALS[number](None, of, why) if number in REFUSALS else Refused(number, of, why)
 
 
-def passed(number: int) -> None:
+def passed(number: int, of: str = "", why: str = "") -> None:
     """Raises the exception if the number is that of a refusal."""
     if number:
-        raise refusal(number)
+        raise refusal(number, of, why)
+
+
+def checked(what: str, value: int, bits: int, request: Request) -> None:
+    if not isinstance(value, int):
+        raise TypeError(f"{what} is a whole number, and not {value!r}, in {request}")
+    if not 0 <= value < 1 << bits:
+        raise ValueError(f"{what} is at least 0 and below 2^{bits}, and not {value}, in {request}")
 
 
 def spelled(request: Request) -> lt_command:
     """Returns the request in the library's form."""
-    if not (0 <= request.element < 1 << 16 and 0 <= request.address < 1 << 32):
-        raise ValueError(f"an element is below 2^16, and an address below 2^32: {request}")
-    if not (0 <= request.number < 1 << 64 and 0 <= request.value < 1 << 64):
-        raise ValueError(f"a number and a value are below 2^64: {request}")
+    checked("an element", request.element, 16, request)
+    checked("a number", request.number, 64, request)
+    checked("an address or a length", request.address, 32, request)
+    checked("a value", request.value, 64, request)
     return lt_command(request.tag, request.element, request.address, request.number, request.value)
 
 
-def told(outcome: lt_outcome) -> Reply:
-    """Returns the reply, or raises the refusal."""
-    passed(outcome.refusal)
-    return Reply(Answer(outcome.tag), outcome.value)
+def told(outcome: lt_outcome, of: Callable[[], str]) -> Reply:
+    """Returns the reply, or raises the refusal. What it is of is looked up only if it may be said."""
+    if outcome.refusal:
+        raise refusal(outcome.refusal, of())
+    answer = Answer(outcome.tag)
+    return Reply(answer, outcome.value, of() if answer in ERRORS or answer == Answer.WAITING else "")

@@ -1,29 +1,58 @@
 """Luntrebis for asyncio. Each request can be awaited, a fetch or a take until its cell is full.
 
-    async with await luntrebis.aio.open("a.img") as image:
-        one, two = image.element(1), image.element(2)
-        base = await one.alloc_i(1)
-        value, _ = await asyncio.gather(one.fetch(base), two.store(base, 5))
+    async with await luntrebis.aio.serve("a.img") as image:      # asks the program imem; `open` asks the library
+        maker, one = image.element(0), image.element(1)
+        counter = await maker.alloc_m(1)
+        await maker.put(counter, 0)
+        for _ in range(10):
+            value = await one.take(counter)
+            await one.put(counter, value + 1)
+            await one.done()
+
+Kill it at any moment and run it again: each element begins at its last `done`, asks the same again, gets the same
+answers, and goes on. `maker` calls no `done`, so it gets the same block each time. `serve` starts the program again, if
+that is killed.
+
+A request that waits can't be withdrawn. `asyncio.wait_for` ends the waiting, but the request stays in the memory, and a
+value that comes goes to it. Put `asyncio.shield` around what you may want to await later.
 """
 from __future__ import annotations
 
 import asyncio
 from typing import Awaitable
 
-from ._memories import Path
-from ._shared import Requests, Shared
+from ._dialogue import Path, Served, begin
+from ._requests import Requests
+from ._shared import Shared, SharedElement, SharedElementAnew
 from ._words import Reply, Request, Tag
 
 
-class Element(Requests["Awaitable[int]"]):
-    """Makes the requests of an element. Each is sent at its call; awaiting it gives its value, its base, or 0."""
+class ElementAnew(Requests["Awaitable[int]"]):
+    """Makes requests of an element, under new numbers. Each is sent at its call; awaiting it gives its value, its base,
+    or 0."""
+
+    _element: SharedElement | SharedElementAnew
 
     def __init__(self, image: Image, number: int) -> None:
-        self._element = image.shared.element(number)
-        self.number = number
+        self._element, self.number = image.shared.element_anew(number), number
 
     def _ask(self, tag: Tag, address: int, value: int = 0) -> Awaitable[int]:
         return asyncio.wrap_future(self._element._ask(tag, address, value))
+
+
+class Element(ElementAnew):
+    """Makes the requests of an element from the first that isn't confirmed on. Each is sent at its call; awaiting it
+    gives its value, its base, or 0."""
+
+    _element: SharedElement
+
+    def __init__(self, image: Image, number: int) -> None:
+        self._element, self.number = image.shared.element(number), number
+
+    def done(self) -> Awaitable[int]:
+        """A unit of work is over: the next run begins here. All that was asked has to be answered. Nobody has to await
+        it."""
+        return asyncio.wrap_future(self._element.done())
 
 
 class Image:
@@ -48,8 +77,14 @@ class Image:
         return self.ask(Request(Tag.CONFIRM, element, upto))
 
     def element(self, number: int) -> Element:
-        """Returns an element whose requests are numbered here."""
+        """Returns the element, whose requests are numbered here from the first that isn't confirmed on: a program that
+        was killed makes them again and goes on where it was. It is the same at each call."""
         return Element(self, number)
+
+    def element_anew(self, number: int) -> ElementAnew:
+        """Returns an element whose requests get new numbers. What a run before asked is not asked again, so a value that
+        it had taken when it was killed is lost to the program."""
+        return ElementAnew(self, number)
 
     async def close(self) -> None:
         """Serves the requests that were sent, and closes the image. Those that still wait are cancelled."""
@@ -69,3 +104,12 @@ async def open_or_create(path: Path, cells: int = 4096, elements: int = 16, slot
 async def open(path: Path) -> Image:  # noqa: A001
     """Opens the image of an existing file."""
     return Image(await asyncio.to_thread(Shared.open, path))
+
+
+async def serve(
+    path: Path, imem: Path | None = None, *, cells: int = 4096, elements: int = 16, slots: int = 256
+) -> Served:
+    """Starts `imem serve` on an image, which is made if nothing is at the path. It needs no library, and has the calls of
+    `Image`. The program is the one that is named, the one in this package, `imem` on the PATH, or that in out/ of this
+    checkout. If it ends, it is started again, and asked again what isn't answered."""
+    return await begin(path, imem, cells, elements, slots)

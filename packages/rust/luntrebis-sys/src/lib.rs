@@ -277,8 +277,17 @@ extern "C" {
     /// The version of the library: 10,000 for each major version, 100 for each minor one, 1 for each patch.
     pub fn lt_version() -> u32;
 
+    /// What the library says of its own making, such as "0.1.0, commit 3f2a91c07d1b, all proved". A library that was
+    /// built with no proof says "not proved" at the end.
+    pub fn lt_version_text() -> *const core::ffi::c_char;
+
     /// The version of the layout in which images are made and opened.
     pub fn lt_layout_version() -> u16;
+
+    /// Whether an answer says that the program asked for something impossible: LT_NO_SPACE, LT_BAD_LENGTH, LT_CLASH,
+    /// LT_NO_CELL, LT_WRONG_KIND, LT_NO_BLOCK or LT_STILL_WAITING. Such a request is answered, and confirmed as any
+    /// other.
+    pub fn lt_is_error(tag: u8) -> core::ffi::c_int;
 
     /// Makes a memory of 1 to 1,048,576 cells and 1 to 64 elements. Returns 0, and `next` holds the memory; else
     /// returns the refusal, and `next` is as it was.
@@ -413,6 +422,15 @@ extern "C" {
 
     /// Returns the length of the name of an answer, by its tag, in the same way. No name has more than 12 letters.
     pub fn lt_answer_name(tag: u8, buffer: *mut core::ffi::c_char, room: usize) -> usize;
+
+    /// Writes what a command asked and how it was answered, such as "2.7 store 1 2: clash", as far as there is room,
+    /// with a zero at its end. Returns the length of the whole text.
+    pub fn lt_tell(
+        command: *const lt_command,
+        outcome: *const lt_outcome,
+        buffer: *mut core::ffi::c_char,
+        room: usize,
+    ) -> usize;
 
     /// Makes an image of 1 to 1,048,576 cells, 1 to 64 elements and 16 to 4,096 slots at a path where nothing exists,
     /// and opens it. The image is formed as PATH.new, and gets its name once it is whole. A PATH.new that a stopped run

@@ -1,0 +1,376 @@
+"""The program behind two pipes, asked by its dialogue: `imem serve`. No library is needed."""
+from __future__ import annotations
+
+import asyncio
+import collections
+import os
+import pathlib
+import shutil
+from typing import Awaitable, Callable, Optional, Union
+
+from ._requests import FULL, KEPT, Requests, give
+from ._words import Answer, NoElement, Reply, Request, Tag, Window, WindowFull, refusal, spelled
+
+Path = Union[str, "os.PathLike[str]"]
+ANSWERS = {it.name.lower().replace("_", ""): it for it in Answer}
+HERE = pathlib.Path(__file__).resolve()
+NONE = (
+    "there is no imem: `make try` builds one with no proof in two or three minutes, and `make imem` a proved one; then "
+    "install this package again, put the program on the PATH, or name it"
+)
+TRIES, PAUSE = 10, 1.0  # How often a program that ends by itself is started again with no answer between, and when.
+
+
+def find_program(imem: Optional[Path] = None) -> str:
+    """Returns the program: the one that is named here or by LUNTREBIS_IMEM, the one in this package, `imem` on the PATH,
+    or that in out/ of this checkout."""
+    below = [it / "out" / name for it in HERE.parents[3:4] for name in ("imem", "imem-unproved")]
+    named = imem or os.environ.get("LUNTREBIS_IMEM")
+    there = [HERE.with_name("imem"), *filter(None, [shutil.which("imem")]), *below]
+    found = [str(it) for it in there if os.access(it, os.X_OK)]
+    if not named and not found:
+        raise FileNotFoundError(NONE)
+    return os.fspath(named) if named else found[0]
+
+
+class Line:
+    """A line that was asked, and a future of its answer. A program that is started again gets it again, if need be."""
+
+    def __init__(self, text: str, future: asyncio.Future[list[str]], waits: bool) -> None:
+        self.text, self.future, self.waits = text, future, waits
+
+
+class Dialogue:
+    """The program, and the lines that aren't answered yet, in the order in which they were asked.
+
+    Lines that are asked before the event loop goes on are written together, so they stand in the pipe together and
+    share their syncs. If the program ends, it is started again, and what isn't answered is sent again, in its order.
+    """
+
+    program: asyncio.subprocess.Process
+
+    def __init__(self, words: list[str]) -> None:
+        self.words, self.is_closed = words, False
+        self.under_way: dict[Line, None] = {}
+        self.sent: collections.deque[Line] = collections.deque()
+        self.waiting: dict[str, list[Line]] = {}
+        self.said: collections.deque[str] = collections.deque(maxlen=5)  # The last lines of standard error.
+        self.refused, self.failures, self.starts, self.asked_again = "", 0, 0, 0
+        self.unwritten: list[Line] = []
+        self.fault: Optional[BaseException] = None
+
+    async def begin(self) -> None:
+        await self._start()
+        self.serving = asyncio.create_task(self._serve())
+
+    async def end(self) -> None:
+        """Lets the program answer what was sent, and end."""
+        self._write()
+        self.is_closed = True
+        if not self.program.stdin or self.program.stdin.is_closing():
+            return
+        self.program.stdin.close()
+        await asyncio.gather(self.serving, return_exceptions=True)
+        self._fail(asyncio.CancelledError())
+
+    def ask(self, text: str, waits: bool = True) -> asyncio.Future[list[str]]:
+        """Sends a line. Returns a future of the words of its answer, of a request that waits once that is answered."""
+        future: asyncio.Future[list[str]] = asyncio.get_running_loop().create_future()
+        if self.is_closed or self.fault:
+            future.set_exception(ValueError("closed") if self.is_closed or not self.fault else self.fault)
+            return future
+        line = Line(text, future, waits)
+        self.under_way[line] = None
+        if not self.unwritten:
+            asyncio.get_running_loop().call_soon(self._write)
+        self.unwritten.append(line)
+        return future
+
+    def _write(self) -> None:
+        lines, self.unwritten = self.unwritten, []
+        stdin = self.program.stdin
+        if lines and stdin and not stdin.is_closing():  # Else they are sent at the next start.
+            self.sent.extend(lines)
+            stdin.write("".join(f"{it.text}\n" for it in lines).encode())
+
+    async def _start(self) -> None:
+        pipe = asyncio.subprocess.PIPE
+        self.program = await asyncio.create_subprocess_exec(*self.words, stdin=pipe, stdout=pipe, stderr=pipe)
+        self.sent, self.waiting, self.refused = collections.deque(), {}, ""
+        self.asked_again += len(self.under_way) if self.starts else 0
+        self.starts += 1
+        self.unwritten = list(self.under_way)
+        self.hearing = asyncio.create_task(self._hear_errors(self.program.stderr))
+        self._write()
+
+    async def _hear_errors(self, stream: Optional[asyncio.StreamReader]) -> None:
+        while stream and (line := await stream.readline()):
+            self.said.append(line.decode(errors="replace").strip())
+
+    async def _serve(self) -> None:
+        """Hears answers, and starts the program again if it ended."""
+        while True:
+            stream = self.program.stdout
+            while stream and (answer := await stream.readline()).endswith(b"\n"):
+                self._hear(answer.decode().split())
+            status = await self.program.wait()
+            await self.hearing
+            self.failures += status >= 0
+            if self.is_closed:
+                return
+            if status in (2, 5) or self.failures > TRIES:
+                self._fail(self._why(status))
+                return
+            await asyncio.sleep(PAUSE if status >= 0 else 0)
+            await self._start()
+
+    def _why(self, status: int) -> Exception:
+        said = "; ".join(it for it in self.said if it)
+        words = self.refused.split()
+        if words and words[0] != "8":
+            return refusal(int(words[0]), "", said)
+        return OSError(f"imem ended with status {status}: {said or self.refused or 'it said nothing'}")
+
+    def _fail(self, fault: BaseException) -> None:
+        """Gives all who wait the fault. Those who are cancelled ask again under their numbers after the next opening."""
+        self.fault = fault
+        for line in self.under_way:
+            if isinstance(fault, asyncio.CancelledError):
+                line.future.cancel()
+            else:
+                give(line.future, fault)
+        self.under_way.clear()
+
+    def _hear(self, words: list[str]) -> None:
+        """Hears an answer: of requests that waited, or of the oldest line that was sent."""
+        if words[:1] == ["refused"]:
+            self.refused = " ".join(words[1:])
+            return  # The program ends.
+        self.failures = 0
+        if words[1:2] == ["now"]:
+            for line in self.waiting.pop(words[0], []):  # None, if it was sent again just now, and answered so.
+                self._answer(line, [words[0], *words[2:]])
+        elif words[1:] == ["waiting"] and self.sent[0].waits:
+            self.waiting.setdefault(words[0], []).append(self.sent.popleft())
+        else:
+            self._answer(self.sent.popleft(), words)
+
+    def _answer(self, line: Line, words: list[str]) -> None:
+        self.under_way.pop(line, None)
+        give(line.future, words)
+
+
+class Numbers:
+    """The numbers of an element: what was asked before its window was known is asked then, in its order."""
+
+    def __init__(self, window: asyncio.Future[Window], anew: bool) -> None:
+        self.base = self.next = 0
+        self.answered: set[int] = set()
+        self.held: Optional[list[Callable[[Optional[BaseException]], None]]] = []
+        self.anew = anew
+        window.add_done_callback(self._know)
+
+    def _know(self, window: asyncio.Future[Window]) -> None:
+        fault = asyncio.CancelledError() if window.cancelled() else window.exception()
+        if not fault:
+            base, after = window.result()
+            self.base, self.next = base, after if self.anew else base
+        held, self.held = self.held or [], None
+        for one in held:
+            one(fault)
+
+    def when_known(self, one: Callable[[Optional[BaseException]], None]) -> None:
+        if self.held is None:
+            one(None)
+        else:
+            self.held.append(one)
+
+
+class Served:
+    """An image behind the program, for the tasks of an event loop. Use `luntrebis.aio.serve`."""
+
+    def __init__(self, path: str, dialogue: Dialogue) -> None:
+        self.path, self.dialogue = path, dialogue
+        self.elements = 0
+        self._numbers: dict[tuple[int, bool], Numbers] = {}
+
+    async def __aenter__(self) -> Served:
+        return self
+
+    async def __aexit__(self, *fault: object) -> None:
+        await self.close()
+
+    async def close(self) -> None:
+        """Serves the requests that were sent, and closes the image. Those that still wait are cancelled."""
+        await self.dialogue.end()
+
+    async def line(self, text: str) -> list[str]:
+        """Sends any other line of the dialogue, such as `cell 3` or `stat`. Returns the words of its answer."""
+        if text.split()[:1] in ([], ["help"], ["quit"]) or "\n" in text:
+            raise ValueError(f"{text!r} isn't a line that is answered by one")
+        words = await self.dialogue.ask(text, False)
+        if words[0] == "error":
+            raise ValueError(" ".join(words))
+        return words
+
+    def ask(self, request: Request) -> Awaitable[Reply]:
+        """Sends a request under its own number at this call. Awaiting it gives the answer. The same request again is
+        answered as before. A request with the number 0 gets the element's next one."""
+        if request.tag != Tag.CONFIRM and request.number == 0:
+            return self._counted(request, True)
+        spelled(request)
+        reply: asyncio.Future[Reply] = asyncio.get_running_loop().create_future()
+        self._send(request, reply)
+        return reply
+
+    def confirm(self, element: int, upto: int) -> Awaitable[Reply]:
+        """Drops the entries of the element below the number. It is sent at this call, and nobody has to await it."""
+        return self.ask(Request(Tag.CONFIRM, element, upto))
+
+    def element(self, number: int) -> ServedElement:
+        """Returns the element, whose requests are numbered here from the first that isn't confirmed on: a program that
+        was killed makes them again and goes on where it was. It is the same at each call."""
+        return ServedElement(self, number, False)
+
+    def element_anew(self, number: int) -> ServedElement:
+        """Returns an element whose requests get new numbers. What a run before asked is not asked again, so a value that
+        it had taken when it was killed is lost to the program."""
+        return ServedElement(self, number, True)
+
+    async def window(self, element: int) -> Window:
+        """Returns the window of an element: which of its numbers are kept."""
+        words = await self.line(f"window {element}")
+        if words[1] == "refused":
+            raise refusal(int(words[2]), f"{self.path}: element {element}", self._why(None, int(words[2])))
+        return Window(int(words[2]), int(words[3]))
+
+    def _why(self, request: Optional[Request], refused: int) -> str:
+        if refused == NoElement.number:
+            return f"its elements are 0 to {self.elements - 1}"
+        return FULL if refused == WindowFull.number else ""
+
+    def _send(self, request: Request, reply: asyncio.Future[Reply]) -> None:
+        is_confirm = request.tag == Tag.CONFIRM
+        asked = self.dialogue.ask(str(request))
+
+        def tell(done: asyncio.Future[list[str]]) -> None:
+            if done.cancelled():
+                reply.cancel()
+            elif fault := done.exception():
+                give(reply, fault)
+            elif done.result()[1] == "refused":
+                number = int(done.result()[2])
+                give(reply, refusal(number, f"{self.path}: {request}", self._why(request, number)))
+            else:
+                _, word, *value = done.result()
+                value = [] if is_confirm else value
+                give(reply, Reply(ANSWERS[word], int(value[0]) if value else 0, f"{self.path}: {request}"))
+
+        asked.add_done_callback(tell)
+
+    def _numbers_of(self, element: int, anew: bool) -> Numbers:
+        if (element, anew) not in self._numbers:
+            window = asyncio.ensure_future(self.window(element))
+            self._numbers[element, anew] = Numbers(window, anew)
+        return self._numbers[element, anew]
+
+    def _counted(self, request: Request, anew: bool) -> asyncio.Future[Reply]:
+        """Sends a request under its element's next number, or a confirmation of all that it asked."""
+        spelled(request)
+        numbers = self._numbers_of(request.element, anew)
+        reply: asyncio.Future[Reply] = asyncio.get_running_loop().create_future()
+
+        def send(fault: Optional[BaseException]) -> None:
+            if isinstance(fault, asyncio.CancelledError):
+                reply.cancel()
+            elif fault:
+                give(reply, fault)
+            else:
+                self._send_next(request, numbers, reply)
+
+        numbers.when_known(send)
+        return reply
+
+    def _send_next(self, request: Request, numbers: Numbers, reply: asyncio.Future[Reply]) -> None:
+        if request.tag == Tag.CONFIRM:
+            numbers.base = numbers.next  # If it is refused, the next request says why.
+            self._send(request._replace(number=numbers.next), reply)
+            return
+        if numbers.anew:
+            self._make_room(request.element, numbers)
+        named = request._replace(number=numbers.next)
+        if numbers.next - numbers.base >= KEPT:
+            give(reply, WindowFull(None, f"{self.path}: {named}", FULL))
+            return
+        numbers.next += 1
+        if numbers.anew:
+            reply.add_done_callback(lambda _: numbers.answered.add(named.number))
+        self._send(named, reply)
+
+    def _make_room(self, element: int, numbers: Numbers) -> None:
+        """Confirms what is answered, if the window is full."""
+        base = numbers.base
+        if numbers.next - base < KEPT:
+            return
+        while numbers.base in numbers.answered:
+            numbers.answered.discard(numbers.base)
+            numbers.base += 1
+        if numbers.base > base:
+            confirmed: asyncio.Future[Reply] = asyncio.get_running_loop().create_future()
+            confirmed.add_done_callback(lambda it: it.cancelled() or it.exception())
+            self._send(Request(Tag.CONFIRM, element, numbers.base), confirmed)
+
+
+class ServedElement(Requests["Awaitable[int]"]):
+    """Makes the requests of an element. Each is sent at its call; awaiting it gives its value, its base, or 0."""
+
+    def __init__(self, image: Served, number: int, anew: bool) -> None:
+        self.image, self.number, self._anew = image, number, anew
+        image._numbers_of(number, anew)
+
+    def _ask(self, tag: Tag, address: int, value: int = 0) -> Awaitable[int]:
+        return valued(self.image._counted(Request(tag, self.number, 0, address, value), self._anew))
+
+    def done(self) -> Awaitable[int]:
+        """A unit of work is over: the next run begins here. All that was asked has to be answered. Nobody has to await
+        it."""
+        return valued(self.image._counted(Request(Tag.CONFIRM, self.number, 0), self._anew))
+
+
+def valued(asked: asyncio.Future[Reply]) -> asyncio.Future[int]:
+    """Returns a future of a reply's value."""
+    value: asyncio.Future[int] = asyncio.get_running_loop().create_future()
+
+    def tell(done: asyncio.Future[Reply]) -> None:
+        if done.cancelled():
+            value.cancel()
+            return
+        try:
+            give(value, done.result().get())
+        except Exception as fault:
+            give(value, fault)
+
+    asked.add_done_callback(tell)
+    return value
+
+
+async def begin(path: Path, imem: Optional[Path], cells: int, elements: int, slots: int) -> Served:
+    """Starts the program on an image, which is made if nothing is at the path."""
+    program, name = find_program(imem), os.fsdecode(path)
+    if not os.path.exists(name):
+        sizes = ["--cells", str(cells), "--elements", str(elements), "--slots", str(slots)]
+        pipe = asyncio.subprocess.PIPE
+        made = await asyncio.create_subprocess_exec(program, "format", "--new", name, *sizes, stdout=pipe, stderr=pipe)
+        told, said = await made.communicate()
+        if made.returncode and not os.path.exists(name):
+            raise OSError(f"{name}: {(said or told).decode(errors='replace').strip()}")
+    dialogue = Dialogue([program, "serve", name, "--watch", "--statuses", "--wait", "5"])
+    await dialogue.begin()
+    served = Served(name, dialogue)
+    try:
+        words = await served.line("about")
+    except BaseException:
+        await dialogue.end()
+        raise
+    served.elements = int(words[words.index("elements") + 1])
+    return served
