@@ -1,7 +1,8 @@
 """A build backend (PEP 517) with no dependencies, so that `pip install .` works with no network.
 
 It puts the shared library and the program `imem` into the wheel, or the one that there is. It takes those that
-LUNTREBIS_LIBRARY and LUNTREBIS_IMEM name, those of this checkout, the proved ones first, or the installed ones.
+LUNTREBIS_LIBRARY and LUNTREBIS_IMEM name, those of this checkout's out/, the installed ones, or those in out/ that weren't
+proved.
 """
 import base64
 import hashlib
@@ -34,13 +35,13 @@ def first(places):
 
 def library():
     """Returns the shared library that goes into the wheel, or None."""
-    below = [OUT / "libluntrebis.so.1", OUT / "unproved" / "libluntrebis.so.1"]
-    return first([os.environ.get("LUNTREBIS_LIBRARY"), *below, *installed()])
+    unproved = OUT / "unproved" / "libluntrebis.so.1"
+    return first([os.environ.get("LUNTREBIS_LIBRARY"), OUT / "libluntrebis.so.1", *installed(), unproved])
 
 
 def program():
     """Returns the program that goes into the wheel, or None."""
-    return first([os.environ.get("LUNTREBIS_IMEM"), OUT / "imem", OUT / "imem-unproved", shutil.which("imem")])
+    return first([os.environ.get("LUNTREBIS_IMEM"), OUT / "imem", shutil.which("imem"), OUT / "imem-unproved"])
 
 
 def installed():

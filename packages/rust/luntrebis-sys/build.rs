@@ -1,35 +1,45 @@
-//! Finds the library: the archive in LUNTREBIS_LIB_DIR, the archive in out/ of this checkout, or the installed library,
-//! by pkg-config.
+//! Finds the library: the archive in LUNTREBIS_LIB_DIR, the archive in out/ of this checkout, that beside these crates in
+//! a release's lib/, the installed library, by pkg-config, or the one in out/unproved/, which wasn't proved.
 use std::env;
 use std::path::{Path, PathBuf};
-use std::process::Command;
+use std::process::{exit, Command};
+
+const ARCHIVE: &str = "libluntrebis.a";
 
 fn main() {
     println!("cargo:rerun-if-env-changed=LUNTREBIS_LIB_DIR");
     println!("cargo:rerun-if-env-changed=PKG_CONFIG_PATH");
-    let checkout = Path::new(&env::var_os("CARGO_MANIFEST_DIR").unwrap()).join("../../../out");
+    let crates = PathBuf::from(env::var_os("CARGO_MANIFEST_DIR").unwrap()).join("..");
+    let below = [crates.join("../../out"), crates.join("../../../lib")];
     let named = env::var_os("LUNTREBIS_LIB_DIR").map(PathBuf::from);
-    let there = Some(checkout).filter(|it| it.join("libluntrebis.a").exists());
-    match named.or(there) {
-        Some(folder) => link_archive(&folder.canonicalize().expect("LUNTREBIS_LIB_DIR is no folder")),
-        None => link_installed(),
+    let there = below.into_iter().find(|it| it.join(ARCHIVE).exists());
+    let unproved = Some(crates.join("../../out/unproved")).filter(|it| it.join(ARCHIVE).exists());
+    if let Some(folder) = named.or(there) {
+        link_archive(&folder.canonicalize().expect("LUNTREBIS_LIB_DIR is no folder"));
+    } else if link_installed() {
+    } else if let Some(folder) = unproved {
+        println!("cargo:warning=luntrebis takes the library in out/unproved, which wasn't proved (`make library`)");
+        link_archive(&folder.canonicalize().expect("a folder"));
+    } else {
+        eprintln!("there is no libluntrebis.a: `make try-library` builds one with no proof in a minute or two,");
+        eprintln!("`make library` a proved one; or install the library, or set LUNTREBIS_LIB_DIR to its folder");
+        exit(1);
     }
 }
 
 fn link_archive(folder: &Path) {
-    println!("cargo:rerun-if-changed={}", folder.join("libluntrebis.a").display());
+    println!("cargo:rerun-if-changed={}", folder.join(ARCHIVE).display());
     println!("cargo:rustc-link-search=native={}", folder.display());
     println!("cargo:rustc-link-lib=static=luntrebis");
 }
 
-fn link_installed() {
+/// Links the library that `pkg-config` names. Returns whether there is one.
+fn link_installed() -> bool {
     let told = Command::new("pkg-config").args(["--libs-only-L", "luntrebis"]).output();
-    let told = told.ok().filter(|it| it.status.success());
-    let Some(told) = told else {
-        panic!("no libluntrebis.a: run `make library`, install the library, or set LUNTREBIS_LIB_DIR");
-    };
+    let Some(told) = told.ok().filter(|it| it.status.success()) else { return false };
     for word in String::from_utf8_lossy(&told.stdout).split_whitespace() {
         println!("cargo:rustc-link-search=native={}", word.trim_start_matches("-L"));
     }
     println!("cargo:rustc-link-lib=luntrebis");
+    true
 }

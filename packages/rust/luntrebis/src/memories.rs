@@ -1,6 +1,7 @@
 //! A memory without a disk, and an image in its file.
 
-use crate::words::{answered, confirmation, passed, spelled, told, Error, Reply, Request, Result};
+use crate::words::{answered, confirmation, passed, request_of, spelled, told};
+use crate::words::{Error, Of, Refusal, Reply, Request, Result};
 use luntrebis_sys as sys;
 use std::ffi::{c_int, CString};
 use std::fs::File;
@@ -8,7 +9,7 @@ use std::io::{self, Read};
 use std::ops::Range;
 use std::os::fd::AsRawFd;
 use std::os::unix::ffi::OsStrExt;
-use std::path::Path;
+use std::path::{Path, PathBuf};
 use std::ptr;
 
 /// The sizes of an image: 1 to 1,048,576 cells, 1 to 64 elements, 16 to 4,096 slots of the journal.
@@ -21,6 +22,9 @@ pub struct Limits {
     /// The number of journal slots.
     pub slots: u32,
 }
+
+/// What there is to say if a window is full.
+pub(crate) const FULL: &str = ", and 64 requests of the element aren't confirmed: call `done` once a unit of work is over";
 
 /// The most entries that are kept of an element.
 pub(crate) const KEPT: u64 = 64;
@@ -62,18 +66,19 @@ impl Memory {
     pub fn new(cells: u32, elements: u16) -> Result<Memory> {
         let mut handle = sys::lt_memory { block: ptr::null_mut() };
         // SAFETY: `handle` holds nothing, and is written for this call alone.
-        passed(unsafe { sys::lt_memory_new(cells, elements, &mut handle) })?;
+        let answer = passed(unsafe { sys::lt_memory_new(cells, elements, &mut handle) });
+        answer.map_err(|it| it.of(format_args!("{cells} cells, {elements} elements")))?;
         Ok(Memory { handle })
     }
 
     /// Sends one request and returns its reply. The same request again is answered as before.
     pub fn ask(&mut self, request: &Request) -> Result<Reply> {
-        told(&self.step(&spelled(request)))
+        told(&self.step(&spelled(request))).map_err(|it| it.of(request))
     }
 
     /// Drops the entries of the element below the number.
     pub fn confirm(&mut self, element: u16, upto: u64) -> Result<()> {
-        passed(self.step(&spelled(&confirmation(element, upto))).refusal)
+        self.ask(&confirmation(element, upto)).map(|_| ())
     }
 
     /// Returns the reply that is kept under an element's number.
@@ -81,7 +86,7 @@ impl Memory {
         let mut outcome = sys::lt_outcome::default();
         // SAFETY: the handle is held.
         unsafe { sys::lt_memory_collect(&self.handle, element, number, &mut outcome) };
-        told(&outcome)
+        told(&outcome).map_err(|it| it.of(format_args!("{element}.{number}")))
     }
 
     fn step(&mut self, command: &sys::lt_command) -> sys::lt_outcome {
@@ -106,6 +111,7 @@ impl Drop for Memory {
 #[derive(Debug)]
 pub struct Image {
     file: *mut sys::ltf,
+    path: PathBuf,
 }
 
 // SAFETY: the library's handle may be used from any thread, one call at a time.
@@ -137,16 +143,35 @@ impl Image {
     }
 
     fn made(path: &Path, make: impl FnOnce(*const std::ffi::c_char, *mut *mut sys::ltf) -> c_int) -> Result<Image> {
-        let path = CString::new(path.as_os_str().as_bytes()).map_err(io::Error::from)?;
+        let name = CString::new(path.as_os_str().as_bytes()).map_err(io::Error::from)?;
         let mut file = ptr::null_mut();
-        answered(make(path.as_ptr(), &mut file))?;
-        Ok(Image { file })
+        answered(make(name.as_ptr(), &mut file)).map_err(|it| it.of(path.display()))?;
+        Ok(Image { file, path: path.to_owned() })
+    }
+
+    /// Says of a request which file it is of.
+    pub(crate) fn named(&self, request: &Request) -> String {
+        format!("{}: {request}", self.path.display())
+    }
+
+    /// Says of a refused request which one it is, and why it is refused.
+    fn placed(&self, error: Error, request: &Request) -> Error {
+        let Error::Refused(refusal, _) = error else { return error };
+        let why = match refusal {
+            Refusal::NoElement => format!(", and its elements are 0 to {}", self.limits().elements - 1),
+            Refusal::Mismatch => self
+                .entry(request.element, request.number)
+                .map_or_else(String::new, |before| format!(", and under this number it asked before: {before}")),
+            Refusal::WindowFull => FULL.to_owned(),
+            _ => String::new(),
+        };
+        Error::Refused(refusal, Of::new(format_args!("{}{why}", self.named(request))))
     }
 
     /// Sends one request, and returns its reply once that is on the disk. The same request again is answered as before,
     /// and doesn't act again.
     pub fn ask(&mut self, request: &Request) -> Result<Reply> {
-        told(&self.serve(&spelled(request))?)
+        told(&self.serve(&spelled(request))?).map_err(|it| self.placed(it, request))
     }
 
     /// Sends any requests, in their order. Returns the reply or the refusal of each. Up to sixteen neighbours are put on
@@ -157,7 +182,7 @@ impl Image {
         // SAFETY: the handle is held, and there are as many outcomes as commands.
         let answer = unsafe { sys::ltf_serve_all(self.file, commands.as_ptr(), commands.len(), outcomes.as_mut_ptr()) };
         self.check(answer)?;
-        Ok(outcomes.iter().map(told).collect())
+        Ok(self.replies(requests, &outcomes))
     }
 
     /// Sends the first of these requests, at most sixteen, and puts them on the disk together. Returns the reply or the
@@ -170,7 +195,12 @@ impl Image {
         // SAFETY: the handle is held, and there are as many outcomes as commands.
         let answer = unsafe { sys::ltf_serve_group(self.file, asked, count, outcomes.as_mut_ptr(), &mut served) };
         self.check(answer)?;
-        Ok(outcomes[..served].iter().map(told).collect())
+        Ok(self.replies(requests, &outcomes[..served]))
+    }
+
+    fn replies(&self, requests: &[Request], outcomes: &[sys::lt_outcome]) -> Vec<Result<Reply>> {
+        let both = outcomes.iter().zip(requests);
+        both.map(|(outcome, request)| told(outcome).map_err(|it| self.placed(it, request))).collect()
     }
 
     /// Returns the requests that the last `ask`, `ask_all` or `ask_group` resumed: they waited before, and are answered
@@ -185,7 +215,7 @@ impl Image {
 
     /// Drops the entries of the element below the number. Their replies can't be asked for again.
     pub fn confirm(&mut self, element: u16, upto: u64) -> Result<()> {
-        passed(self.serve(&spelled(&confirmation(element, upto)))?.refusal)
+        self.ask(&confirmation(element, upto)).map(|_| ())
     }
 
     /// Returns the reply that is kept under an element's number.
@@ -193,14 +223,21 @@ impl Image {
         let mut outcome = sys::lt_outcome::default();
         // SAFETY: the handle is held. So it is below.
         unsafe { sys::ltf_collect(self.file, element, number, &mut outcome) };
-        told(&outcome)
+        told(&outcome).map_err(|it| it.of(format_args!("{}: {element}.{number}", self.path.display())))
+    }
+
+    /// Returns the request that is kept under an element's number.
+    pub fn entry(&self, element: u16, number: u64) -> Option<Request> {
+        // SAFETY: as above.
+        request_of(&unsafe { sys::ltf_entry(self.file, element, number) })
     }
 
     /// Returns the numbers of an element that are kept. The range's end is the number of its next new request.
     pub fn window(&self, element: u16) -> Result<Range<u64>> {
         // SAFETY: as above.
         let window = unsafe { sys::ltf_window(self.file, element) };
-        passed(window.refusal)?;
+        let of = || format!("{}: element {element} of {}", self.path.display(), self.limits().elements);
+        passed(window.refusal).map_err(|it| it.of(of()))?;
         Ok(window.base..window.next)
     }
 
@@ -293,7 +330,8 @@ pub fn inspect(path: impl AsRef<Path>) -> Result<String> {
     loop {
         let (room, buffer) = (text.len(), text.as_mut_ptr().cast());
         // SAFETY: `bytes` and `text` are as long as told, and initialized.
-        passed(unsafe { sys::lt_inspect(bytes.as_ptr(), bytes.len(), buffer, room, &mut length) })?;
+        let answer = passed(unsafe { sys::lt_inspect(bytes.as_ptr(), bytes.len(), buffer, room, &mut length) });
+        answer.map_err(|it| it.of(format_args!("{}, which has {} bytes", path.as_ref().display(), bytes.len())))?;
         if length <= room {
             text.truncate(length);
             return Ok(String::from_utf8_lossy(&text).into_owned());

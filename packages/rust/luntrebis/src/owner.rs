@@ -1,12 +1,13 @@
 //! The thread that makes the calls of a shared image.
 
-use crate::memories::{Image, KEPT};
-use crate::shared::{Asked, Teller};
-use crate::words::{confirmation, Error, Refusal, Reply, Request, Result};
+use crate::memories::{Image, FULL, KEPT};
+use crate::shared::{Asked, Counted, Numbered, Teller};
+use crate::words::{confirmation, Error, Of, Op, Refusal, Reply, Request, Result};
 use std::collections::{HashMap, HashSet, VecDeque};
 use std::fmt;
 use std::ops::Range;
 use std::sync::mpsc::{Receiver, TryRecvError};
+use std::sync::PoisonError;
 
 /// The most members of a group.
 const MOST: usize = 16;
@@ -37,26 +38,56 @@ struct Group {
     windows: HashMap<u16, Range<u64>>,
     /// The elements of the other commands.
     others: HashSet<u16>,
+    /// The elements of confirmations.
+    confirmed: HashSet<u16>,
 }
 
 impl Group {
     /// Adds a command, under its number. Returns it if it has to wait for the next group.
-    fn take(&mut self, image: &Image, asked: Asked) -> Option<Asked> {
+    fn take(&mut self, image: &Image, mut asked: Asked) -> Option<Asked> {
         let mut request = asked.request;
-        if asked.is_numbered {
-            self.others.insert(request.element);
-        } else {
-            match self.number(image, request.element) {
-                Ok(Some(number)) => request.number = number,
-                Ok(None) => return Some(asked),
-                Err(error) => {
-                    asked.teller.tell(Err(error));
-                    return None;
-                }
+        let number = match &asked.numbered {
+            Numbered::Here => Ok(Some(request.number)),
+            Numbered::Anew => self.number(image, request.element),
+            Numbered::Again(counted) => self.count(image, counted, request),
+        };
+        match number {
+            Ok(Some(number)) => request.number = number,
+            Ok(None) => return Some(asked),
+            Err(error) => {
+                asked.teller.tell(Err(error));
+                return None;
             }
+        }
+        if !matches!(asked.numbered, Numbered::Anew) {
+            self.others.insert(request.element);
+        }
+        if matches!(asked.numbered, Numbered::Again(_)) {
+            (asked.request, asked.numbered) = (request, Numbered::Here); // In the next group, too.
         }
         self.add(Some(asked), request);
         None
+    }
+
+    /// Returns the next number of an element that asks again. Returns `None` if the request has to wait until the
+    /// confirmation in this group is served.
+    fn count(&mut self, image: &Image, counted: &Counted, request: Request) -> Result<Option<u64>> {
+        let mut next = counted.lock().unwrap_or_else(PoisonError::into_inner);
+        let base = image.window(request.element)?.start;
+        let number = *next.get_or_insert(base);
+        if request.op == Op::Confirm {
+            self.confirmed.insert(request.element);
+            return Ok(Some(number));
+        }
+        if number - base >= KEPT {
+            if self.confirmed.contains(&request.element) {
+                return Ok(None);
+            }
+            let named = image.named(&Request { number, ..request });
+            return Err(Error::Refused(Refusal::WindowFull, Of::new(format_args!("{named}{FULL}"))));
+        }
+        *next = Some(number + 1);
+        Ok(Some(number))
     }
 
     fn add(&mut self, asked: Option<Asked>, command: Request) {
@@ -208,7 +239,7 @@ impl Owner {
     /// Fails all who wait, because a step was lost: no answer comes any more.
     fn tell_lost(&mut self) {
         for (_, tellers) in self.waiting.drain() {
-            tellers.iter().for_each(|it| it.tell(Err(Error::Refused(Refusal::Device))));
+            tellers.iter().for_each(|it| it.tell(Err(Error::Refused(Refusal::Device, Of::new("a step was lost")))));
         }
     }
 
@@ -221,6 +252,7 @@ impl Owner {
                 self.waiting.entry(of).or_default().push(asked.teller);
                 self.tell_resumed(of);
             }
+            Ok(it) if it.is_error() => asked.teller.tell_of(reply, self.image.named(&command)),
             reply => asked.teller.tell(reply),
         }
     }
@@ -230,8 +262,10 @@ impl Owner {
         match self.image.collect(of.0, of.1) {
             Ok(Reply::Waiting) => {}
             reply => {
+                let asked = self.image.entry(of.0, of.1);
+                let named = asked.map_or_else(String::new, |it| self.image.named(&it));
                 for teller in self.waiting.remove(&of).unwrap_or_default() {
-                    teller.tell(reply.as_ref().map(|it| *it).map_err(Error::again));
+                    teller.tell_of(reply.as_ref().map(|it| *it).map_err(Error::again), named.clone());
                 }
             }
         }

@@ -3,6 +3,7 @@
 use crate::memories::{Image, Limits};
 use crate::owner::{Message, Owner};
 use crate::words::{confirmation, Error, Op, Reply, Request, Result};
+use std::collections::HashMap;
 use std::future::Future;
 use std::path::Path;
 use std::pin::Pin;
@@ -25,6 +26,8 @@ pub struct Shared {
 #[derive(Debug)]
 struct Inner {
     asked: Mutex<Sender<Message>>,
+    /// The numbers of the elements that ask again.
+    counted: Mutex<HashMap<u16, Arc<Counted>>>,
     thread: Option<JoinHandle<()>>,
 }
 
@@ -68,19 +71,20 @@ impl Shared {
             }
         })?;
         begins.recv().unwrap_or(Err(Error::Closed))?;
-        Ok(Shared { inner: Arc::new(Inner { asked: Mutex::new(sender), thread: Some(thread) }) })
+        let (asked, counted) = (Mutex::new(sender), Mutex::default());
+        Ok(Shared { inner: Arc::new(Inner { asked, counted, thread: Some(thread) }) })
     }
 
     /// Sends a request under its own number, or a confirmation. Its future is done once the request is answered, for a
     /// fetch or a take as soon as its cell is full.
     pub fn submit(&self, request: Request) -> Pending {
-        self.send(request, true, true)
+        self.send(request, Numbered::Here, true)
     }
 
     /// Sends a request. Its future is done once the reply is on the disk; [`Reply::Waiting`] is a reply, too. The same
     /// request again is answered as before.
     pub fn ask(&self, request: Request) -> Result<Reply> {
-        self.send(request, true, false).wait()
+        self.send(request, Numbered::Here, false).wait()
     }
 
     /// Drops the entries of the element below the number.
@@ -98,73 +102,127 @@ impl Shared {
         told.recv().map_err(|_| Error::Closed)
     }
 
-    /// Returns an element whose requests are numbered here. Nobody else may make requests of it.
+    /// Returns the element, whose requests are numbered here from the first that isn't confirmed on: a program that was
+    /// killed makes them again and goes on where it was. It is the same at each call.
     pub fn element(&self, number: u16) -> Element {
-        Element { shared: self.clone(), number }
+        let counted = lock(&self.inner.counted).entry(number).or_default().clone();
+        Element { shared: self.clone(), number, counted }
     }
 
-    fn send(&self, request: Request, is_numbered: bool, waits: bool) -> Pending {
+    /// Returns an element whose requests get new numbers. What a run before asked is not asked again, so a value that it
+    /// had taken when it was killed is lost to the program.
+    pub fn element_anew(&self, number: u16) -> ElementAnew {
+        ElementAnew { shared: self.clone(), number }
+    }
+
+    fn send(&self, request: Request, numbered: Numbered, waits: bool) -> Pending {
         let told = Arc::new(Told::default());
-        let asked = Asked { request, is_numbered, waits, teller: Teller { told: told.clone() } };
+        let asked = Asked { request, numbered, waits, teller: Teller { told: told.clone() } };
         // If nobody listens any longer, the request is dropped, and its teller says so.
         let _sent = lock(&self.inner.asked).send(Message::Ask(asked));
         Pending { told }
     }
 }
 
+/// The next number of an element that asks again what isn't confirmed, once its window was read.
+pub(crate) type Counted = Mutex<Option<u64>>;
+
+/// How a request gets its number.
+#[derive(Clone, Debug)]
+pub(crate) enum Numbered {
+    /// It came with it.
+    Here,
+    /// It gets the element's next one.
+    Anew,
+    /// It gets the next of those from the window's base on.
+    Again(Arc<Counted>),
+}
+
+macro_rules! requests {
+    () => {
+        /// Makes a block of the given number of I cells, to be fetched and stored. Gives its base.
+        pub fn alloc_i(&self, length: u32) -> Value {
+            self.ask(Op::AllocI(length))
+        }
+
+        /// Makes a block of the given number of M cells, to be taken and put. Gives its base.
+        pub fn alloc_m(&self, length: u32) -> Value {
+            self.ask(Op::AllocM(length))
+        }
+
+        /// Reads an I cell, once it is stored.
+        pub fn fetch(&self, address: u32) -> Value {
+            self.ask(Op::Fetch(address))
+        }
+
+        /// Writes an I cell, once.
+        pub fn store(&self, address: u32, value: u64) -> Value {
+            self.ask(Op::Store(address, value))
+        }
+
+        /// Empties an M cell, once it is full. Gives its value.
+        pub fn take(&self, address: u32) -> Value {
+            self.ask(Op::Take(address))
+        }
+
+        /// Fills an empty M cell.
+        pub fn put(&self, address: u32, value: u64) -> Value {
+            self.ask(Op::Put(address, value))
+        }
+
+        /// Gives a block back.
+        pub fn release(&self, base: u32) -> Value {
+            self.ask(Op::Release(base))
+        }
+
+        /// Empties the cells of a block.
+        pub fn reset(&self, base: u32) -> Value {
+            self.ask(Op::Reset(base))
+        }
+    };
+}
+
 /// Makes the requests of an element. Each returns a future of its value, its base, or 0.
 ///
-/// Requests get the element's next numbers. When its window is full, answered entries are confirmed, together with other
-/// requests.
+/// The numbers begin at the first that isn't confirmed. So a program that was killed makes the same requests again from
+/// its last [`done`](Element::done) on. They are answered as before, and act once. It goes on where it was, if it asks
+/// the same whenever it gets the same answers. At most 64 requests may follow a `done`.
 #[derive(Clone, Debug)]
 pub struct Element {
     shared: Shared,
     number: u16,
+    counted: Arc<Counted>,
 }
 
 impl Element {
-    /// Makes a block of the given number of I cells, to be fetched and stored. Gives its base.
-    pub fn alloc_i(&self, length: u32) -> Value {
-        self.ask(Op::AllocI(length))
-    }
+    requests!();
 
-    /// Makes a block of the given number of M cells, to be taken and put. Gives its base.
-    pub fn alloc_m(&self, length: u32) -> Value {
-        self.ask(Op::AllocM(length))
-    }
-
-    /// Reads an I cell, once it is stored.
-    pub fn fetch(&self, address: u32) -> Value {
-        self.ask(Op::Fetch(address))
-    }
-
-    /// Writes an I cell, once.
-    pub fn store(&self, address: u32, value: u64) -> Value {
-        self.ask(Op::Store(address, value))
-    }
-
-    /// Empties an M cell, once it is full. Gives its value.
-    pub fn take(&self, address: u32) -> Value {
-        self.ask(Op::Take(address))
-    }
-
-    /// Fills an empty M cell.
-    pub fn put(&self, address: u32, value: u64) -> Value {
-        self.ask(Op::Put(address, value))
-    }
-
-    /// Gives a block back.
-    pub fn release(&self, base: u32) -> Value {
-        self.ask(Op::Release(base))
-    }
-
-    /// Empties the cells of a block.
-    pub fn reset(&self, base: u32) -> Value {
-        self.ask(Op::Reset(base))
+    /// A unit of work is over: the next run begins here. All that was asked has to be answered. Nobody has to wait for
+    /// it.
+    pub fn done(&self) -> Value {
+        self.ask(Op::Confirm)
     }
 
     fn ask(&self, op: Op) -> Value {
-        Value(self.shared.send(Request { element: self.number, number: 0, op }, false, true))
+        let request = Request { element: self.number, number: 0, op };
+        Value(self.shared.send(request, Numbered::Again(self.counted.clone()), true))
+    }
+}
+
+/// Makes requests of an element, under new numbers. Each returns a future of its value, its base, or 0.
+///
+/// When its window is full, answered entries are confirmed, together with other requests.
+#[derive(Clone, Debug)]
+pub struct ElementAnew {
+    shared: Shared,
+    number: u16,
+}
+
+impl ElementAnew {
+    requests!();
+
+    fn ask(&self, op: Op) -> Value {
+        Value(self.shared.send(Request { element: self.number, number: 0, op }, Numbered::Anew, true))
     }
 }
 
@@ -185,6 +243,11 @@ impl Pending {
             }
             slot = self.told.there.wait(slot).unwrap_or_else(PoisonError::into_inner);
         }
+    }
+
+    /// Returns the value of a reply, or the error that says of what it is.
+    fn valued(told: &Told, reply: Result<Reply>) -> Result<u64> {
+        reply?.value().map_err(|it| it.of(&lock(&told.slot).of))
     }
 
     /// Whether the request is answered.
@@ -217,7 +280,8 @@ pub struct Value(Pending);
 impl Value {
     /// Blocks the thread until the value is there.
     pub fn wait(self) -> Result<u64> {
-        self.0.wait()?.value()
+        let told = self.0.told.clone();
+        Pending::valued(&told, self.0.wait())
     }
 
     /// Whether the value is there.
@@ -230,7 +294,7 @@ impl Future for Value {
     type Output = Result<u64>;
 
     fn poll(mut self: Pin<&mut Self>, context: &mut Context<'_>) -> Poll<Result<u64>> {
-        Pin::new(&mut self.0).poll(context).map(|it| it?.value())
+        Pin::new(&mut self.0).poll(context).map(|it| Pending::valued(&self.0.told, it))
     }
 }
 
@@ -246,6 +310,8 @@ struct Slot {
     answer: Option<Result<Reply>>,
     waker: Option<Waker>,
     is_told: bool,
+    /// Which request of which file an answer that is an error is of.
+    of: String,
 }
 
 /// Gives an answer, once. If it is dropped without one, it says that the image is closed.
@@ -255,6 +321,12 @@ pub(crate) struct Teller {
 }
 
 impl Teller {
+    /// Gives an answer that is an error, of this request.
+    pub(crate) fn tell_of(&self, answer: Result<Reply>, of: String) {
+        lock(&self.told.slot).of = of;
+        self.tell(answer);
+    }
+
     pub(crate) fn tell(&self, answer: Result<Reply>) {
         let mut slot = lock(&self.told.slot);
         if slot.is_told {
@@ -280,8 +352,7 @@ impl Drop for Teller {
 #[derive(Debug)]
 pub(crate) struct Asked {
     pub(crate) request: Request,
-    /// Whether it came with a number; else it gets the element's next one.
-    pub(crate) is_numbered: bool,
+    pub(crate) numbered: Numbered,
     /// Whether its future is done only once it is answered.
     pub(crate) waits: bool,
     pub(crate) teller: Teller,

@@ -79,8 +79,58 @@ impl Reply {
             Reply::Value(value) => Ok(value),
             Reply::Base(base) => Ok(base.into()),
             Reply::Stored | Reply::Released | Reply::Cleared | Reply::Confirmed => Ok(0),
-            other => Err(Error::Answered(other)),
+            other => Err(Error::Answered(other, Of::default())),
         }
+    }
+
+    /// Whether it says that the program asked for something impossible.
+    pub fn is_error(self) -> bool {
+        use Reply::*;
+        matches!(self, NoSpace | BadLength | Clash | NoCell | WrongKind | NoBlock | StillWaiting)
+    }
+}
+
+impl fmt::Display for Request {
+    /// Writes the request as a line of the program's dialogue, such as `2.7 store 1 2`.
+    fn fmt(&self, f: &mut fmt::Formatter<'_>) -> fmt::Result {
+        let Request { element, number, op } = self;
+        match op {
+            Op::Confirm => return write!(f, "confirm {element} {number}"),
+            _ => write!(f, "{element}.{number} ")?,
+        }
+        match op {
+            Op::AllocI(length) => write!(f, "alloc i {length}"),
+            Op::AllocM(length) => write!(f, "alloc m {length}"),
+            Op::Release(base) => write!(f, "release {base}"),
+            Op::Fetch(address) => write!(f, "fetch {address}"),
+            Op::Store(address, value) => write!(f, "store {address} {value}"),
+            Op::Take(address) => write!(f, "take {address}"),
+            Op::Put(address, value) => write!(f, "put {address} {value}"),
+            Op::Reset(base) => write!(f, "reset {base}"),
+            Op::Confirm => Ok(()),
+        }
+    }
+}
+
+/// Which request of which file an error is of, and what else there is to say.
+#[derive(Clone, Default, PartialEq, Eq)]
+pub struct Of(String);
+
+impl Of {
+    pub(crate) fn new(text: impl fmt::Display) -> Of {
+        Of(text.to_string())
+    }
+}
+
+impl fmt::Display for Of {
+    fn fmt(&self, f: &mut fmt::Formatter<'_>) -> fmt::Result {
+        f.write_str(&self.0)
+    }
+}
+
+impl fmt::Debug for Of {
+    fn fmt(&self, f: &mut fmt::Formatter<'_>) -> fmt::Result {
+        f.write_str(&self.0)
     }
 }
 
@@ -162,9 +212,9 @@ impl Refusal {
 #[non_exhaustive]
 pub enum Error {
     /// The library refused it.
-    Refused(Refusal),
+    Refused(Refusal, Of),
     /// The memory's reply is an error, or the request waits.
-    Answered(Reply),
+    Answered(Reply, Of),
     /// A call on the file failed.
     Io(io::Error),
     /// A sync of the file failed since this machine was started: what was written may not be on the disk, whatever is
@@ -182,8 +232,8 @@ pub type Result<T> = result::Result<T, Error>;
 impl fmt::Display for Error {
     fn fmt(&self, f: &mut fmt::Formatter<'_>) -> fmt::Result {
         match self {
-            Error::Refused(it) => write!(f, "refused {} {it:?}", *it as u8),
-            Error::Answered(it) => write!(f, "answered {it:?}"),
+            Error::Refused(it, of) => write!(f, "refused {} {it:?}: {of}", *it as u8),
+            Error::Answered(it, of) => write!(f, "answered {it:?}: {of}"),
             Error::Io(it) => it.fmt(f),
             Error::SyncFailed(it) => {
                 write!(
@@ -205,11 +255,22 @@ impl From<io::Error> for Error {
 }
 
 impl Error {
+    /// The same error, which says of what it is.
+    pub(crate) fn of(self, of: impl fmt::Display) -> Error {
+        match self {
+            Error::Refused(it, _) => Error::Refused(it, Of::new(of)),
+            Error::Answered(it, _) => Error::Answered(it, Of::new(of)),
+            Error::Io(it) => Error::Io(io::Error::new(it.kind(), format!("{of}: {it}"))),
+            Error::SyncFailed(it) => Error::SyncFailed(io::Error::new(it.kind(), format!("{of}: {it}"))),
+            Error::Closed => Error::Closed,
+        }
+    }
+
     /// The same error once more, for another who asked.
     pub(crate) fn again(&self) -> Error {
         match self {
-            Error::Refused(it) => Error::Refused(*it),
-            Error::Answered(it) => Error::Answered(*it),
+            Error::Refused(it, of) => Error::Refused(*it, of.clone()),
+            Error::Answered(it, of) => Error::Answered(*it, of.clone()),
             Error::Io(it) => Error::Io(copied(it)),
             Error::SyncFailed(it) => Error::SyncFailed(copied(it)),
             Error::Closed => Error::Closed,
@@ -236,7 +297,7 @@ pub(crate) fn answered(answer: c_int) -> Result<()> {
 pub(crate) fn passed(number: u8) -> Result<()> {
     match number {
         sys::LT_OK => Ok(()),
-        _ => Err(Error::Refused(Refusal::of(number))),
+        _ => Err(Error::Refused(Refusal::of(number), Of::default())),
     }
 }
 
@@ -275,6 +336,22 @@ pub(crate) fn spelled(request: &Request) -> sys::lt_command {
         Op::Confirm => (sys::LT_CONFIRM, 0, 0),
     };
     sys::lt_command { tag, element: request.element, address, number: request.number, value }
+}
+
+/// Returns the request of a command that is kept, or `None` if it is no request.
+pub(crate) fn request_of(it: &sys::lt_command) -> Option<Request> {
+    let op = match it.tag {
+        sys::LT_ALLOC_I => Op::AllocI(it.address),
+        sys::LT_ALLOC_M => Op::AllocM(it.address),
+        sys::LT_RELEASE => Op::Release(it.address),
+        sys::LT_FETCH => Op::Fetch(it.address),
+        sys::LT_STORE => Op::Store(it.address, it.value),
+        sys::LT_TAKE => Op::Take(it.address),
+        sys::LT_PUT => Op::Put(it.address, it.value),
+        sys::LT_RESET => Op::Reset(it.address),
+        _ => return None,
+    };
+    Some(Request { element: it.element, number: it.number, op })
 }
 
 /// Returns a confirmation: the entries below the number are dropped.

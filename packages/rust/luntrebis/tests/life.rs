@@ -32,7 +32,7 @@ fn what_was_answered_is_there_after_an_opening() {
             image.ask(&asked(3, number, Op::Fetch(0))).unwrap();
         }
         let gap = image.ask(&asked(3, 66, Op::Fetch(0)));
-        assert!(matches!(gap, Err(Error::Refused(Refusal::Gap))));
+        assert!(matches!(gap, Err(Error::Refused(Refusal::Gap, _))));
     }
     let mut image = Image::open(&path).unwrap();
     assert_eq!(image.collect(1, 1).unwrap(), Reply::Value(5));
@@ -76,14 +76,14 @@ fn a_note_of_a_failed_sync_keeps_an_image_closed() {
 
 #[test]
 fn a_memory_has_no_disk() {
-    assert!(matches!(Memory::new(0, 2), Err(Error::Refused(Refusal::BadLimits))));
+    assert!(matches!(Memory::new(0, 2), Err(Error::Refused(Refusal::BadLimits, _))));
     let mut memory = Memory::new(16, 2).unwrap();
     assert_eq!(memory.ask(&asked(0, 1, Op::AllocM(4))).unwrap(), Reply::Base(0));
     assert_eq!(memory.ask(&asked(1, 1, Op::Take(2))).unwrap(), Reply::Waiting);
     assert_eq!(memory.ask(&asked(0, 2, Op::Put(2, 9))).unwrap(), Reply::Stored);
     assert_eq!(memory.collect(1, 1).unwrap(), Reply::Value(9));
     memory.confirm(1, 2).unwrap();
-    assert!(matches!(memory.collect(1, 1), Err(Error::Refused(Refusal::Forgotten))));
+    assert!(matches!(memory.collect(1, 1), Err(Error::Refused(Refusal::Forgotten, _))));
 }
 
 struct Unpark(Thread);
@@ -109,10 +109,10 @@ fn run<T>(future: impl Future<Output = T>) -> T {
 fn many_threads_share_an_image() {
     let path = place("shared");
     let shared = Shared::create(&path, Limits { cells: 256, elements: 16, slots: 64 }).unwrap();
-    let base = shared.element(0).alloc_m(16).wait().unwrap() as u32;
-    let first = shared.element(0).take(base);
+    let base = shared.element_anew(0).alloc_m(16).wait().unwrap() as u32;
+    let first = shared.element_anew(0).take(base);
     assert!(!first.is_ready(), "nobody has put");
-    let workers: Vec<_> = (1..16).map(|number| (shared.element(number), base + u32::from(number))).collect();
+    let workers: Vec<_> = (1..16).map(|number| (shared.element_anew(number), base + u32::from(number))).collect();
     thread::scope(|scope| {
         for (element, cell) in workers {
             scope.spawn(move || {
@@ -126,15 +126,15 @@ fn many_threads_share_an_image() {
         }
     });
     let count = run(async {
-        shared.element(1).put(base, 7).await?;
+        shared.element_anew(1).put(base, 7).await?;
         first.await
     });
     assert_eq!(count.unwrap(), 7);
-    let clash = run(async { (shared.element(2).put(base, 1).await, shared.element(2).put(base, 2).await) });
-    assert!(matches!(clash, (Ok(0), Err(Error::Answered(Reply::Clash)))));
-    assert!(matches!(shared.element(16).take(base).wait(), Err(Error::Refused(Refusal::NoElement))));
+    let clash = run(async { (shared.element_anew(2).put(base, 1).await, shared.element_anew(2).put(base, 2).await) });
+    assert!(matches!(clash, (Ok(0), Err(Error::Answered(Reply::Clash, _)))));
+    assert!(matches!(shared.element_anew(16).take(base).wait(), Err(Error::Refused(Refusal::NoElement, _))));
     assert_eq!(shared.call(|image| image.window(0).map(|it| it.end)).unwrap().unwrap(), 3);
-    let late = shared.element(3).take(base + 1);
+    let late = shared.element_anew(3).take(base + 1);
     drop(shared);
     assert!(matches!(late.wait(), Err(Error::Closed)));
     std::fs::remove_file(path).unwrap();
@@ -144,7 +144,7 @@ fn many_threads_share_an_image() {
 fn commands_of_one_element_share_a_group() {
     let path = place("together");
     let shared = Shared::create(&path, Limits { cells: 256, elements: 3, slots: 256 }).unwrap();
-    let (one, two) = (shared.element(1), shared.element(2));
+    let (one, two) = (shared.element_anew(1), shared.element_anew(2));
     let base = one.alloc_i(200).wait().unwrap() as u32;
     let before = shared.call(|image| image.work()).unwrap();
     let (release, held) = std::sync::mpsc::channel::<()>();
@@ -176,6 +176,41 @@ fn commands_of_one_element_share_a_group() {
 }
 
 #[test]
+fn an_element_asks_again_what_is_not_confirmed() {
+    let path = place("again");
+    let small = Limits { cells: 16, elements: 3, slots: 64 };
+    let run = |ends_in_between: bool| {
+        let shared = Shared::open_or_create(&path, small).unwrap();
+        let (maker, one) = (shared.element(0), shared.element(1));
+        let counter = maker.alloc_m(1).wait().unwrap() as u32;
+        maker.put(counter, 0).wait().unwrap();
+        let value = one.take(counter).wait().unwrap();
+        if ends_in_between {
+            return value; // It has the value, and nobody else does.
+        }
+        one.put(counter, value + 1).wait().unwrap();
+        one.done().wait().unwrap();
+        value + 1
+    };
+    assert_eq!([run(false), run(true), run(true), run(false), run(false)], [1, 1, 1, 2, 3]);
+    let shared = Shared::open(&path).unwrap();
+    let one = shared.element(1);
+    let fetches: Vec<_> = (0..70).map(|_| one.put(15, 0)).collect(); // Of no block: each is answered `NoCell`.
+    let told: Vec<_> = fetches.into_iter().map(|it| it.wait().unwrap_err().to_string()).collect();
+    let name = path.display().to_string();
+    assert_eq!(told[0], format!("answered NoCell: {name}: 1.7 put 15 0"));
+    assert!(told[64].starts_with(&format!("refused 3 WindowFull: {name}: 1.71 put 15 0, and 64 requests")));
+    assert_eq!(shared.element(1).done().wait().unwrap(), 0, "the same element");
+    assert_eq!(shared.call(|image| image.window(1)).unwrap().unwrap(), 71..71);
+    let other = shared.submit(asked(0, 2, Op::Take(0))).wait().unwrap_err().to_string();
+    assert_eq!(other, format!("refused 4 Mismatch: {name}: 0.2 take 0, and under this number it asked before: 0.2 put 0 0"));
+    let none = shared.ask(asked(9, 1, Op::Take(0))).unwrap_err().to_string();
+    assert_eq!(none, format!("refused 5 NoElement: {name}: 9.1 take 0, and its elements are 0 to 2"));
+    drop((shared, one));
+    std::fs::remove_file(path).unwrap();
+}
+
+#[test]
 fn a_group_is_the_first_of_a_list() {
     let path = place("group");
     let mut image = Image::create(&path, Limits { slots: 64, ..SMALL }).unwrap();
@@ -185,7 +220,7 @@ fn a_group_is_the_first_of_a_list() {
     assert_eq!(image.ask_group(&stores[16..]).unwrap().len(), 4);
     assert!(image.ask_group(&[]).unwrap().is_empty());
     let all = image.ask_all(&[asked(0, 22, Op::Confirm), asked(0, 22, Op::Store(20, 7)), asked(0, 24, Op::Confirm)]);
-    assert!(matches!(all.unwrap()[..], [Ok(Reply::Confirmed), Ok(Reply::Stored), Err(Error::Refused(Refusal::Gap))]));
+    assert!(matches!(all.unwrap()[..], [Ok(Reply::Confirmed), Ok(Reply::Stored), Err(Error::Refused(Refusal::Gap, _))]));
     assert_eq!(image.window(0).unwrap(), 22..23);
     std::fs::remove_file(path).unwrap();
 }
@@ -195,6 +230,7 @@ fn a_shared_image_goes_from_thread_to_thread() {
     fn goes<T: Send + Sync>() {}
     goes::<Shared>();
     goes::<luntrebis::Element>();
+    goes::<luntrebis::ElementAnew>();
     goes::<luntrebis::Value>();
     fn moves<T: Send>() {}
     moves::<Image>();
