@@ -1,4 +1,5 @@
-.PHONY: check test imem examples demo clients library install uninstall package debian c-examples model trials try try-tests
+.PHONY: check test imem examples demo clients library install uninstall package debian c-examples model trials try try-library \
+        try-tests
 
 PREFIX = /usr/local
 LIBDIR = lib
@@ -23,6 +24,10 @@ examples demo: imem
 # The same at first sight, with no proof, by a program that it leaves as out/imem-unproved.
 try:
 	scripts/examples --unproved
+
+# The library for C, Python and Rust with no proof, in out/unproved.
+try-library:
+	scripts/library --unproved
 
 # Clients in Python and C over the program, which is killed at random moments: their counts come out exact.
 clients: imem

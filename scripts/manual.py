@@ -1,5 +1,5 @@
 """Makes the manual's pages and the completions of the shells from imem's help, the headers, and docs/FORMAT.md.
-`pages(imem)` and `completions(imem)` give each file's path below share/ with its text."""
+`pages(imem, ..)` and `completions(imem)` give each file's path below share/ with its text."""
 import itertools
 import re
 import subprocess
@@ -9,6 +9,7 @@ import headers
 import packaging
 from sources import TOP
 
+DOCUMENTS = "TUTORIAL SCRIPTS SERVE EMBEDDING CLUSTER CRASH MIGRATION PERFORMANCE".split()  # That are installed.
 BULLET = "\\(bu"
 NOTHING = "\\&"
 WIDEST = 71  # Columns of a line that stands as it is, on a page of 80.
@@ -233,15 +234,26 @@ def of_markdown(text):
 
 def page_of_format():
     title, text = (TOP / "docs" / "FORMAT.md").read_text().split("\n", 1)
+    text = re.sub(r"`(crates/\w+/specs[\w/.]*)`", r"`\1` of the sources", text)
     lines = heading("imem-image", "5", "the file in which imem and luntrebis keep a memory")
     others = [("imem", "1"), ("imem-inspect", "1"), ("luntrebis", "3")]
     return finished([*lines, ".SH DESCRIPTION", *of_markdown(text), *see_also(others)])
 
 
-def pages(imem):
-    """Returns each page: its path and its text."""
-    of_library = {"man/man3/luntrebis.3": page_of_headers(), "man/man5/imem-image.5": page_of_format()}
-    return {**dict(pages_of_help(imem)), **of_library}
+def placed(text, doc):
+    """Returns a page that names its documents where they are installed."""
+    return re.sub(rf"\bdocs/({'|'.join(DOCUMENTS)})\.md", rf"{doc}/docs/\1.md", text)
+
+
+def pages(imem, has_library=True, doc="docs"):
+    """Returns each page of what there is, its path and its text: of the program, if `imem` isn't None, of the library, and
+    of the image."""
+    made = {"man/man5/imem-image.5": page_of_format()}
+    if imem:
+        made.update(pages_of_help(imem))
+    if has_library:
+        made["man/man3/luntrebis.3"] = page_of_headers()
+    return {path: placed(text, doc) for path, text in made.items()}
 
 
 # ---- Completions

@@ -4,7 +4,7 @@ takes eight counters at once, adds one to each as it comes, and puts them back.
 usage: async_histogram.py KILLS SEED IMEM IMAGE      IMAGE is new, or left by a run that was killed
 
 The program keeps nothing but the image: an element's number tells which round comes next. The status is 0 where each
-count comes out exact.
+count comes out exact. It needs the package luntrebis, as `async_client.py` does.
 """
 import asyncio
 import random
@@ -12,7 +12,7 @@ import sys
 import time
 from collections import Counter
 
-from async_client import Element, Memory
+import luntrebis.aio
 
 COUNTERS, ELEMENTS, WORDS = 24, 6, 8
 
@@ -22,53 +22,58 @@ def words(element, at):
     return sorted((element + 7 * at + 11 * it) % COUNTERS for it in range(WORDS))
 
 
-class Killed(Memory):
-    """A memory whose program is killed so many times, at a random moment of its opening or of its work."""
+class Killer:
+    """Kills the program so many times, each at a random moment of its opening or of its work."""
 
-    left, opening = 0, 0.0
+    def __init__(self, image, kills, opening):
+        self.image, self.left, self.opening = image, kills, opening
 
-    async def start(self):
-        await super().start()
-        self.wait()
-
-    def wait(self):
-        if self.left:
-            asyncio.get_running_loop().call_later(random.uniform(0.0001, 4 * self.opening), self.kill, self.program)
-
-    def kill(self, program):
-        if program.returncode is None and self.left:
-            self.left -= 1
-            program.kill()
+    async def kill(self):
+        while self.left:
+            program = self.image.dialogue.program
+            await asyncio.sleep(random.uniform(0.0001, 4 * self.opening))
+            if program is self.image.dialogue.program and program.returncode is None:
+                self.left -= 1
+                program.kill()
 
 
-async def count(element, base, goes_on):
+async def rounds_of(image, element):
+    """How many rounds an element has confirmed."""
+    return (await image.window(element)).base // (2 * WORDS)
+
+
+async def count(image, number, base, goes_on):
     """Counts in rounds of takes and puts, which are confirmed together, along with the next round's requests."""
+    element, at = image.element(number), await rounds_of(image, number)
     while goes_on():
-        places = [base + it for it in words(element.element, element.number // (2 * WORDS))]
-        takes = [element.request(f"take {at}") for at in places]
-        puts = [element.request(f"put {at} {int((await take)[1]) + 1}") for at, take in zip(places, takes)]
+        places = [base + it for it in words(number, at)]
+        takes = [element.take(place) for place in places]
+        puts = [element.put(place, await take + 1) for place, take in zip(places, takes)]
         await asyncio.gather(*puts)
-        element.confirm()
-    await element.confirm()
+        element.done()
+        at += 1
+    await element.done()
+    return at
 
 
-async def main(kills, seed, imem, image):
+async def main(kills, seed, imem, path):
     random.seed(int(seed))
     start = time.time()
-    async with Killed([imem, "serve", image, "--watch"]) as memory:
-        maker = await Element.at_its_window(memory, 0)  # It confirms nothing, so its requests are the same each time.
-        memory.opening, memory.left = time.time() - start, int(kills)
-        memory.wait()
-        base = int((await maker.request(f"alloc m {COUNTERS}"))[1])
-        await asyncio.gather(*[maker.request(f"put {base + at} 0") for at in range(COUNTERS)])
-        elements = [await Element.at_its_window(memory, 1 + at) for at in range(ELEMENTS)]
-        await asyncio.gather(*[count(it, base, lambda: memory.left) for it in elements])
-        rounds = [(it.element, at) for it in elements for at in range(it.number // (2 * WORDS))]
-        counts = Counter(word for element, at in rounds for word in words(element, at))
-        kept = [int((await maker.request(f"take {base + at}"))[1]) for at in range(COUNTERS)]
+    async with await luntrebis.aio.serve(path, imem) as image:
+        killer = Killer(image, int(kills), time.time() - start)
+        killing = asyncio.create_task(killer.kill())
+        maker = image.element(0)  # It calls no `done`, so its requests are the same each time.
+        base = await maker.alloc_m(COUNTERS)
+        await asyncio.gather(*[maker.put(base + at, 0) for at in range(COUNTERS)])
+        elements = range(1, 1 + ELEMENTS)
+        rounds = await asyncio.gather(*[count(image, it, base, lambda: killer.left) for it in elements])
+        await killing
+        counts = Counter(word for it, made in zip(elements, rounds) for at in range(made) for word in words(it, at))
+        kept = [await maker.take(base + at) for at in range(COUNTERS)]
+        lines, again = image.dialogue.asked, image.dialogue.asked_again
     losses = sum(abs(kept[at] - counts[at]) for at in range(COUNTERS))
-    made = int(kills) - memory.left
-    print(f"kills {made} rounds {len(rounds)} lines {memory.asked} again {memory.again} losses {losses}")
+    made = int(kills) - killer.left
+    print(f"kills {made} rounds {sum(rounds)} lines {lines} again {again} losses {losses}")
     return 0 if losses == 0 else 1
 
 

@@ -55,7 +55,7 @@ class Dialogue:
         self.sent: collections.deque[Line] = collections.deque()
         self.waiting: dict[str, list[Line]] = {}
         self.said: collections.deque[str] = collections.deque(maxlen=5)  # The last lines of standard error.
-        self.refused, self.failures, self.starts, self.asked_again = "", 0, 0, 0
+        self.refused, self.failures, self.starts, self.asked, self.asked_again = "", 0, 0, 0, 0
         self.unwritten: list[Line] = []
         self.fault: Optional[BaseException] = None
 
@@ -79,6 +79,7 @@ class Dialogue:
         if self.is_closed or self.fault:
             future.set_exception(ValueError("closed") if self.is_closed or not self.fault else self.fault)
             return future
+        self.asked += 1
         line = Line(text, future, waits)
         self.under_way[line] = None
         if not self.unwritten:

@@ -1,0 +1,34 @@
+"""Five threads add to one counter, from Python. The program may be killed at any moment, and is simply run again.
+
+usage: restarted.py IMAGE [UNITS]      It makes the image where there is none. Each thread adds 1 to the counter UNITS
+times (20), whatever was killed in between; a unit is a take, a put, and `done`.
+"""
+import sys
+from concurrent.futures import ThreadPoolExecutor
+
+import luntrebis
+
+THREADS = 5
+
+
+def add(image, number, counter, units):
+    """Adds 1 until this element has done all its units: each made two requests, and was confirmed."""
+    one = image.element(number)
+    first = image.call(lambda it: it.window(number).base).result() // 2
+    for _ in range(first, units):
+        value = one.take(counter).result()
+        one.put(counter, value + 1).result()
+        one.done()
+
+
+def main(path, units="20"):
+    with luntrebis.Shared.open_or_create(path, cells=16, elements=1 + THREADS, slots=64) as image:
+        maker = image.element(0)  # It calls no `done`, so it asks for the same block in each run.
+        counter = maker.alloc_m(1).result()
+        maker.put(counter, 0).result()
+        with ThreadPoolExecutor(THREADS) as pool:
+            list(pool.map(lambda number: add(image, number, counter, int(units)), range(1, 1 + THREADS)))
+        print("counted", maker.take(counter).result())
+
+
+main(*sys.argv[1:])
