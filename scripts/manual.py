@@ -29,8 +29,10 @@ class Help:
         self.usage = re.search(r"^Usage: (.*)$", text, re.M)[1]
         self.about = text.split("\n\n")[0].strip()
         self.arguments = re.findall(r"^  <(\w+)> +(.*)$", self.part(text, "Arguments"), re.M)
-        option = r"^ +(?:-\w, )?(--[\w-]+)(?: <(\w+)>)? +(.*)$"
-        self.options = re.findall(option, self.part(text, "Options"), re.M)
+        option = r"^ +(?:(-\w), )?(--[\w-]+)(?: <([\w-]+)>)? +(.*)$"
+        rows = re.findall(option, self.part(text, "Options"), re.M)
+        self.options = [row[1:] for row in rows]  # Of each its name, its value's, and its text.
+        self.letters = {name: letter for letter, name, _, _ in rows if letter}
         self.subcommands = re.findall(r"^  (\w+) +(.*)$", self.part(text, "Commands"), re.M)
         last = list(re.finditer(r"^Options:\n(?:  .*\n)+\n?", text, re.M))[-1]
         self.more = text[last.end() :].strip("\n")
@@ -135,7 +137,8 @@ def page_of_help(name, it, others):
         lines += [".SH ARGUMENTS", *listed(it.arguments)]
     if it.subcommands:
         lines += [".SH COMMANDS", *listed([row for row in it.subcommands if row[0] != "help"])]
-    lines += [".SH OPTIONS", *listed([(f"{option} {value}".strip(), text) for option, value, text in it.options])]
+    named = [(", ".join(filter(None, [it.letters.get(row[0]), row[0]])), *row[1:]) for row in it.options]
+    lines += [".SH OPTIONS", *listed([(f"{option} {value}".strip(), text) for option, value, text in named])]
     return finished([*lines, *paragraphs[first:], *see_also(others)])
 
 
@@ -259,29 +262,41 @@ def pages(imem, has_library=True, doc="docs"):
 # ---- Completions
 
 
-def bash(below):
+def bash(top, below):
     rows = ""
     for name, it in below.items():
-        options = " ".join(option for option, _, _ in it.options)
-        values = " ".join(option for option, value, _ in it.options if value)
-        rows += f"        {name}) words='{options}' values='{values}' ;;\n"
-    return packaging.filled("imem.bash", SUBCOMMANDS=" ".join(below), ROWS=rows.rstrip("\n"))
+        options = " ".join([*(option for option, _, _ in it.options), *it.letters.values()])
+        kinds = {"values": lambda value: value, "files": lambda value: value == "FILE", "folders": lambda value: value == "FOLDER"}
+        told = {kind: " ".join(option for option, value, _ in it.options if has(value)) for kind, has in kinds.items()}
+        said = " ".join(f"{kind}='{names}'" for kind, names in told.items() if names)
+        rows += f"        {name}) words='{options}' {said} ;;\n"
+    first = " ".join([*below, "help", *(option for option, _, _ in top.options), *top.letters.values()])
+    return packaging.filled("imem.bash", SUBCOMMANDS=" ".join(below), FIRST=first, ROWS=rows.rstrip("\n"))
 
 
 def quoted(text):
     return text.replace("'", "'\\''").replace("[", "\\[").replace("]", "\\]").replace(":", "\\:")
 
 
-def zsh(about, below):
-    names = "\n".join(f"        '{name}:{quoted(text)}'" for name, text in about if name in below)
+def zsh_option(it, option, value, text):
+    """Returns an option as `_arguments` takes it, with its letter if it has one, and with what completes its value."""
+    completes = {"FILE": "_files", "FOLDER": "_files -/"}.get(value, "")
+    letter = it.letters.get(option)
+    names = f"'({letter} {option})'{{{letter},{option}}}'" if letter else f"'{option}"
+    return f"{names}[{quoted(text)}]" + (f":{value}:{completes}'" if value else "'")
+
+
+def zsh(top, below):
+    names = "\n".join(f"        '{name}:{quoted(text)}'" for name, text in top.subcommands if name in below)
     rows = []
     for name, it in below.items():
-        words = [f"'{option}[{quoted(text)}]" + (f":{value}:'" if value else "'") for option, value, text in it.options]
+        words = [zsh_option(it, *row) for row in it.options]
         words += [f"'{at}:{quoted(text)}:_files'" for at, (_, text) in enumerate(it.arguments, 1)]
         rows.append(f"        {name}) _arguments \\\n" + " \\\n".join(f"            {it}" for it in words) + " ;;")
-    return packaging.filled("imem.zsh", SUBCOMMANDS=names, ROWS="\n".join(rows))
+    first = " ".join(zsh_option(top, *row) for row in top.options)
+    return packaging.filled("imem.zsh", SUBCOMMANDS=names, FIRST=first, ROWS="\n".join(rows))
 
 
 def completions(imem):
     top, below = read_help(imem)
-    return {"bash-completion/completions/imem": bash(below), "zsh/site-functions/_imem": zsh(top.subcommands, below)}
+    return {"bash-completion/completions/imem": bash(top, below), "zsh/site-functions/_imem": zsh(top, below)}

@@ -27,13 +27,16 @@ async def add(image, number, counter, units):
 
 
 async def main(path, units="20", imem=None):
-    sizes = {"cells": 16, "elements": 1 + TASKS, "slots": 64}
+    sizes = {"cells": 16, "elements": 2 + TASKS, "slots": 64}
     async with await luntrebis.aio.serve(path, imem, **sizes) as image:
-        maker = image.element(0)  # It calls no `done`, so it asks for the same block in each run.
-        counter = await maker.alloc_m(1)
+        maker, reader = image.element(0), image.element(1 + TASKS)
+        counter = await maker.alloc_m(1)  # The same block in each run, as maker calls no `done`.
         await maker.put(counter, 0)
         await asyncio.gather(*[add(image, 1 + at, counter, int(units)) for at in range(TASKS)])
-        print("counted", await maker.take(counter))
+        count = await reader.take(counter)
+        await reader.put(counter, count)
+        await reader.done()
+        print("counted", count)
 
 
 asyncio.run(main(*sys.argv[1:]))

@@ -22,13 +22,16 @@ def add(image, number, counter, units):
 
 
 def main(path, units="20"):
-    with luntrebis.Shared.open_or_create(path, cells=16, elements=1 + THREADS, slots=64) as image:
-        maker = image.element(0)  # It calls no `done`, so it asks for the same block in each run.
-        counter = maker.alloc_m(1).result()
+    with luntrebis.Shared.open_or_create(path, cells=16, elements=2 + THREADS, slots=64) as image:
+        maker, reader = image.element(0), image.element(1 + THREADS)
+        counter = maker.alloc_m(1).result()  # The same block in each run, as maker calls no `done`.
         maker.put(counter, 0).result()
         with ThreadPoolExecutor(THREADS) as pool:
             list(pool.map(lambda number: add(image, number, counter, int(units)), range(1, 1 + THREADS)))
-        print("counted", maker.take(counter).result())
+        count = reader.take(counter).result()
+        reader.put(counter, count).result()
+        reader.done().result()
+        print("counted", count)
 
 
 main(*sys.argv[1:])

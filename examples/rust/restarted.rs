@@ -24,9 +24,9 @@ fn main() -> Result<()> {
     let mut words = std::env::args().skip(1);
     let path = words.next().expect("usage: restarted IMAGE [UNITS]");
     let units = words.next().map_or(20, |it| it.parse().expect("a number of units"));
-    let image = Shared::open_or_create(path, Limits { cells: 16, elements: 1 + THREADS, slots: 64 })?;
-    let maker = image.element(0); // It calls no `done`, so it asks for the same block in each run.
-    let counter = maker.alloc_m(1).wait()? as u32;
+    let image = Shared::open_or_create(path, Limits { cells: 16, elements: 2 + THREADS, slots: 64 })?;
+    let (maker, reader) = (image.element(0), image.element(1 + THREADS));
+    let counter = maker.alloc_m(1).wait()? as u32; // The same block in each run, as maker calls no `done`.
     maker.put(counter, 0).wait()?;
     let image = &image;
     thread::scope(|scope| {
@@ -34,6 +34,9 @@ fn main() -> Result<()> {
             (1..=THREADS).map(|number| scope.spawn(move || add(image, number, counter, units))).collect();
         threads.into_iter().try_for_each(|it| it.join().expect("a thread that adds"))
     })?;
-    println!("counted {}", maker.take(counter).wait()?);
+    let count = reader.take(counter).wait()?;
+    reader.put(counter, count).wait()?;
+    reader.done().wait()?;
+    println!("counted {count}");
     Ok(())
 }

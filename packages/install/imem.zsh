@@ -7,7 +7,7 @@ _imem() {
     )
     if (( CURRENT == 2 )); then
         _describe command subcommands
-        _arguments '--help[Print help]' '--version[Print version]'
+        _arguments @FIRST@
         return
     fi
     local subcommand=$words[2]
