@@ -55,14 +55,15 @@ def edits_of(crate, top=sources.TOP):
 
 
 def rewritten(folder, pairs):
-    """Returns the texts of a crate's files with these replacements made in turn, and the first text that doesn't stand
-    there once, or None."""
+    """Returns the texts of a folder's files with these replacements made in turn, and the first text that doesn't stand in
+    its file once, or None."""
     texts = {}
     for file, old, new in pairs:
-        text = texts.get(file) or (folder / file).read_text()
-        if text.count(old) != 1:
-            return texts, old
-        texts[file] = text.replace(old, new)
+        if file not in texts:
+            texts[file] = (folder / file).read_text() if (folder / file).is_file() else ""
+        if texts[file].count(old) != 1:
+            return texts, f"{file} has not once: {old[:60]}"
+        texts[file] = texts[file].replace(old, new)
     return texts, None
 
 
@@ -241,28 +242,22 @@ class Known:
         if not (edit.breaks and edit.case and edit.wrong and edit.twin and all(len(it) == 2 for it in edit.breaks)):
             yield "it has to have lines breaks:, case:, file:, old:, new:, twin-old:, twin-new:"
             return
-        gone = [*misplaced(self.top / "crates" / crate, edit.wrong), *misplaced(self.top / "crates" / crate, edit.twin)]
-        yield from gone
-        if why := next(filter(None, (self.why_not(crate, *it) for it in edit.breaks)), None):
+        why = next(filter(None, (self.why_not(crate, *it) for it in edit.breaks)), None)
+        if why:
             yield why
-        for pairs in (edit.wrong, edit.twin) if not gone and not why else ():
-            if other := self.elsewhere(crate, edit, pairs):
+        for pairs in (edit.wrong, edit.twin):
+            if lost := rewritten(self.top / "crates" / crate, pairs)[1]:
+                yield lost
+            elif not why and (other := self.elsewhere(crate, edit, pairs)):
                 yield f"changes {other.path()}, and breaks {edit.breaks[0][0]}"
-
-
-def misplaced(folder, pairs):
-    """Yields the texts that aren't in their files exactly once."""
-    for file, old, _ in pairs:
-        found = (folder / file).read_text().count(old) if (folder / file).is_file() else 0
-        if found != 1:
-            yield f"stands {found} times in {file}: {old[:60]}"
 
 
 def faults(top=sources.TOP):
     """Yields what is wrong with the edits of the crates, and with those of scripts/threads."""
     known, gate = Known(top), len([*top.glob("crates/*/must-fail/*.edit")])
     for path in sorted((top / "scripts" / "threads").rglob("*.edit")):
-        yield from (f"{path.relative_to(top)}: {it}" for it in misplaced(top, read(path).wrong))
+        if lost := rewritten(top, read(path).wrong)[1]:
+            yield f"{path.relative_to(top)}: {lost}"
     for crate in known.by_crate:
         for edit in edits_of(crate, top).values():
             yield from (f"{edit.path.relative_to(top)}: {it}" for it in known.faults(crate, edit))

@@ -179,7 +179,7 @@ class Edits(WithSources):
         self.assertEqual(look(["Arena::list_count"], [body]), [])
         self.assertEqual(look(["Arena::list_count"], [body], "self.free_count() == 1"), ["changes im_arena::Arena::is_full, and breaks Arena::list_count"])
         self.assertEqual(look(["Arena::node_count"], [body])[0], "changes im_arena::Arena::list_count, and breaks Arena::node_count")
-        self.assertEqual(look(["Arena::list_count"], [("src/lib.rt", "pub fn")])[0], "stands 3 times in src/lib.rt: pub fn")
+        self.assertEqual(look(["Arena::list_count"], [("src/lib.rt", "pub fn")])[0], "src/lib.rt has not once: pub fn")
         self.assertEqual(look(["Arena::no_count"], [body]), ["there is no function Arena::no_count"])
         self.assertEqual(look([], [other]), ["it has to have lines breaks:, case:, file:, old:, new:, twin-old:, twin-new:"])
 
