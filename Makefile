@@ -13,7 +13,7 @@ check:
 test:
 	RT_JOBS=$${RT_JOBS:-$$(nproc)} rt ci
 
-# The proved program, as out/imem.
+# The proved program, as out/imem. What `make test` has proved on this machine isn't proved again, here and below.
 imem:
 	scripts/build-imem
 
