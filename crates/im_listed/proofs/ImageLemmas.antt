@@ -78,18 +78,23 @@ begun_with bytes d start e same account =
     same ∙ (λ i. told_number (lives i) (began i)) in
     account.ends ∙ ap (λ (b : Moment). carried b d.steps) (told_same d.failed false d.begun (given bytes) there)
 
--- what is read of bytes that are all on the disk is what they themselves are
+-- bytes that are all on the disk stay over an opening
+pub same_bytes : (bytes : List ℕ) (start d : Listing) → start.now ≡ synced (given bytes)
+    → Leaves start.now d.now start.past d.past (Left start.now) → d.now.bytes ≡ bytes
+same_bytes bytes start d is leaves =
+    let left : Left start.now d.now.bytes = ⊎_elim (λ p. p) (λ p. p)
+    (leaves_now start.now d.now start.past d.past (Left start.now) leaves d.now.bytes (left_now d.now)) in
+    left_synced (given bytes) d.now.bytes (subst (λ (m : Moment). Left m d.now.bytes) is left)
+
+-- what is read of them is what they themselves are
 pub own_fault : (bytes : List ℕ) (e : Refusal) (start d : Listing) → start.now ≡ synced (given bytes)
     → Leaves start.now d.now start.past d.past (Left start.now) → (e ≡ NoMemory) ⊎ (e ≡ Device)
     ⊎ (Unit {0} → LeavesNow d.now (IsFirstFault e)) → IsFaultOf bytes e
 own_fault bytes e start d is leaves why =
-    let left : Left start.now d.now.bytes = ⊎_elim (λ p. p) (λ p. p)
-    (leaves_now start.now d.now start.past d.past (Left start.now) leaves d.now.bytes (left_now d.now)) in
-    let same : d.now.bytes
-    ≡ bytes = left_synced (given bytes) d.now.bytes (subst (λ (m : Moment). Left m d.now.bytes) is left) in
     ⊎_elim (λ none. inl none)
     (λ other. inr (⊎_elim (λ failed. inl failed)
-    (λ found. inr (subst (IsFirstFault e) same (found tt d.now.bytes (left_now d.now)))) other)) why
+    (λ found. inr (subst (IsFirstFault e) (same_bytes bytes start d is leaves) (found tt d.now.bytes (left_now d.now))))
+    other)) why
 
 -- a disk over as many bytes as an image has hasn't the wrong length
 pub right_length : (bytes : List ℕ) (n : ℕ) (e : Refusal) (start : Listing) → start ≡ over bytes → length bytes ≡ n

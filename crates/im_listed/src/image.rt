@@ -1,23 +1,22 @@
 //! An image in the hands of a caller that carries out the writes and syncs.
-ghost use Rattle.std.specs.Prelude.{◌≡◌, true, false, [], map, replicate, Err, IfOk, IfErr};
+ghost use Rattle.std.specs.Prelude.{◌≡◌, ◌∷◌, true, false, [], map, replicate, Err, IfOk, IfErr};
 ghost use Rattle.im_types.specs.Contents.{empty_contents, kept_for, waiters_at};
 ghost use Rattle.im_types.specs.Layout.{image_length, layout_in_use, sizes_of};
 ghost use Rattle.im_types.specs.Window.{ask, bounds};
-ghost use Rattle.im_disk.specs.Moment.{synced};
 ghost use Rattle.im_disk.specs.Since.{LeavesNow};
 ghost use Rattle.im_checkpoint.specs.Step.{NoCheckpoint};
 ghost use Rattle.im_engine.specs.State.{MeansState, MeansEither, IsFound};
 ghost use Rattle.im_engine.specs.Run.{Answered, SweepAnswered, TurnAnswered};
-ghost use Rattle.im_listed.specs.Listing.{Accounts, task_of, carried};
+ghost use Rattle.im_listed.specs.Listing.{Accounts, Settles, task_of, carried};
 ghost use Rattle.im_listed.specs.History.{given};
 ghost use Rattle.im_listed.specs.Image.{ImageState, Carries, IsFaultOf, IsWant, begun_in, steps_of, tells_device};
 ghost use Rattle.im_listed.specs.Image.{ServesFirst};
 
 use crate::listed::Listed;
+use crate::settling::{is_one_sync, settled};
 use crate::step::Step;
 use arrayvec::ArrayVec;
 use im_checkpoint::TurnDone;
-use im_disk::{DeviceFault, Disk};
 use im_engine::Engine;
 use im_memory::Waiters;
 use im_types::layout::image_length;
@@ -63,16 +62,6 @@ fn known(engine: &Engine<Listed>) -> bool
     engine.failed()
 }
 
-// A disk over these bytes. After its one step, all of them are on the caller's disk.
-fn settled(bytes: Vec<u8>) -> Result<Listed, DeviceFault>
-    ensures now { IfOk result (λ d. d.now ≡ synced (given bytes.items)) }
-    ensures begun { IfOk result (λ d. (d.failed ≡ false) × (d.begun ≡ given bytes.items)) }
-{
-    let mut disk = Listed::new(bytes);
-    disk.sync()?;
-    Ok(disk)
-}
-
 impl Image {
     /// Makes the image of an empty memory. The caller's file has the image's length, and each of its bytes is in doubt.
     ///
@@ -103,8 +92,13 @@ impl Image {
 
     /// Opens the image of these bytes. They are the bytes of the caller's file, each of them in doubt.
     ///
+    /// The one step is a sync: no byte of the file changes, and a crash on the way leaves what it could have left
+    /// before.
+    ///
     /// Refuses with the bytes' first fault, as [`Engine::open`], `NoMemory`, or `Device` if the list couldn't grow.
     pub fn open(alloc: Global, bytes: Vec<u8>) -> Result<Image, Refusal>
+        ensures kept { IfOk result (λ i. i.engine.disk.now.bytes ≡ bytes.items) }
+        ensures reads { IfOk result (λ i. steps_of i ≡ Settles ∷ []) }
         ensures carried { IfOk result (λ i. i.engine.disk.now ≡ carried (given bytes.items) (steps_of i)) }
         ensures found { IfOk result (λ i. LeavesNow i.engine.disk.now (IsFound i.engine)) }
         ensures means { IfOk result (λ i. LeavesNow i.engine.disk.now (MeansState i.engine)) }
@@ -119,6 +113,9 @@ impl Image {
         match Engine::open(alloc, disk) {
             Ok(engine) => {
                 let _ = known(&engine);
+                if !is_one_sync(engine.disk().steps()) {
+                    return Err(Refusal::Device); // It always is: an opening writes nothing.
+                }
                 Ok(Image {
                     engine,
                     lost: false,

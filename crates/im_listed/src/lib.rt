@@ -5,6 +5,7 @@
 mod account;
 mod image;
 mod listed;
+mod settling;
 mod step;
 
 pub use image::Image;

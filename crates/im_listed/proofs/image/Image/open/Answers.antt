@@ -1,5 +1,10 @@
-use Rattle.im_listed.proofs.ImageLemmas.{begun_with, own_fault}
+use Rattle.im_listed.proofs.ImageLemmas.{begun_with, own_fault, same_bytes}
 use Rattle.im_listed.proofs.image.Image.open.Goals as goal
+
+pub returns-in-Ok-open-clause-kept : goal.returns-in-Ok-open-clause-kept
+returns-in-Ok-open-clause-kept c =
+    same_bytes c.args.bytes.items c.in-Ok.disk c.in-Ok-open.engine.disk c.in-Ok.ensures.now
+    (c.in-Ok-open.ensures.leaves tt)
 
 pub returns-in-Ok-open-clause-carried : goal.returns-in-Ok-open-clause-carried
 returns-in-Ok-open-clause-carried c =
