@@ -11,6 +11,7 @@ check:
 # The gate: every proof from nothing, the wrong bodies that the prover must refuse, and the tests. Each proof has one
 # processor: with two it takes a third more of them.
 test:
+	@command -v rt > /dev/null || { echo "this needs the toolchain's command \`rt\`, which isn't on the PATH (README.md, The toolchain)"; exit 1; }
 	RT_JOBS=$${RT_JOBS:-$$(nproc)} rt ci
 
 # The proved program, as out/imem. What `make test` has proved on this machine isn't proved again, here and below.
