@@ -1,5 +1,6 @@
 #include "luntrebis.h"
 
+#include <ctype.h>
 #include <inttypes.h>
 #include <stdio.h>
 
@@ -38,6 +39,7 @@ size_t lt_tell(const struct lt_command *command, const struct lt_outcome *outcom
         return (size_t)snprintf(buffer, room, "%s: refused %d %s", asked, outcome->refusal, name);
     }
     lt_answer_name(outcome->tag, name, sizeof name - 1);
+    for (char *letter = name; *letter; letter++) *letter = (char)tolower((unsigned char)*letter);
     if (outcome->tag == LT_VALUE || outcome->tag == LT_BASE)
         return (size_t)snprintf(buffer, room, "%s: %s %" PRIu64, asked, name, outcome->value);
     return (size_t)snprintf(buffer, room, "%s: %s", asked, name);
