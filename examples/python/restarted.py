@@ -14,8 +14,7 @@ THREADS = 5
 def add(image, number, counter, units):
     """Adds 1 until this element has done all its units: each made two requests, and was confirmed."""
     one = image.element(number)
-    first = image.call(lambda it: it.window(number).base).result() // 2
-    for _ in range(first, units):
+    for _ in range(image.window(number).base // 2, units):
         value = one.take(counter).result()
         one.put(counter, value + 1).result()
         one.done()

@@ -11,8 +11,7 @@ const THREADS: u16 = 5;
 /// Adds 1 until this element has done all its units: each made two requests, and was confirmed.
 fn add(image: &Shared, number: u16, counter: u32, units: u64) -> Result<()> {
     let one = image.element(number);
-    let first = image.call(move |it| it.window(number))??.start / 2;
-    for _ in first..units {
+    for _ in image.window(number)?.start / 2..units {
         let value = one.take(counter).wait()?;
         one.put(counter, value + 1).wait()?;
         drop(one.done()); // Nobody has to wait for it.

@@ -3,13 +3,14 @@ from __future__ import annotations
 
 import asyncio
 import collections
+import errno
 import os
 import pathlib
 import shutil
 from typing import Awaitable, Callable, Optional, Union
 
 from ._requests import FULL, KEPT, Requests, give
-from ._words import Answer, NoElement, Reply, Request, Tag, Window, WindowFull, refusal, spelled
+from ._words import Answer, NoElement, Reply, Request, SyncFailed, Tag, Window, WindowFull, refusal, spelled
 
 Path = Union[str, "os.PathLike[str]"]
 ANSWERS = {it.name.lower().replace("_", ""): it for it in Answer}
@@ -18,6 +19,7 @@ NONE = (
     "there is no imem: `make try` builds one with no proof in two or three minutes, and `make imem` a proved one; then "
     "install this package again, put the program on the PATH, or name it"
 )
+HOPELESS = (2, 4, 5)  # Another start doesn't help: a bad call, a file in use for long, no good image.
 TRIES, PAUSE = 10, 1.0  # How often a program that ends by itself is started again with no answer between, and when.
 
 
@@ -98,6 +100,7 @@ class Dialogue:
         pipe = asyncio.subprocess.PIPE
         self.program = await asyncio.create_subprocess_exec(*self.words, stdin=pipe, stdout=pipe, stderr=pipe)
         self.sent, self.waiting, self.refused = collections.deque(), {}, ""
+        self.said.clear()
         self.asked_again += len(self.under_way) if self.starts else 0
         self.starts += 1
         self.unwritten = list(self.under_way)
@@ -119,7 +122,7 @@ class Dialogue:
             self.failures += status >= 0
             if self.is_closed:
                 return
-            if status in (2, 5) or self.failures > TRIES:
+            if status in HOPELESS or self.failures > TRIES or "unsynced" in "".join(self.said):
                 self._fail(self._why(status))
                 return
             await asyncio.sleep(PAUSE if status >= 0 else 0)
@@ -130,6 +133,10 @@ class Dialogue:
         words = self.refused.split()
         if words and words[0] != "8":
             return refusal(int(words[0]), "", said)
+        if status == 4:
+            return BlockingIOError(errno.EWOULDBLOCK, said)
+        if "unsynced" in said:
+            return SyncFailed(0, said)
         return OSError(f"imem ended with status {status}: {said or self.refused or 'it said nothing'}")
 
     def _fail(self, fault: BaseException) -> None:

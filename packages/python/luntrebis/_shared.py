@@ -167,6 +167,10 @@ class Shared:
         self._send(Called(call, future))
         return future
 
+    def window(self, element: int) -> Window:
+        """Returns the window of an element: which of its numbers are kept."""
+        return self.call(lambda image: image.window(element)).result()
+
     def element(self, number: int) -> SharedElement:
         """Returns the element, whose requests are numbered here from the first that isn't confirmed on: a program that
         was killed makes them again and goes on where it was. It is the same at each call."""

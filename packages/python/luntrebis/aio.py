@@ -24,7 +24,7 @@ from typing import Awaitable
 from ._dialogue import Path, Served, begin
 from ._requests import Requests
 from ._shared import Shared, SharedElement, SharedElementAnew
-from ._words import Reply, Request, Tag
+from ._words import Reply, Request, Tag, Window
 
 
 class ElementAnew(Requests["Awaitable[int]"]):
@@ -75,6 +75,10 @@ class Image:
     def confirm(self, element: int, upto: int) -> Awaitable[Reply]:
         """Drops the entries of the element below the number. It is sent at this call, and nobody has to await it."""
         return self.ask(Request(Tag.CONFIRM, element, upto))
+
+    async def window(self, element: int) -> Window:
+        """Returns the window of an element: which of its numbers are kept."""
+        return await asyncio.wrap_future(self.shared.call(lambda image: image.window(element)))
 
     def element(self, number: int) -> Element:
         """Returns the element, whose requests are numbered here from the first that isn't confirmed on: a program that

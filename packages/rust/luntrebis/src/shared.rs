@@ -5,6 +5,7 @@ use crate::owner::{Message, Owner};
 use crate::words::{confirmation, Error, Op, Reply, Request, Result};
 use std::collections::HashMap;
 use std::future::Future;
+use std::ops::Range;
 use std::path::Path;
 use std::pin::Pin;
 use std::sync::mpsc::{channel, Sender};
@@ -100,6 +101,11 @@ impl Shared {
         });
         let _sent = lock(&self.inner.asked).send(Message::Call(call));
         told.recv().map_err(|_| Error::Closed)
+    }
+
+    /// Returns the numbers of an element that are kept. The range's end is the number of its next new request.
+    pub fn window(&self, element: u16) -> Result<Range<u64>> {
+        self.call(move |image| image.window(element))?
     }
 
     /// Returns the element, whose requests are numbered here from the first that isn't confirmed on: a program that was
