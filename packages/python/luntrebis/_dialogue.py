@@ -28,8 +28,8 @@ def find_program(imem: Optional[Path] = None) -> str:
     or that in out/ of this checkout."""
     below = [it / "out" / name for it in HERE.parents[3:4] for name in ("imem", "imem-unproved")]
     named = imem or os.environ.get("LUNTREBIS_IMEM")
-    there = [HERE.with_name("imem"), *filter(None, [shutil.which("imem")]), *below]
-    found = [str(it) for it in there if os.access(it, os.X_OK)]
+    there = [str(HERE.with_name("imem")), shutil.which("imem") or "", *map(str, below)]
+    found = [it for it in there if it and os.access(it, os.X_OK)]
     if not named and not found:
         raise FileNotFoundError(NONE)
     return os.fspath(named) if named else found[0]

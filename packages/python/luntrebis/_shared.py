@@ -362,7 +362,7 @@ class Owner:
             self.tell_lost()
             return
         left = list(zip(group.asked, group.commands))[len(replies) :]
-        self.ready.extendleft(again(*it) for it in reversed(left) if it[0])
+        self.ready.extendleft(again(asked, command) for asked, command in reversed(left) if asked)
         for asked, command, reply in zip(group.asked, group.commands, replies):
             if asked:
                 self.tell(asked, command, reply)
