@@ -1,0 +1,4 @@
+pub mod RowLemmas
+pub mod TailLemmas
+pub mod MeaningLemmas
+mod Counterexamples
