@@ -1,6 +1,6 @@
 //! The handle of an image for C, and how it is made, opened and closed. C reads the file, and carries out the writes
 //! and syncs.
-ghost use Rattle.std.specs.Prelude.{◌≡◌, ◌≢◌, ◌⊎◌, false};
+ghost use Rattle.std.specs.Prelude.{◌≡◌, ◌≢◌, ◌⊎◌, ◌∷◌, [], false};
 ghost use Rattle.std.specs.Prelude.{Ok, Some, Err, IsSome, IfSome, IfOk, IfErr};
 ghost use Rattle.std.specs.declared.option.Option.{Option};
 ghost use Rattle.im_types.specs.Contents.{empty_contents};
@@ -10,7 +10,7 @@ ghost use Rattle.im_types.specs.Sizes.{AreLimits};
 ghost use Rattle.im_disk.specs.Since.{LeavesNow};
 ghost use Rattle.im_engine.specs.State.{MeansState, IsFound};
 ghost use Rattle.im_listed.specs.Image.{ImageState, IsFaultOf, IsWant, steps_of};
-ghost use Rattle.im_listed.specs.Listing.{carried};
+ghost use Rattle.im_listed.specs.Listing.{Settles, carried};
 ghost use Rattle.im_listed.specs.History.{given};
 ghost use Rattle.im_c.specs.Held.{holds_image};
 ghost use Rattle.im_c.specs.Telling.{TellsFault};
@@ -106,6 +106,8 @@ fn formatted(alloc: Global, limits: Limits) -> Result<Box<Image>, Refusal>
 
 // The image of these bytes in a block of its own.
 fn opened(alloc: Global, bytes: &[u8]) -> Result<Box<Image>, Refusal>
+    ensures kept { IfOk result (λ b. b.value.engine.disk.now.bytes ≡ bytes.now) }
+    ensures reads { IfOk result (λ b. steps_of b.value ≡ Settles ∷ []) }
     ensures carried { IfOk result (λ b. b.value.engine.disk.now ≡ carried (given bytes.now) (steps_of b.value)) }
     ensures found { IfOk result (λ b. LeavesNow b.value.engine.disk.now (IsFound b.value.engine)) }
     ensures means { IfOk result (λ b. LeavesNow b.value.engine.disk.now (MeansState b.value.engine)) }
@@ -169,12 +171,15 @@ pub extern "C" fn lt_image_length(cells: u32, elements: u16, slots: u32) -> u64
     }
 }
 
-/// Opens the image in these bytes, which are those of the caller's file. Returns 0, and `next` holds the image. Else
+/// Opens the image in these bytes, which are those of the caller's file. Returns 0, and `next` holds the image. The one
+/// step is a sync: no byte of the file changes, and a crash on the way leaves what it could have left before. Else
 /// returns the number of the refusal, and `next` is as it was: the first fault of the bytes, which may be `OldVersion`,
 /// `NoMemory`, or `Device` if the list of steps couldn't grow.
 #[unsafe(no_mangle)]
 pub extern "C" fn lt_open(alloc: Global, bytes: &[u8], next: &mut LtImage) -> u8
     ensures some { result ≡ 0 → IsSome next.new.value }
+    ensures kept { result ≡ 0 → IfSome next.new.value (λ i. i.engine.disk.now.bytes ≡ bytes.now) }
+    ensures reads { result ≡ 0 → IfSome next.new.value (λ i. steps_of i ≡ Settles ∷ []) }
     ensures carried { result ≡ 0
         → IfSome next.new.value (λ i. i.engine.disk.now ≡ carried (given bytes.now) (steps_of i)) }
     ensures found { result ≡ 0 → IfSome next.new.value (λ i. LeavesNow i.engine.disk.now (IsFound i.engine)) }
