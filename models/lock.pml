@@ -273,7 +273,7 @@ inline serve_member(m) {
    of im_controller::claim 2b1067bb12ec
    of im_controller::serve_asked 9d0732c5dba0
    of im_queue::Inbox::next_group 3fd542d6b6aa
-   of im_queue::Inbox::gather a3fa78f93397
+   of im_queue::Inbox::gather 6f9a915f7dc6
    of im_trace::Log::claim f63c5cb84308 */
 inline hold(e) {
   if :: unclaimed[e] != Nothing -> skip
@@ -297,7 +297,7 @@ inline who_is_answered() {
 }
 /* of im_controller::Port::submit 2de2e13636a4
    of im_controller::Controller::serve 2a5feda0c157
-   of im_queue::Inbox::ask 2cc8b463189f
+   of im_queue::Inbox::ask 43bcb047aa6e
    of im_controller::Controller::serve_all 473781457ac3 */
 inline submit(e, op) {
   d_step { asked[e] = op; got = Nothing };

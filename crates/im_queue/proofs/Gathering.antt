@@ -13,7 +13,7 @@ below_weaker e [] below = tt
 below_weaker e (r ∷ rs) below = (omega (arith, below.0), below_weaker e rs below.1)
 
 module _ (P : Command → Type 0) where
-  all_push : (rs : List Command) (r : Command) → AllByRecursion P rs → P r → AllByRecursion P (rs ++ r ∷ [])
+  pub all_push : (rs : List Command) (r : Command) → AllByRecursion P rs → P r → AllByRecursion P (rs ++ r ∷ [])
   all_push [] r all is = (is, tt)
   all_push (q ∷ rs) r all is = (all.0, all_push rs r all.1 is)
 

@@ -1,2 +1,3 @@
 pub mod StuckLemmas
 pub mod Gathering
+pub mod Taking

@@ -1,29 +1,36 @@
 //! Commands that ask to be served. Each element has a place, under a lock of its own for all places.
-ghost use Rattle.std.specs.Prelude.{◌≡◌, ◌≤◌, ◌<◌, ◌+◌, true, length, IfSome};
+ghost use Rattle.std.specs.Prelude.{◌≡◌, ◌≤◌, ◌<◌, ◌+◌, true, None, Some, length, slice_set, IfOk, IfSome};
 ghost use Rattle.im_types.specs.declared.TheConstants.{MAX_GROUP};
 ghost use Rattle.im_trace.specs.Log.{sender_of};
 ghost use Rattle.im_queue.specs.Members.{is_social, stored_at, are_apart_at, are_together, are_joined, MayJoin};
 ghost use Rattle.im_queue.specs.Members.{IsSure, IsSureBehind, AreSureBehind, AreOneOfEach, AreFreeFor, IsCut};
 ghost use Rattle.im_queue.specs.Members.{Gathers};
+ghost use Rattle.im_queue.specs.Places.{placed_at, AreTakenOut, AskNothing, IsAskedAt, TakesAt};
 
 use arrayvec::ArrayVec;
 use im_groups::accepts;
 use im_memory::Memory;
 use im_trace::{Log, Name, element_of};
-use im_types::{Command, MAX_GROUP, Op, Request};
+use im_types::{Command, MAX_GROUP, Op};
 use std::alloc::{AllocError, Global};
+use std::marker::Model;
 
-// What an element asks. The place says which element.
-#[derive(Clone, Copy)]
-enum ElementAsk {
-    Request { number: u64, op: Op },
-    Confirm { upto: u64 },
-}
-
-/// What the elements ask.
+/// What the elements ask. Contracts see a place for each element, and in it the command that it asks, if it asks one.
 #[derive(Drop)]
 pub struct Inbox {
-    places: Vec<Option<ElementAsk>>,
+    places: Vec<Option<Command>>,
+}
+
+impl Model for Inbox {
+    ghost use Rattle.std.specs.Prelude.{List, Option};
+    ghost use Rattle.im_types.specs.declared.commands.Command.{Command};
+    ghost use Rattle.im_queue.specs.Places.{AreInPlace};
+
+    ghost Value = { List (Option Command) };
+
+    ghost view = { λ i. i.places.items };
+
+    ghost invariant = { λ i. AreInPlace i.places.items };
 }
 
 /// A group out of the inbox.
@@ -145,7 +152,11 @@ fn is_next(memory: &Memory, command: &Command, members: &[Command]) -> bool
 impl Inbox {
     /// Makes places for the given number of elements, none of which asks. Returns `AllocError` if `alloc` refuses the
     /// memory.
-    pub fn new(alloc: Global, elements: u16) -> Result<Inbox, AllocError> {
+    #[tactic(auto, using(crate::proofs::Taking::in_place_none))]
+    pub fn new(alloc: Global, elements: u16) -> Result<Inbox, AllocError>
+        ensures count { IfOk result (λ i. length i ≡ elements) }
+        ensures none { IfOk result AskNothing }
+    {
         let mut places = Vec::with_capacity(alloc, elements as usize)?;
         for _ in 0..elements {
             places.push(None)?;
@@ -154,15 +165,13 @@ impl Inbox {
     }
 
     /// Asks for a command to be served. It takes the place of what its element asked before, if that is still there.
-    pub fn ask(&mut self, command: &Command) {
-        if let Some(place) = self.places.get_mut(element_of(command) as usize) {
-            *place = Some(match command {
-                Command::Request(request) => ElementAsk::Request {
-                    number: request.number,
-                    op: request.op,
-                },
-                Command::Confirm { upto, .. } => ElementAsk::Confirm { upto: *upto },
-            });
+    #[tactic(auto, using(crate::proofs::Taking::in_place_ask, crate::proofs::Taking::ask_past))]
+    pub fn ask(&mut self, command: &Command)
+        ensures asks { self.new ≡ slice_set self.old (sender_of command.now) (Some command.now) }
+    {
+        let at = element_of(command) as usize;
+        if at < self.places.len() {
+            self.places[at] = Some(*command);
         }
     }
 
@@ -177,22 +186,28 @@ impl Inbox {
         u32::from(asked)
     }
 
-    // Takes out what an element asks.
-    fn take(&mut self, element: u16) -> Option<Command>
-        ensures { IfSome result (λ c. sender_of c ≡ element) }
+    // Returns what an element asks.
+    #[tactic(auto, using(crate::proofs::Taking::asked_placed))]
+    fn placed_at(&self, element: u16) -> Option<Command>
+        ensures asked { result ≡ placed_at self.now element }
+        ensures place { IfSome result (λ c. IsAskedAt self.now element c) }
     {
-        match self.places.get_mut(element as usize)?.take()? {
-            ElementAsk::Request { number, op } => Some(Command::Request(Request {
-                element,
-                number,
-                op,
-            })),
-            ElementAsk::Confirm { upto } => Some(Command::Confirm { element, upto }),
+        *self.places.get(element as usize)?
+    }
+
+    // Takes out what an element asks.
+    #[tactic(auto, using(crate::proofs::Taking::in_place_free, crate::proofs::Taking::ask_past))]
+    fn free(&mut self, element: u16)
+        ensures { self.new ≡ slice_set self.old element None }
+    {
+        let at = element as usize;
+        if at < self.places.len() {
+            self.places[at] = None;
         }
     }
 
-    // Adds what an element asks to a group, if its answer has a free place. Returns false if the command has to wait
-    // for the next group.
+    // Takes out what an element asks and adds it to a group, if its answer has a free place. Returns false if the
+    // command has to wait for the next group.
     #[tactic(auto, using(crate::proofs::Gathering::gathers_weaker, crate::proofs::Gathering::gathers_push))]
     fn gather<K: Name>(
         &mut self,
@@ -205,23 +220,25 @@ impl Inbox {
         requires before { Gathers log.now.state.places memory.now.contents element members.old.items }
         ensures gathered { Gathers log.now.state.places memory.now.contents (element + 1) members.new.items }
         ensures few { length members.new.items ≤ length members.old.items + 1 }
+        ensures taken { TakesAt self.old element members.old.items self.new members.new.items }
     {
         if !log.is_free(element) {
             return true;
         }
-        let Some(command) = self.take(element) else {
+        let Some(command) = self.placed_at(element) else {
             return true;
         };
         if !is_next(memory, &command, members.as_slice()) {
-            self.ask(&command);
             return false;
         }
+        self.free(element);
         members.push(command);
         true
     }
 
     /// Takes out the next group, with at most `most` members. It looks at the elements in order, from `from` on, and
-    /// leaves out those whose answers have no free place.
+    /// leaves out those whose answers have no free place. Each member is what its element asked.
+    #[tactic(auto, using(crate::proofs::Taking::taken_next))]
     pub fn next_group<K: Name>(
         &mut self,
         log: &Log<K>,
@@ -229,6 +246,7 @@ impl Inbox {
         from: u16,
         most: usize,
     ) -> NextGroup
+        ensures found { AreTakenOut self.old result.members.items self.new }
         ensures apart { AreOneOfEach result.members.items }
         ensures free { AreFreeFor log.now.state.places result.members.items }
         ensures cut { IsCut result.members.items }

@@ -1,0 +1,102 @@
+-- What is asked, and taken out, element by element.
+use Rattle.std.proofs.Common.{◌≡◌, ◌≢◌, ◌⊎◌, inl, inr, ⊎_elim, ℕ, zero, suc, List, [], ◌∷◌, ◌++◌}
+use Rattle.std.proofs.Common.{Option, None, Some}
+use Rattle.std.proofs.Common.{refl, sym, ap, subst, ◌∙◌, ◌≤◌, length, slice_get, slice_set, arith}
+use Rattle.std.proofs.lemmas.List.{set_past}
+use Rattle.std.specs.Prelude.{IfSome, unwrap_or}
+use Rattle.im_types.specs.declared.commands.Command.{Command}
+use Rattle.im_trace.specs.Log.{sender_of}
+use Rattle.im_trace.proofs.LogLemmas.{all-get}
+use Rattle.im_queue.specs.Members.{AreBelow}
+use Rattle.im_queue.specs.Places.{AreInPlace, placed_in, placed_at, AskNothing, EachAsked, IsAskedAt, taken_out}
+use Rattle.im_queue.specs.Places.{AreTakenOut, TakesAt}
+use Rattle.im_queue.proofs.Gathering.{all_push}
+
+module _ {X : Type 0} where
+  -- what stands in a list of which one place was set is that, or stood there before
+  get-either : (xs : List X) (i j : ℕ) (y z : X) → slice_get (slice_set xs i y) j ≡ Some z
+      → ((j ≡ i) × (y ≡ z)) ⊎ (slice_get xs j ≡ Some z)
+  get-either [] i j y z there = inr there
+  get-either (x ∷ xs) zero zero y z there = inl (refl, ap (λ o. unwrap_or o y) there)
+  get-either (x ∷ xs) zero (suc j) y z there = inr there
+  get-either (x ∷ xs) (suc i) zero y z there = inr there
+  get-either (x ∷ xs) (suc i) (suc j) y z there =
+      ⊎_elim (λ same. inl (ap suc same.0, same.1)) (λ before. inr before) (get-either xs i j y z there)
+
+-- what other elements ask stays
+others-stay : (places : List (Option Command)) (i j : ℕ) → i ≢ j
+    → slice_get (slice_set places i None) j ≡ slice_get places j
+others-stay [] i j apart = refl
+others-stay (place ∷ places) zero zero apart = absurd (apart refl)
+others-stay (place ∷ places) zero (suc j) apart = refl
+others-stay (place ∷ places) (suc i) zero apart = refl
+others-stay (place ∷ places) (suc i) (suc j) apart = others-stay places i j (λ same. apart (ap suc same))
+
+differ : (c : Command) → Some c ≢ None
+differ c same = absurd (cc)
+
+in_place-set : (places : List (Option Command)) (i : ℕ) (place : Option Command) → AreInPlace places
+    → IfSome place (λ c. sender_of c ≡ i) → AreInPlace (slice_set places i place)
+in_place-set places i None before is = λ element c there.
+    ⊎_elim (λ here. absurd (cc)) (λ old. before element c old)
+    (get-either places i element None (Some c) there)
+in_place-set places i (Some asked) before is = λ element c there.
+    ⊎_elim (λ here. ap sender_of (ap (λ o. unwrap_or o c) (sym here.1)) ∙ is ∙ sym here.0)
+    (λ old. before element c old) (get-either places i element (Some asked) (Some c) there)
+
+pub in_place_ask : (places : List (Option Command)) (c : Command) → AreInPlace places
+    → AreInPlace (slice_set places (sender_of c) (Some c))
+in_place_ask places c before = in_place-set places (sender_of c) (Some c) before refl
+
+pub in_place_free : (places : List (Option Command)) (element : ℕ) → AreInPlace places
+    → AreInPlace (slice_set places element None)
+in_place_free places element before = in_place-set places element None before tt
+
+pub in_place_none : (places : List (Option Command)) → AskNothing places → AreInPlace places
+in_place_none places none = λ element c there.
+    absurd (differ c (all-get (λ (place : Option Command). place ≡ None) places element (Some c) none there))
+
+-- where there is no place nothing is set
+pub ask_past : (places : List (Option Command)) (i : ℕ) (place : Option Command) → length places ≤ i
+    → places ≡ slice_set places i place
+ask_past places i place past = sym (set_past places i place past)
+
+-- an element that asks has a place with its command
+pub asked_place : (place : Option (Option Command)) (c : Command) → placed_in place ≡ Some c → place ≡ Some (Some c)
+asked_place None c is = absurd (cc)
+asked_place (Some place) c is = ap (λ (p : Option Command). Some p) is
+
+pub asked_placed : (places : List (Option Command)) (element : ℕ) (asked : Option Command) → AreInPlace places
+    → asked ≡ placed_at places element → IfSome asked (λ c. IsAskedAt places element c)
+asked_placed places element None in_place is = tt
+asked_placed places element (Some c) in_place is =
+    let there = asked_place (slice_get places element) c (sym is) in (in_place element c there, there)
+
+above : (places : List (Option Command)) (element : ℕ) (cs : List Command) → AreBelow element cs
+    → slice_get (taken_out places cs) element ≡ slice_get places element
+above places element [] below = refl
+above places element (c ∷ cs) below =
+    above (slice_set places (sender_of c) None) element cs below.1
+    ∙ others-stay places (sender_of c) element (λ same. absurd (omega (arith, below.0, same)))
+
+taken_out-push : (places : List (Option Command)) (cs : List Command) (c : Command)
+    → taken_out places (cs ++ c ∷ []) ≡ slice_set (taken_out places cs) (sender_of c) None
+taken_out-push places [] c = refl
+taken_out-push places (d ∷ cs) c = taken_out-push (slice_set places (sender_of d) None) cs c
+
+module _ (start : List (Option Command)) (element : ℕ) (cs : List Command) (places : List (Option Command)) where
+  pub taken_next : (cs' : List Command) (places' : List (Option Command)) → AreTakenOut start cs places
+      → AreBelow element cs → TakesAt places element cs places' cs' → AreTakenOut start cs' places'
+  taken_next cs' places' t below (inl same) = record {
+    asked = subst (λ (l : List Command). EachAsked start l) (sym same.1) t.asked;
+    rest = same.0 ∙ t.rest ∙ ap (λ l. taken_out start l) (sym same.1);
+  }
+  taken_next cs' places' t below (inr it) = record {
+    asked = subst (λ (l : List Command). EachAsked start l) (sym it.joined)
+        (all_push (λ (c : Command). slice_get start (sender_of c) ≡ Some (Some c)) cs it.one t.asked
+        (ap (λ n. slice_get start n) it.asked.0 ∙ sym (above start element cs below)
+        ∙ ap (λ p. slice_get p element) (sym t.rest) ∙ it.asked.1));
+    rest = it.left ∙ ap (λ p. slice_set p element None) t.rest
+        ∙ ap (λ n. slice_set (taken_out start cs) n None) (sym it.asked.0) ∙ sym (taken_out-push start cs it.one)
+        ∙ ap (λ l. taken_out start l) (sym it.joined);
+  }
