@@ -2,6 +2,7 @@
 lemmas."""
 import re
 import shutil
+import subprocess
 import sys
 from dataclasses import dataclass, field
 from pathlib import Path
