@@ -69,9 +69,8 @@ class Dialogue:
         """Lets the program answer what was sent, and end."""
         self._write()
         self.is_closed = True
-        if not self.program.stdin or self.program.stdin.is_closing():
-            return
-        self.program.stdin.close()
+        if self.program.stdin:
+            self.program.stdin.close()
         await asyncio.gather(self.serving, return_exceptions=True)
         self._fail(asyncio.CancelledError())
 
@@ -120,13 +119,19 @@ class Dialogue:
             status = await self.program.wait()
             await self.hearing
             self.failures += status >= 0
-            if self.is_closed:
+            if self.is_closed and (status == 0 or not self._is_any_unserved()):
                 return
             if status in HOPELESS or self.failures > TRIES or "unsynced" in "".join(self.said):
                 self._fail(self._why(status))
                 return
             await asyncio.sleep(PAUSE if status >= 0 else 0)
             await self._start()
+            if self.is_closed and self.program.stdin:
+                self.program.stdin.close()  # It answers what was sent, and ends.
+
+    def _is_any_unserved(self) -> bool:
+        """Whether a line has no answer, not even that it waits."""
+        return len(self.under_way) > sum(map(len, self.waiting.values()))
 
     def _why(self, status: int) -> Exception:
         said = "; ".join(it for it in self.said if it)
