@@ -1,8 +1,8 @@
 """A build backend (PEP 517) with no dependencies, so that `pip install .` works with no network.
 
 It puts the shared library and the program `imem` into the wheel, or the one that there is. It takes those that
-LUNTREBIS_LIBRARY and LUNTREBIS_IMEM name, those of this checkout's out/, the installed ones, or those in out/ that weren't
-proved.
+LUNTREBIS_LIBRARY and LUNTREBIS_IMEM name, those of this checkout's out/, the installed ones, or those in out/ that
+weren't proved.
 """
 import base64
 import hashlib

@@ -24,8 +24,8 @@ TRIES, PAUSE = 10, 1.0  # How often a program that ends by itself is started aga
 
 
 def find_program(imem: Optional[Path] = None) -> str:
-    """Returns the program: the one that is named here or by LUNTREBIS_IMEM, the one in this package, `imem` on the PATH,
-    or that in out/ of this checkout."""
+    """Returns the program: the one that is named here or by LUNTREBIS_IMEM, the one in this package, `imem` on the
+    PATH, or that in out/ of this checkout."""
     below = [it / "out" / name for it in HERE.parents[3:4] for name in ("imem", "imem-unproved")]
     named = imem or os.environ.get("LUNTREBIS_IMEM")
     there = [str(HERE.with_name("imem")), shutil.which("imem") or "", *map(str, below)]
@@ -145,7 +145,7 @@ class Dialogue:
         return OSError(f"imem ended with status {status}: {said or self.refused or 'it said nothing'}")
 
     def _fail(self, fault: BaseException) -> None:
-        """Gives all who wait the fault. Those who are cancelled ask again under their numbers after the next opening."""
+        """Gives all who wait the fault. Those who are cancelled ask again under their numbers, once it is opened."""
         self.fault = fault
         for line in self.under_way:
             if isinstance(fault, asyncio.CancelledError):
@@ -246,8 +246,8 @@ class Served:
         return ServedElement(self, number, False)
 
     def element_anew(self, number: int) -> ServedElement:
-        """Returns an element whose requests get new numbers. What a run before asked is not asked again, so a value that
-        it had taken when it was killed is lost to the program."""
+        """Returns an element whose requests get new numbers. What a run before asked is not asked again, so a value
+        that it had taken when it was killed is lost to the program."""
         return ServedElement(self, number, True)
 
     async def window(self, element: int) -> Window:

@@ -12,8 +12,8 @@ from ._calls import CALLS
 HERE = pathlib.Path(__file__).resolve()
 OUT = [it / "out" for it in HERE.parents[3:4]]
 NONE = (
-    "there is no libluntrebis.so: `make try-library` builds one in a minute, with no proof, and `make library` a proved "
-    "one; then install this package again. luntrebis.aio.serve needs none"
+    "there is no libluntrebis.so: `make try-library` builds one in a minute, with no proof, and `make library` a "
+    "proved one; then install this package again. luntrebis.aio.serve needs none"
 )
 
 

@@ -247,8 +247,8 @@ class Image(Held):
         return self._elements.get(number) or self._elements.setdefault(number, Element(self, number))
 
     def element_anew(self, number: int) -> ElementAnew:
-        """Returns an element whose requests get new numbers. What a run before asked is not asked again, so a value that
-        it had taken when it was killed is lost to the program."""
+        """Returns an element whose requests get new numbers. What a run before asked is not asked again, so a value
+        that it had taken when it was killed is lost to the program."""
         return ElementAnew(self, number)
 
 

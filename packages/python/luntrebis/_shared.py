@@ -76,8 +76,8 @@ class SharedElement(Requests["Future[int]"]):
         return self._send(Request(tag, self.number, 0, address, value))
 
     def done(self) -> Future[int]:
-        """A unit of work is over: the next run begins here. All that was asked has to be answered. Nobody has to wait for
-        the future."""
+        """A unit of work is over: the next run begins here. All that was asked has to be answered. Nobody has to wait
+        for the future."""
         return self._send(Request(Tag.CONFIRM, self.number, 0))
 
 
@@ -177,8 +177,8 @@ class Shared:
         return self._elements.setdefault(number, SharedElement(self, number))
 
     def element_anew(self, number: int) -> SharedElementAnew:
-        """Returns an element whose requests get new numbers. What a run before asked is not asked again, so a value that
-        it had taken when it was killed is lost to the program."""
+        """Returns an element whose requests get new numbers. What a run before asked is not asked again, so a value
+        that it had taken when it was killed is lost to the program."""
         return SharedElementAnew(self, number)
 
     def close(self) -> None:
@@ -221,8 +221,8 @@ class Group:
         return True
 
     def count(self, counted: Counted, request: Request) -> Optional[Request]:
-        """Returns a request under the next number of its element, or a confirmation of all before. Returns None if it has
-        to wait until the confirmation in this group is served."""
+        """Returns a request under the next number of its element, or a confirmation of all before. Returns None if it
+        has to wait until the confirmation in this group is served."""
         element = request.element
         if counted.next is None:
             counted.next = self.image.window(element).base

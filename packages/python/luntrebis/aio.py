@@ -86,8 +86,8 @@ class Image:
         return Element(self, number)
 
     def element_anew(self, number: int) -> ElementAnew:
-        """Returns an element whose requests get new numbers. What a run before asked is not asked again, so a value that
-        it had taken when it was killed is lost to the program."""
+        """Returns an element whose requests get new numbers. What a run before asked is not asked again, so a value
+        that it had taken when it was killed is lost to the program."""
         return ElementAnew(self, number)
 
     async def close(self) -> None:
@@ -113,7 +113,7 @@ async def open(path: Path) -> Image:  # noqa: A001
 async def serve(
     path: Path, imem: Path | None = None, *, cells: int = 4096, elements: int = 16, slots: int = 256
 ) -> Served:
-    """Starts `imem serve` on an image, which is made if nothing is at the path. It needs no library, and has the calls of
-    `Image`. The program is the one that is named, the one in this package, `imem` on the PATH, or that in out/ of this
-    checkout. If it ends, it is started again, and asked again what isn't answered."""
+    """Starts `imem serve` on an image, which is made if nothing is at the path. It needs no library, and has the calls
+    of `Image`. The program is the one that is named, the one in this package, `imem` on the PATH, or that in out/ of
+    this checkout. If it ends, it is started again, and asked again what isn't answered."""
     return await begin(path, imem, cells, elements, slots)

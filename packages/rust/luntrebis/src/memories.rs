@@ -24,7 +24,8 @@ pub struct Limits {
 }
 
 /// What there is to say if a window is full.
-pub(crate) const FULL: &str = ", and 64 requests of the element aren't confirmed: call `done` once a unit of work is over";
+pub(crate) const FULL: &str =
+    ", and 64 requests of the element aren't confirmed: call `done` once a unit of work is over";
 
 /// The most entries that are kept of an element.
 pub(crate) const KEPT: u64 = 64;

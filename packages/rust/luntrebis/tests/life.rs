@@ -203,7 +203,10 @@ fn an_element_asks_again_what_is_not_confirmed() {
     assert_eq!(shared.element(1).done().wait().unwrap(), 0, "the same element");
     assert_eq!(shared.call(|image| image.window(1)).unwrap().unwrap(), 71..71);
     let other = shared.submit(asked(0, 2, Op::Take(0))).wait().unwrap_err().to_string();
-    assert_eq!(other, format!("refused 4 Mismatch: {name}: 0.2 take 0, and under this number it asked before: 0.2 put 0 0"));
+    assert_eq!(
+        other,
+        format!("refused 4 Mismatch: {name}: 0.2 take 0, and under this number it asked before: 0.2 put 0 0")
+    );
     let none = shared.ask(asked(9, 1, Op::Take(0))).unwrap_err().to_string();
     assert_eq!(none, format!("refused 5 NoElement: {name}: 9.1 take 0, and its elements are 0 to 2"));
     drop((shared, one));
@@ -220,7 +223,10 @@ fn a_group_is_the_first_of_a_list() {
     assert_eq!(image.ask_group(&stores[16..]).unwrap().len(), 4);
     assert!(image.ask_group(&[]).unwrap().is_empty());
     let all = image.ask_all(&[asked(0, 22, Op::Confirm), asked(0, 22, Op::Store(20, 7)), asked(0, 24, Op::Confirm)]);
-    assert!(matches!(all.unwrap()[..], [Ok(Reply::Confirmed), Ok(Reply::Stored), Err(Error::Refused(Refusal::Gap, _))]));
+    assert!(matches!(
+        all.unwrap()[..],
+        [Ok(Reply::Confirmed), Ok(Reply::Stored), Err(Error::Refused(Refusal::Gap, _))]
+    ));
     assert_eq!(image.window(0).unwrap(), 22..23);
     std::fs::remove_file(path).unwrap();
 }
