@@ -14,7 +14,7 @@ use crate::watching::Watch;
 use crate::work::refuse;
 use im_disk::{Disk, FileDisk, Start};
 use im_run::{Assignment, RunContext, RunMode, STALLED, Trace, run_on, run_once_on};
-use im_serving::{Open, Standing};
+use im_serving::{Open, Standing, Teller};
 use im_text::News;
 use im_types::{Observer, Refusal};
 use im_words::ScriptRun;
@@ -58,7 +58,7 @@ fn mode_of(running: &ScriptRun) -> RunMode
 pub fn run_file<
     R: Files<File = File> + AllocGlobal + Threads + Wait + Sync,
     S: Start + Send,
-    V: Observer<Standing> + Copy + Send,
+    V: Observer<Standing> + Teller + Copy + Send,
     I: Read,
     W: Write,
     N: Observer<News>,
@@ -96,7 +96,7 @@ pub fn run_file<
 fn run_at_once<
     R: Files<File = File> + AllocGlobal + Threads + Wait + Sync,
     S: Start + Send,
-    V: Observer<Standing> + Copy + Send,
+    V: Observer<Standing> + Teller + Copy + Send,
     I: Read,
     W: Write,
     N: Observer<News>,

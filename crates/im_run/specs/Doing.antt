@@ -57,12 +57,12 @@ AreAllTold m trace none (order ∷ orders) told =
     (mine : List Did) × ((others : List Did) × ((told ≡ mine ++ others)
     × (IsOrderTold m trace none order mine × AreAllTold m trace none orders others)))
 
--- The setup of a script was served whole on this memory, by these commands, and the names stand for the bases that they
--- made. The memory has the element of each part, of one with no line too. Then its parts were served, with this trace; so
--- all these commands were acknowledged, and those are in doubt. This is told of the parts, and it is all that they ask
--- for if nothing was refused. If the script is done once, all requests of its parts are known, the settled ones too, and
--- each was served if nothing was refused. If the run was planned, it ended as its plan says: that of all those requests,
--- if they are known.
+-- The setup of a script was served whole on this memory, by these commands, and the names stand for the bases that
+-- they made. The memory has the element of each part, of one with no line too. Then its parts were served, with this
+-- trace; so all these commands were acknowledged, and those are in doubt. This is told of the parts, and it is all
+-- that they ask for if nothing was refused. If the script is done once, all requests of its parts are known, the
+-- settled ones too, and each was served if nothing was refused. If the run was planned, it ended as its plan says:
+-- that of all those requests, if they are known.
 pub record HasToldScript (once planned : Bool) (start : Contents) (text : List ℕ) (setup acknowledged doubt : List
     Command) (trace : List Line) (none : Type 0) (told : List Did) : Type 0 where
   pub made : SetsUp once start text setup []

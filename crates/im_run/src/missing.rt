@@ -1,4 +1,4 @@
-//! The elements of a script's parts that the memory doesn't have.
+//! The elements of a script's parts that the memory doesn't have (decision 871).
 ghost use Rattle.std.specs.Prelude.{◌≡◌, ◌<◌, None};
 ghost use Rattle.im_script.specs.declared.script.Heard.TheVariants.{Says};
 ghost use Rattle.im_run.specs.Orders.{BeginsAmong};

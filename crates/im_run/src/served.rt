@@ -16,7 +16,7 @@ use crate::sheet::Order;
 use im_controller::{Controller, Finished, Name, Opening, Port, finish};
 use im_disk::Disk;
 use im_engine::Engine;
-use im_serving::{Done, Gate, Host, Standing, serve_elements};
+use im_serving::{Done, Gate, Host, Standing, Teller, serve_elements};
 use im_text::Waited;
 use im_types::{Observer, Refusal};
 use std::alloc::{AllocError, Global};
@@ -197,7 +197,7 @@ fn serve_parts<
     D: Disk + Drop + Send,
     K: Name + Send + Sync,
     G: Gate + Sync,
-    V: Observer<Standing> + Copy + Send,
+    V: Observer<Standing> + Teller + Copy + Send,
     R: Host,
 >(
     context: &RunContext<'_, G, V, R>,
@@ -220,7 +220,7 @@ fn serve_parts<
 }
 
 // Returns the refusal that is told. There is one if a port didn't come back, or if an answer waits that nobody took:
-// someone was served then who didn't ask.
+// someone was served then who didn't ask (decision 872).
 fn refused_at_end(
     refused: Option<(u16, Refusal)>,
     came: bool,
@@ -253,7 +253,7 @@ pub(crate) fn serve_orders<
     D: Disk + Drop + Send,
     K: Name + Send + Sync,
     G: Gate + Sync,
-    V: Observer<Standing> + Copy + Send,
+    V: Observer<Standing> + Teller + Copy + Send,
     R: Host,
 >(context: &RunContext<'_, G, V, R>, opening: Opening<D>, orders: Vec<Order>) -> ServedRun<D>
     requires origin { IsOriginOf D.Disk opening K.origin }
