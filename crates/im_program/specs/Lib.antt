@@ -4,3 +4,4 @@ pub mod Moving
 pub mod Loading
 pub mod Told
 pub mod Traced
+pub mod Prompting

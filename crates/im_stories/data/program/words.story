@@ -207,6 +207,13 @@ says entry E.N OPERATION -> ANSWER = yes
 imem load --help = status 0
 says imem load a.dump b.img = yes
 says 18 BadScript = yes
+-- The short word asks for the same.
+imem -h = status 0
+says Usage: imem [COMMAND] = yes
+imem serial -h = status 0
+says Usage: imem serial [OPTIONS] <IMAGE> <SCRIPT> = yes
+imem stat -h = status 0
+says Usage: imem stat [OPTIONS] <IMAGE> = yes
 
 # The version is told with the layout that is written
 imem --version = status 0
