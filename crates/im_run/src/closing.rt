@@ -111,17 +111,11 @@ pub fn close<D: Disk, W: Write, N: Observer<News>>(
     ensures printed { Closes (W.contents out.old) paper.lines (W.contents out.new) ending.engine.memory
         ending.did.items result.0 }
 {
-    let Ending {
-        engine,
-        did,
-        done,
-        ..
-    } = ending;
-    let failed = engine.failed();
-    let ended = with_disk(done, failed);
+    let failed = ending.engine.failed();
+    let ended = with_disk(ending.done, failed);
     let told = print_finals(
-        engine.memory(),
-        did.as_slice(),
+        ending.engine.memory(),
+        ending.did.as_slice(),
         &mut paper.line,
         &mut paper.lines,
         out,
@@ -135,5 +129,5 @@ pub fn close<D: Disk, W: Write, N: Observer<News>>(
         out,
         &mut Behind { observer },
     );
-    (status_of(failed, stalled, status), engine.close())
+    (status_of(failed, stalled, status), ending.engine.close())
 }
