@@ -9,7 +9,7 @@ from pathlib import Path
 
 import sources
 
-LINE = re.compile(r"(file|old|new|(?:# )?(?:breaks|case|twin-file|twin-old|twin-new)):(?: (.*))?$")
+LINE = re.compile(r"(file|old|new|# (?:breaks|case|twin-file|twin-old|twin-new)):(?: (.*))?$")
 FLAW = re.compile(r"^(?:\./)?(\S+?):\d+:\d+: error: (?:`([^`]*)`: )?(.*)$", re.M)
 NOTE = re.compile(r"^note: (?:\./)?(src/\S+):(\d+):\d+: .* \(`([^`]+)`\)(?:;.*)?$", re.M)
 GONE = re.compile(r"is not in scope|has no (?!atom in common)|is no name|was not admitted|no such goal|operand is missing|expected the end|cannot continue")
