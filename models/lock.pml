@@ -217,7 +217,7 @@ inline see_all_wait(e) {
   do :: i < N -> assert(i == e || does[i] == Done || (does[i] == Waits && entry[i] != Told)); i++ :: else -> break od
 }
 /* of im_controller::begin_wait 3c7540d49b4e
-   of im_controller::ask_once b864d3750de2 */
+   of im_controller::ask_once 26e6b4354352 */
 inline ask_once(e) {
   if :: failed -> change(e, Active); got = Failed
      :: !failed && entry[e] == Told -> change(e, Active); got = Go
