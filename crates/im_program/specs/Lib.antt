@@ -1,3 +1,4 @@
+pub mod Places
 pub mod Sources
 pub mod Working
 pub mod Moving
