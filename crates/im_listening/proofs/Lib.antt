@@ -1,2 +1,1 @@
-pub mod LendingLemmas
 pub mod PatientLemmas

@@ -20,8 +20,6 @@ mod prompting;
 mod running;
 mod scripts;
 mod serving;
-mod settling;
-mod shelf;
 mod shown;
 mod statuses;
 mod talking;

@@ -34,7 +34,6 @@ fn no_order(alloc: Global, element: u16) -> Order
     Order {
         element,
         base: 0,
-        untold: 0,
         next: 0,
         intents: Vec::new(alloc),
     }
@@ -82,18 +81,11 @@ fn first_of(memory: &Memory, element: u16, once: bool) -> u64
     }
 }
 
-// Returns the least kept number whose entry this run didn't tell. If the script is done once, those below the next one
-// are of the script itself, and were told.
-fn untold_of(base: u64, next: u64, once: bool) -> u64 {
-    if once { next } else { base }
-}
-
 /// Keeps an order that asks for something, with its element's numbers.
 pub(crate) fn keep_order(
     numbered: &mut Vec<Order>,
     order: Order,
     base: u64,
-    untold: u64,
     next: u64,
 ) -> Result<(), Reason>
     ensures { OnOk result (map ask_of numbered.new.items
@@ -110,7 +102,6 @@ pub(crate) fn keep_order(
     let kept = Order {
         element,
         base,
-        untold,
         next,
         intents,
     };
@@ -138,8 +129,7 @@ pub fn number_orders(
         let element = order.element;
         let base = base_of(memory, element);
         let next = first_of(memory, element, once);
-        let untold = untold_of(base, next, once);
-        match keep_order(&mut numbered, order, base, untold, next) {
+        match keep_order(&mut numbered, order, base, next) {
             Ok(()) => {}
             Err(reason) => return Err(reason),
         }

@@ -52,7 +52,6 @@ fn make_part<D: Disk, K: Name, R: Wait>(
     let Order {
         element,
         base,
-        untold,
         next,
         intents,
     } = order;
@@ -70,7 +69,6 @@ fn make_part<D: Disk, K: Name, R: Wait>(
             element,
             first: next,
             base,
-            untold,
             entries: Vec::new(alloc),
         },
         glances,

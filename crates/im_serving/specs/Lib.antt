@@ -1,5 +1,3 @@
 pub mod Numbers
-pub mod Earlier
-pub mod Told
 pub mod Serving
 pub mod Elements

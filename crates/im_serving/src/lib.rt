@@ -7,7 +7,6 @@
 mod asking;
 mod awaiting;
 mod context;
-mod earlier;
 mod elements;
 mod ending;
 mod gate;
@@ -21,11 +20,8 @@ mod running;
 mod sender;
 mod server;
 mod starting;
-mod teller;
-mod telling;
 
 pub use context::Context;
-pub use earlier::EarlierAnswer;
 pub use elements::serve_elements;
 pub use gate::{Gate, Open};
 pub use glances::{Glanced, Glances};
@@ -38,4 +34,3 @@ pub use parts::{Done, Part};
 pub use sender::{Sent, send_all};
 pub use server::serve_element;
 pub use starting::PIPE;
-pub use teller::Teller;

@@ -12,7 +12,6 @@ use crate::parts::{Done, Part, ServerStart};
 use crate::running::{Pair, Running, Sends, Serves, Stopped};
 use crate::sender::{Sent, send_all};
 use crate::server::serve_element;
-use crate::teller::Teller;
 use im_controller::{Controller, Name};
 use im_disk::Disk;
 use im_pipes::{Inlet, Outlet, pipe};
@@ -26,26 +25,11 @@ use std::thread::{PromisedHandle, Scope};
 /// How many messages a pipe holds.
 pub const PIPE: usize = 8;
 
-// Puts together what a server uses.
-fn context_of<'a, D: Disk, K: Name, G, T, R>(
-    rt: &'a R,
-    controller: &'a Controller<D, K>,
-    company: (&'a G, T),
-) -> Context<'a, D, K, G, T, R> {
-    let (gate, teller) = company;
-    Context {
-        rt,
-        controller,
-        gate,
-        teller,
-    }
-}
-
-// Serves an element from its end of the pipe. Its company is the gate and its teller.
-fn serve_part<D: Disk, K: Name, G: Gate, T: Teller + Copy, R: Wait>(
+// Serves an element from its end of the pipe.
+fn serve_part<D: Disk, K: Name, G: Gate, R: Wait>(
     rt: &R,
     controller: &Controller<D, K>,
-    company: (&G, T),
+    gate: &G,
     server: ServerStart<K>,
     outlet: Outlet<Intent>,
 ) -> Stopped<K>
@@ -60,14 +44,12 @@ fn serve_part<D: Disk, K: Name, G: Gate, T: Teller + Copy, R: Wait>(
         mut glances,
     } = server;
     let mut outlet = outlet;
-    let mut context = context_of(rt, controller, company);
-    let done = serve_element(
-        &mut context,
-        &mut port,
-        &mut served,
-        &mut glances,
-        &mut outlet,
-    );
+    let context = Context {
+        rt,
+        controller,
+        gate,
+    };
+    let done = serve_element(&context, &mut port, &mut served, &mut glances, &mut outlet);
     Stopped {
         done: Done {
             port,
@@ -164,16 +146,8 @@ fn begin_sending<'s, E, R: Host>(
 
 // Starts the thread that serves an element. If it can't be made, the pipe is ended; then the server runs here, finds
 // nothing to serve and retires.
-fn begin_serving<
-    's,
-    E,
-    D: Disk + Drop + Send,
-    K: Name + Send + Sync,
-    G: Gate + Sync,
-    T: Teller + Copy + Send + 's,
-    R: Host,
->(
-    context: &Context<'s, D, K, G, T, R>,
+fn begin_serving<'s, E, D: Disk + Drop + Send, K: Name + Send + Sync, G: Gate + Sync, R: Host>(
+    context: &Context<'s, D, K, G, R>,
     scope: &Scope<'s, E>,
     server: ServerStart<K>,
     inlet: Inlet<Intent>,
@@ -186,14 +160,14 @@ fn begin_serving<
 {
     let rt = context.rt;
     let controller = context.controller;
-    let company = (context.gate, context.teller);
+    let gate = context.gate;
     let serves = Serves {
         server: Snapshot::of(&server),
         outlet: Snapshot::of(&outlet),
     };
     match scope.spawn_with(
         serves,
-        move || serve_part(rt, controller, company, server, outlet),
+        move || serve_part(rt, controller, gate, server, outlet),
     ) {
         Ok(thread) => Ok((thread, inlet)),
         Err(refused) => {
@@ -204,16 +178,8 @@ fn begin_serving<
 }
 
 // Starts to serve an element, with two threads.
-fn begin<
-    's,
-    E,
-    D: Disk + Drop + Send,
-    K: Name + Send + Sync,
-    G: Gate + Sync,
-    T: Teller + Copy + Send + 's,
-    R: Host,
->(
-    context: &Context<'s, D, K, G, T, R>,
+fn begin<'s, E, D: Disk + Drop + Send, K: Name + Send + Sync, G: Gate + Sync, R: Host>(
+    context: &Context<'s, D, K, G, R>,
     alloc: Global,
     scope: &Scope<'s, E>,
     part: Part<K>,
@@ -250,10 +216,9 @@ pub(crate) fn begin_all<
     D: Disk + Drop + Send,
     K: Name + Send + Sync,
     G: Gate + Sync,
-    T: Teller + Copy + Send + 's,
     R: Host,
 >(
-    context: &Context<'s, D, K, G, T, R>,
+    context: &Context<'s, D, K, G, R>,
     alloc: Global,
     scope: &Scope<'s, E>,
     parts: Vec<Part<K>>,
