@@ -217,7 +217,7 @@ inline see_all_wait(e) {
   do :: i < N -> assert(i == e || does[i] == Done || (does[i] == Waits && entry[i] != Told)); i++ :: else -> break od
 }
 /* of im_controller::begin_wait 3c7540d49b4e
-   of im_controller::ask_once b864d3750de2 */
+   of im_controller::ask_once 26e6b4354352 */
 inline ask_once(e) {
   if :: failed -> change(e, Active); got = Failed
      :: !failed && entry[e] == Told -> change(e, Active); got = Go
@@ -379,8 +379,8 @@ inline confirm_to_end(e) {
 
 /* of im_serving::serve_element 057595aa5741
    of im_serving::serve_to_end 88b1311e2267
-   of im_serving::serve_one 3e492ae08f5b
-   of im_serving::make_place 83c6539d9850
+   of im_serving::serve_one 3ed24bff63b6
+   of im_serving::make_place bfbe683bc6ca
    of im_serving::await_one 8464d289f16b
    of im_serving::await_rest 56b9cf79b970 */
 proctype Port(byte e) {
@@ -482,7 +482,7 @@ proctype Keeper() {
   atomic { kept = Nothing; keeper_ended = true }
 }
 
-/* of im_serving::serve_within ae527cfd27c5
+/* of im_serving::serve_within 0db3f60ebaa9
    of im_controller::Controller::end b9584e903a68 */
 init {
   atomic {

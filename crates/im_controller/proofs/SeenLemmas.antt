@@ -42,7 +42,7 @@ module _ {D : Type 0} (marks : Line → Bool) (s s' : SharedState D) (t t' : Lin
   pub looks-trace : s'.log.trace ≡ s.log.trace ++ left_lines (Collect e n) (told a)
   looks-trace = looks-by s.engine.failed refl
 
--- a collect that is refused with no line
-pub stays-seen : (seen : List Line) (e n : ℕ) (refusal : Refusal) → refusal ≡ Stalled
-    → SeesFound seen e n (Some (Err refusal)) seen
-stays-seen seen e n refusal is = rw is (([], sym (append-nil (seen ++ []) ∙ append-nil seen)), tt)
+-- a port that is refused with no line may see more of the trace
+pub sees-more : (seen seen' : List Line) (e n : ℕ) (refusal : Refusal) → refusal ≡ Stalled → IsPrefix seen seen'
+    → SeesFound seen e n (Some (Err refusal)) seen'
+sees-more seen seen' e n refusal is p = rw is ((p.0, sym p.1 ∙ sym (append-nil (seen ++ p.0))), tt)

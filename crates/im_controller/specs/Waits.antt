@@ -7,7 +7,8 @@ use Rattle.im_types.specs.declared.commands.Call.TheVariants.{Collect}
 use Rattle.im_types.specs.declared.commands.Line.{Line}
 use Rattle.im_types.specs.declared.refusals.Refusal.{Refusal}
 use Rattle.im_types.specs.declared.refusals.Refusal.TheVariants.{Failed, TraceFull, Stalled}
-use Rattle.im_types.specs.Trace.{told}
+use Rattle.im_types.specs.Contents.{Contents}
+use Rattle.im_types.specs.Trace.{told, end_of}
 use Rattle.im_trace.specs.Lines.{LineCounts, GoesOnTo, left_lines, counts_after}
 use Rattle.im_trace.specs.Log.{FoundState}
 use Rattle.im_queue.specs.Servers.{entry_under, is_answered, are_stuck}
@@ -32,6 +33,17 @@ IsFoundAt history (Err refusal) = Unit {0}
 abbrev pub IsAwaited : Result FoundState Refusal → Type 0
 IsAwaited (Ok found) = is_answered (Ok found.entry) ≡ true
 IsAwaited (Err refusal) = Unit {0}
+
+-- a port is told `Stalled` only while the entry isn't answered in the memory after the trace that the port has seen
+abbrev pub StallsAt : Contents → List Line → ℕ → ℕ → Result FoundState Refusal → Type 0
+StallsAt m seen element number (Ok found) = Unit {0}
+StallsAt m seen element number (Err refusal) =
+    refusal ≡ Stalled → is_answered (entry_under (end_of m seen) element number) ≡ false
+
+-- what was found is answered; or the refusal is `Stalled` only if so
+abbrev pub IsAwaitedAt : Contents → List Line → ℕ → ℕ → Result FoundState Refusal → Type 0
+IsAwaitedAt m seen element number (Ok found) = is_answered (Ok found.entry) ≡ true
+IsAwaitedAt m seen element number (Err refusal) = StallsAt m seen element number (Err refusal)
 
 -- a port that awaits an answer holds the lock once: it is told nothing yet, or the answer, and then the line is counted
 abbrev pub Awaits : (Line → Bool) → LineCounts → ℕ → ℕ → Option (Result FoundState Refusal) → LineCounts → Type 0

@@ -1,13 +1,14 @@
 //! What is looked up under the lock: an entry, with its line, and whether a server may wait for one.
 ghost use Rattle.std.specs.Prelude.{◌≡◌, Ok, IfOk, IfSome};
 ghost use mathlib.Core.List.{IsPrefix};
-ghost use Rattle.im_types.specs.Trace.{told};
+ghost use Rattle.im_types.specs.Trace.{told, end_of};
 ghost use Rattle.im_types.specs.declared.commands.Call.TheVariants.{Collect};
 ghost use Rattle.im_types.specs.declared.commands.Outcome.TheVariants.{Entry as Tells};
 ghost use Rattle.im_trace.specs.Lines.{EndsIn, line_of};
 ghost use Rattle.im_controller.specs.Lends.{Looks, BeginsWait};
 ghost use Rattle.im_controller.specs.Planned.{TellsFound};
-ghost use Rattle.im_controller.specs.Waits.{Awaits, SeesEntry, SeesFound, TellsWhy, IsFoundAt, IsFoundOf, found_entry};
+ghost use Rattle.im_controller.specs.Waits.{Awaits, SeesEntry, SeesFound, StallsAt, TellsWhy, IsFoundAt, IsFoundOf};
+ghost use Rattle.im_controller.specs.Waits.{found_entry};
 
 use crate::shared::Shared;
 use im_disk::Disk;
@@ -25,9 +26,20 @@ fn know<D: Disk, K: Name>(shared: &mut Shared<D, K>, seen: &Prefix<K>)
 
 // Returns the whole trace, as a prefix that may go out of the lock.
 fn seen_all<D: Disk, K: Name>(shared: &Shared<D, K>) -> Prefix<K>
-    ensures { result ≡ shared.now.log.trace }
+    ensures all { result ≡ shared.now.log.trace }
+    ensures end { end_of K.origin.memory result ≡ shared.now.engine.memory }
 {
     shared.log.prefix()
+}
+
+// Lets a port that has seen a prefix of the trace see all of it.
+fn see_all<D: Disk, K: Name>(shared: &mut Shared<D, K>, seen: &mut Prefix<K>)
+    ensures same { shared.new ≡ shared.old }
+    ensures known { IsPrefix seen.old seen.new }
+    ensures end { end_of K.origin.memory seen.new ≡ shared.old.engine.memory }
+{
+    know(shared, seen);
+    *seen = seen_all(shared);
 }
 
 // Returns the answer for an entry as an outcome.
@@ -138,6 +150,7 @@ pub(crate) fn find_seen<D: Disk, K: Name>(
     ensures found { IsFoundOf element number result }
     ensures planned { TellsFound K.origin.memory K.origin.plan result }
     ensures order { SeesEntry seen.old element number result seen.new }
+    ensures end { end_of K.origin.memory seen.new ≡ shared.new.engine.memory }
 {
     know(shared, seen);
     let found = find(shared, tally, element, number);
@@ -145,7 +158,8 @@ pub(crate) fn find_seen<D: Disk, K: Name>(
     found
 }
 
-// Holds the lock once for a port that awaits an answer. Returns the answer, or none if the port is to wait.
+// Holds the lock once for a port that awaits an answer. Returns the answer, or none if the port is to wait. With any
+// answer the port has seen the whole trace.
 pub(crate) fn ask_once<D: Disk, K: Name>(
     shared: &mut Shared<D, K>,
     tally: &mut Tally<K>,
@@ -157,12 +171,14 @@ pub(crate) fn ask_once<D: Disk, K: Name>(
     ensures told { TellsWhy shared.old element number result }
     ensures planned { IfSome result (TellsFound K.origin.memory K.origin.plan) }
     ensures order { SeesFound seen.old element number result seen.new }
+    ensures stalls { IfSome result (StallsAt K.origin.memory seen.new element number) }
 {
     match begin_wait(shared, element, number) {
         Ok(Ask::Wait) => None,
         Ok(Ask::Go) => Some(find_seen(shared, tally, seen, element, number)),
         Err(refusal) => {
             if refusal == Refusal::Stalled {
+                see_all(shared, seen);
                 return Some(Err(refusal)); // Any other is told again, with its line.
             }
             Some(find_seen(shared, tally, seen, element, number))

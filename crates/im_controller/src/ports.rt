@@ -8,7 +8,7 @@ ghost use Rattle.im_types.specs.Trace.{IsLegal, told};
 ghost use Rattle.im_trace.specs.Lines.{EndsIn, line_of, left_lines, counts_after};
 ghost use Rattle.im_trace.specs.Log.{SeesReceipt, plain};
 ghost use Rattle.im_controller.specs.Lends.{IsTurnFault};
-ghost use Rattle.im_controller.specs.Waits.{found_entry, IsFoundOf, IsAwaited, SeesEntry};
+ghost use Rattle.im_controller.specs.Waits.{found_entry, IsFoundOf, IsAwaitedAt, SeesEntry};
 ghost use Rattle.im_controller.specs.Planned.{TellsOf, TellsFound};
 
 use crate::controller::Controller;
@@ -156,11 +156,13 @@ impl<K: Name> Port<K> {
 
     /// Waits until the entry under a number of this element is answered, and returns it. The element's server counts as
     /// waiting until then. It is refused with `Stalled`, which leaves no line, if each active server waits and none of
-    /// their entries is answered. Any other refusal is as by [`Port::collect`].
+    /// their entries is answered. The port has seen the whole trace then, in whose memory its entry isn't answered. Any
+    /// other refusal is as by [`Port::collect`].
     ///
     /// A retired port may wait as any other, and that doesn't make its server active again. If two servers are stuck,
     /// the first to ask is told so, and is active again from then on. The other is told once the first has retired, and
     /// sleeps until then.
+    #[tactic(auto, using(crate::proofs::WaitLemmas::awaited_at))]
     pub fn await_answer<D: Disk, R: Wait>(
         &mut self,
         rt: &R,
@@ -169,7 +171,7 @@ impl<K: Name> Port<K> {
     ) -> Result<Found<K>, Refusal>
         ensures asked { IsFoundOf self.old.element number result }
         ensures planned { TellsFound K.origin.memory K.origin.plan result }
-        ensures answered { IsAwaited result }
+        ensures answered { IsAwaitedAt K.origin.memory self.new.history self.old.element number result }
         ensures legal { IfOk result (λ f. IsLegal K.origin.memory f.history) }
         ensures last { IfOk result (λ f. EndsIn f.history
             (line_of (Collect f.element f.number) (Ok (Tells f.entry)))) }

@@ -6,6 +6,8 @@ use Rattle.im_disk.specs.Moment.{Moment, overlaid, written, synced}
 
 -- what is known of a file from its calls and their answers
 pub record Account : Type 0 where
+  -- the path of the file that this is about
+  pub path : List ℕ
   -- the file now, and the moments before it, newest first
   pub now : Moment
   pub past : List Moment
@@ -57,12 +59,14 @@ shaken_by outcome m = record {
 -- after a write, by whether it succeeded
 abbrev pub after_write : Bool → ℕ → List ℕ → Account → Account
 after_write true at bytes a = record {
+  path = a.path;
   now = written at bytes a.now;
   past = a.now ∷ a.past;
   outcomes = a.outcomes;
   agrees = a.agrees;
 }
 after_write false at bytes a = record {
+  path = a.path;
   now = torn_by at (length bytes) (first_outcome a.outcomes) a.now;
   past = a.now ∷ a.past;
   outcomes = later_outcomes a.outcomes;
@@ -71,36 +75,54 @@ after_write false at bytes a = record {
 
 -- after a sync, by whether it succeeded
 abbrev pub after_sync : Bool → Account → Account
-after_sync true a = record { now = synced a.now; past = a.now ∷ a.past; outcomes = a.outcomes; agrees = a.agrees }
+after_sync true a = record {
+  path = a.path;
+  now = synced a.now;
+  past = a.now ∷ a.past;
+  outcomes = a.outcomes;
+  agrees = a.agrees;
+}
 after_sync false a = record {
+  path = a.path;
   now = shaken_by (first_outcome a.outcomes) a.now;
   past = a.now ∷ a.past;
   outcomes = later_outcomes a.outcomes;
   agrees = a.agrees;
 }
 
--- After a call, by its number: the file was made anew, measured, read, written or synced. Each call may fail.
+-- After a call, by its number: the file was made anew, measured, read, written or synced, or opened at the path of
+-- these bytes. Each call but the last may fail.
 abbrev pub after_call : ℕ → ℕ → Bool → List ℕ → Account → Account
 after_call zero len ok bytes a = record {
+  path = a.path;
   now = record { bytes = replicate len 0; ranges = [] };
   past = [];
   outcomes = a.outcomes;
   agrees = a.agrees;
 }
 after_call (suc zero) len ok bytes a = record {
+  path = a.path;
   now = a.now;
   past = a.past;
   outcomes = a.outcomes;
   agrees = a.agrees && (not ok || len == length a.now.bytes);
 }
 after_call (suc (suc zero)) at ok bytes a = record {
+  path = a.path;
   now = a.now;
   past = a.now ∷ a.past;
   outcomes = a.outcomes;
   agrees = a.agrees && (not ok || bytes_eq bytes (take (length bytes) (drop at a.now.bytes)));
 }
 after_call (suc (suc (suc zero))) at ok bytes a = after_write ok at bytes a
-after_call (suc (suc (suc (suc more)))) at ok bytes a = after_sync ok a
+after_call (suc (suc (suc (suc zero)))) at ok bytes a = after_sync ok a
+after_call (suc (suc (suc (suc (suc more))))) at ok bytes a = record {
+  path = a.path;
+  now = a.now;
+  past = a.past;
+  outcomes = a.outcomes;
+  agrees = a.agrees && bytes_eq bytes a.path;
+}
 
 -- A call with its answer: its number, an offset or a length, whether it succeeded, and the bytes.
 pub record AccountedCall : Type 0 where
@@ -118,10 +140,11 @@ accounted_call numbers bytes = record {
   bytes = bytes;
 }
 
--- a file with this first moment after these calls, newest first; its failing calls come to these outcomes
-abbrev pub replay : Moment → List (List ℕ) → List AccountedCall → Account
-replay first outcomes [] = record { now = first; past = []; outcomes = outcomes; agrees = true }
-replay first outcomes (e ∷ earlier) = after_call e.call e.at e.ok e.bytes (replay first outcomes earlier)
+-- a file of this path with this first moment after these calls, newest first; its failing calls come to these outcomes
+abbrev pub replay : List ℕ → Moment → List (List ℕ) → List AccountedCall → Account
+replay path first outcomes [] = record { path = path; now = first; past = []; outcomes = outcomes; agrees = true }
+replay path first outcomes (e ∷ earlier) =
+    after_call e.call e.at e.ok e.bytes (replay path first outcomes earlier)
 
 -- No sync has failed. After a failed sync nothing more is asked of the file, because what was written may be lost
 -- without another error.

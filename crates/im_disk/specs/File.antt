@@ -8,7 +8,7 @@ use Rattle.im_disk.specs.Moment.{Ticks, MayTick, Torn, written}
 module _ {S : Type 0} where
   -- what an honest file with this start would have come to, after the calls so far
   abbrev pub account_of : (start : Ghosts S) → FileDisk S start → Account
-  account_of start f = replay start.first start.outcomes f.ledger.events
+  account_of start f = replay start.path start.first start.outcomes f.ledger.events
 
   -- a sync of the file has failed since it was opened: what was written may be lost
   abbrev pub has_failed_sync : (start : Ghosts S) → FileDisk S start → Bool

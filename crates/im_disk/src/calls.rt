@@ -18,6 +18,8 @@ pub(crate) const WRITTEN: u64 = 3;
 
 pub(crate) const SYNCED: u64 = 4;
 
+pub(crate) const OPENED: u64 = 5;
+
 // Notes a call of the system. The clause allows none after a failed sync.
 pub(crate) fn note(ledger: &mut Ledger, numbers: &[u64], bytes: &[u8])
     requires usable { IsTrue (is_usable ledger.old.events) }

@@ -1,12 +1,12 @@
 //! A disk over a file of the operating system.
-ghost use Rattle.std.specs.Prelude.{◌≡◌, ◌+◌, ◌≤◌, ◌∷◌, [], not, nat_lt, is_some, length, replicate};
+ghost use Rattle.std.specs.Prelude.{◌≡◌, ◌↔◌, ◌+◌, ◌≤◌, ◌∷◌, [], not, nat_lt, is_some, length, replicate};
 ghost use Rattle.std.specs.Prelude.{IsTrue, IsOk, IfOk, OnOk};
 ghost use Rattle.im_disk.specs.Account.{IsHonest, accounted_call, is_measured, is_usable};
 ghost use Rattle.im_disk.specs.Failing.{is_of_sync};
 
 use crate::account::Ledger;
 use crate::calls::{
-    MADE, MEASURED, READ, SYNCED, WRITTEN, is_inside, note, note_written, write_whole,
+    MADE, MEASURED, OPENED, READ, SYNCED, WRITTEN, is_inside, note, note_written, write_whole,
 };
 use crate::failing::Failing;
 use crate::opening::{made, made_new, readable, removed, settled};
@@ -17,14 +17,14 @@ use std::marker::PhantomData;
 use std::os::unix::fs::FileExt;
 use std::rt::Files;
 
-/// A file of the operating system.
+/// A file of the operating system. Its clauses about bytes and crashes need honesty, as on any [`Disk`]. Nothing
+/// promises that a real file is honest.
 ///
-/// Its clauses about bytes and crashes need honesty, as on any [`Disk`]. Nothing promises that a real file is honest.
-/// The members come from two sources: the list of the file's calls and their answers, which only clauses read, and `S`.
-/// `S` says what the file held when it was opened, and what its failing calls came to. The file is honest as long as an
-/// honest file with that start could have given each answer. A proof over any `S: Start` holds for each of them, and so
-/// for the real one. The list describes the real file on three conditions: nobody else writes the file, its length
-/// stays, and a sync that returns `Ok` has put the bytes on the disk. docs/CRASH.md lists all assumptions.
+/// The members come from the list of the file's calls and their answers, which only clauses read, and from `S`. It says
+/// at which path it was opened, what it held then, and what its failing calls came to. The file is honest if an honest
+/// one with that start could have given each answer. A proof over any `S: Start` holds for the real one too. The list
+/// describes the real file on three conditions: nobody else writes the file, its length stays, and a sync that returns
+/// `Ok` has put the bytes on the disk. docs/CRASH.md lists all assumptions.
 #[derive(Drop)]
 pub struct FileDisk<S: Start> {
     file: File,
@@ -49,24 +49,23 @@ impl<S: Start> FileDisk<S> {
     /// Makes a file of `len` zero bytes at the path, also over a file that is there. It puts the file and its name on
     /// the disk. The file is locked before any byte changes, and stays locked as long as the disk lives.
     ///
-    /// Returns `InUse` if another opening holds the lock for longer than the start waits, and `NotFile` if the path
-    /// names something other than a regular file. Both change nothing. Returns `System` if a call of the system fails.
-    /// The path may then hold any file. The clauses say what an honest file has: zero bytes, none of them in doubt.
+    /// Returns `InUse` if another opening holds the lock for longer than the start waits, and `NotFile` if it is no
+    /// regular file: both change nothing. Returns `System` if a call of the system fails: the path may then hold any
+    /// file. The clauses say what an honest file has: zero bytes, none in doubt. `S` has to name the path.
     pub fn create<R: Files<File = File>>(
         rt: &R,
         path: &str,
         len: usize,
-        start: S,
+        mut start: S,
     ) -> Result<FileDisk<S>, OpenFault>
         ensures failures { IfOk result (λ disk. ⟦<FileDisk<S> as Disk>⟧.failures disk ≡ 0) }
         ensures now { IfOk result (λ disk. ⟦<FileDisk<S> as Disk>⟧.now disk
             ≡ record { bytes = replicate len 0; ranges = [] }) }
         ensures past { IfOk result (λ disk. ⟦<FileDisk<S> as Disk>⟧.past disk ≡ []) }
-        ensures honest { IfOk result (λ disk. ⟦<FileDisk<S> as Disk>⟧.honest disk) }
+        ensures honest { IfOk result (λ disk. ⟦<FileDisk<S> as Disk>⟧.honest disk ↔ (S.path ≡ path.now)) }
     {
-        let mut start = start;
         let file = made(rt, path, len, &mut start)?;
-        Ok(noted(over(file, len as u64, start), len))
+        Ok(noted(over(file, len as u64, path, start), len))
     }
 
     /// Makes a file as [`create`](FileDisk::create) does, but only if nothing is at the path, not even a link.
@@ -84,10 +83,12 @@ impl<S: Start> FileDisk<S> {
         ensures now { IfOk result (λ disk. ⟦<FileDisk<S> as Disk>⟧.now disk
             ≡ record { bytes = replicate len 0; ranges = [] }) }
         ensures past { IfOk result (λ disk. ⟦<FileDisk<S> as Disk>⟧.past disk ≡ []) }
-        ensures honest { IfOk result (λ disk. ⟦<FileDisk<S> as Disk>⟧.honest disk) }
+        ensures honest { IfOk result (λ disk. ⟦<FileDisk<S> as Disk>⟧.honest disk ↔ (S.path ≡ path.now)) }
     {
-        let file = made_new(rt, path, len)?;
-        Ok(noted(over(file, len as u64, start), len))
+        match made_new(rt, path, len) {
+            Ok(file) => Ok(noted(over(file, len as u64, path, start), len)),
+            Err(fault) => Err(fault),
+        }
     }
 
     /// Opens the file at the path for reading and writing, and puts it on the disk. The file stays locked as long as
@@ -97,34 +98,32 @@ impl<S: Start> FileDisk<S> {
     pub fn open<R: Files<File = File>>(
         rt: &R,
         path: &str,
-        start: S,
+        mut start: S,
     ) -> Result<FileDisk<S>, OpenFault>
         ensures failures { IfOk result (λ disk. ⟦<FileDisk<S> as Disk>⟧.failures disk ≡ 0) }
         ensures now { IfOk result (λ disk. ⟦<FileDisk<S> as Disk>⟧.now disk ≡ S.first) }
         ensures past { IfOk result (λ disk. ⟦<FileDisk<S> as Disk>⟧.past disk ≡ []) }
-        ensures honest { IfOk result (λ disk. ⟦<FileDisk<S> as Disk>⟧.honest disk) }
+        ensures honest { IfOk result (λ disk. ⟦<FileDisk<S> as Disk>⟧.honest disk ↔ (S.path ≡ path.now)) }
     {
-        let mut start = start;
         let (file, len) = settled(rt, path, &mut start)?;
-        Ok(over(file, len, start))
+        Ok(over(file, len, path, start))
     }
 
-    /// Opens the file at the path only for reading: each write to it fails. Others may read it at the same time. This
-    /// reads no byte. Returns `InUse` if a writer holds the lock for longer than the start waits, `NotFile` if it is no
-    /// regular file, and `System` if a call of the system fails.
+    /// Opens the file at the path only for reading: each write to it fails. Others may read it. This reads no byte.
+    /// Returns `InUse` if a writer holds the lock for longer than the start waits, `NotFile` if it is no regular file,
+    /// and `System` if a call of the system fails.
     pub fn open_to_read<R: Files<File = File>>(
         rt: &R,
         path: &str,
-        start: S,
+        mut start: S,
     ) -> Result<FileDisk<S>, OpenFault>
         ensures failures { IfOk result (λ disk. ⟦<FileDisk<S> as Disk>⟧.failures disk ≡ 0) }
         ensures now { IfOk result (λ disk. ⟦<FileDisk<S> as Disk>⟧.now disk ≡ S.first) }
         ensures past { IfOk result (λ disk. ⟦<FileDisk<S> as Disk>⟧.past disk ≡ []) }
-        ensures honest { IfOk result (λ disk. ⟦<FileDisk<S> as Disk>⟧.honest disk) }
+        ensures honest { IfOk result (λ disk. ⟦<FileDisk<S> as Disk>⟧.honest disk ↔ (S.path ≡ path.now)) }
     {
-        let mut start = start;
         let (file, len) = readable(rt, path, &mut start)?;
-        Ok(over(file, len, start))
+        Ok(over(file, len, path, start))
     }
 
     /// Returns the first failure since the opening. There is one exactly if the count of failures isn't 0. A failed
@@ -211,30 +210,31 @@ impl<S: Start> FileDisk<S> {
     }
 }
 
-// The disk over a file that was just opened. It uses up one value of the start.
-fn over<S: Start>(file: File, len: u64, _start: S) -> FileDisk<S>
+// The disk over a file that was just opened at the path. It uses up one value of the start.
+fn over<S: Start>(file: File, len: u64, path: &str, _start: S) -> FileDisk<S>
     ensures failures { ⟦<FileDisk<S> as Disk>⟧.failures result ≡ 0 }
-    ensures events { result.ledger.events ≡ [] }
+    ensures events { result.ledger.events ≡ accounted_call (5 ∷ 0 ∷ 1 ∷ []) path.now ∷ [] }
 {
+    let mut ledger = Ledger::new();
+    note(&mut ledger, &[OPENED, 0, 1], path.as_bytes());
     FileDisk {
         file,
         len,
         usable: true,
         measured: false,
         failing: Failing::new(),
-        ledger: Ledger::new(),
+        ledger,
         start: PhantomData,
     }
 }
 
 // The disk over a file that was just made with this length.
-fn noted<S: Start>(disk: FileDisk<S>, len: usize) -> FileDisk<S>
+fn noted<S: Start>(mut disk: FileDisk<S>, len: usize) -> FileDisk<S>
     requires failures { ⟦<FileDisk<S> as Disk>⟧.failures disk ≡ 0 }
-    requires events { disk.ledger.events ≡ [] }
+    requires usable { IsTrue (is_usable disk.ledger.events) }
     ensures failures { ⟦<FileDisk<S> as Disk>⟧.failures result ≡ 0 }
-    ensures events { result.ledger.events ≡ accounted_call (0 ∷ len ∷ 1 ∷ []) [] ∷ [] }
+    ensures events { result.ledger.events ≡ accounted_call (0 ∷ len ∷ 1 ∷ []) [] ∷ disk.ledger.events }
 {
-    let mut disk = disk;
     note(&mut disk.ledger, &[MADE, len as u64, 1], &[]);
     disk
 }

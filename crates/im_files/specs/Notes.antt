@@ -1,5 +1,7 @@
 -- Notes beside the files of images. (Own.)
-use Rattle.std.specs.Prelude.{ℕ, Bool, true, false, not, ◌&&◌, ◌==◌, List, ◌++◌, length, bytes_eq, codes}
+use Rattle.std.specs.Prelude.{◌≡◌, ℕ, Bool, true, false, not, ◌&&◌, ◌==◌, List, ◌++◌, length, bytes_eq, codes}
+use Rattle.std.specs.Prelude.{Option, IfSome}
+use Rattle.std.specs.Io.KnownBytes.{Appends}
 use Rattle.im_files.specs.declared.notes.Noting.{Noting}
 use Rattle.im_files.specs.declared.notes.Noting.TheVariants.{Unneeded, Left, Failed}
 
@@ -17,3 +19,7 @@ is_unneeded (Failed kind) = false
 -- (36 characters and a line feed), and they differ.
 abbrev pub is_earlier : List ℕ → List ℕ → Bool
 is_earlier note boot = (length note == 37) && ((length boot == 37) && not (bytes_eq note boot))
+
+-- a note was written; it isn't of an earlier run than the one whose name begins with these bytes, where they are known
+abbrev pub IsOfRun : Option (List ℕ) → Option (List ℕ) → Option (List ℕ) → Type 0
+IsOfRun boot was is = (note : List ℕ) × Appends was is note × IfSome boot (λ name. is_earlier note name ≡ false)

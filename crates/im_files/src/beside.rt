@@ -1,11 +1,11 @@
 //! Keeps the note beside a file as a file of its own.
-ghost use Rattle.std.specs.Prelude.{◌≡◌, List, ℕ, IfOk, string_bytes};
-ghost use Rattle.im_files.specs.Notes.{is_earlier, note_of};
+ghost use Rattle.std.specs.Prelude.{◌≡◌, List, ℕ, IfOk, OnOk, string_bytes};
+ghost use Rattle.im_files.specs.Notes.{IsOfRun, is_earlier, note_of};
 
 use crate::{Notes, Sight};
 use std::alloc::{AllocError, Global};
 use std::fs::{self, File, OpenOptions};
-use std::io::{self, ErrorKind};
+use std::io::{self, ErrorKind, Read, Write};
 use std::os::unix::fs::FileExt;
 use std::rt::Files;
 
@@ -77,19 +77,25 @@ fn sight_of<R: Files<File = File>>(rt: &R, note: &str) -> Sight {
     }
 }
 
-// Writes the name of this run of the machine into a new file. It needn't reach the disk, because the next run doesn't
-// need it.
+// Writes a note: the name of this run of the machine, as it is read.
+fn write_name<I: Read, W: Write>(boot: &mut I, note: &mut W) -> io::Result<()>
+    ensures standing { OnOk result (IsOfRun (I.remaining boot.old) (W.contents note.old) (W.contents note.new)) }
+{
+    let mut name = [0; NAME];
+    boot.read_exact(&mut name)?;
+    note.write_all(&name)?;
+    Ok(())
+}
+
+// Writes the note into a new file. It needn't reach the disk, because the next run doesn't need it.
 fn write_note<R: Files<File = File>>(rt: &R, note: &str) -> io::Result<()> {
-    let mut boot = [0; NAME];
-    if read_short(rt, BOOT, &mut boot)? != NAME {
-        return Err(ErrorKind::InvalidData.into());
-    }
+    let mut boot = File::open(rt, BOOT)?;
     let _ = fs::remove_file(rt, note);
-    let file = OpenOptions::new()
+    let mut file = OpenOptions::new()
         .write(true)
         .create_new(true)
         .open(rt, note)?;
-    match file.write_all_at(&boot, 0) {
+    match write_name(&mut boot, &mut file) {
         Ok(()) => Ok(()),
         Err(error) => {
             let _ = fs::remove_file(rt, note);

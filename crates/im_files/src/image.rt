@@ -1,5 +1,5 @@
 //! Makes, opens and removes the file of an image.
-ghost use Rattle.std.specs.Prelude.{◌≡◌, [], true, false, not, replicate, IfOk};
+ghost use Rattle.std.specs.Prelude.{◌≡◌, ◌↔◌, [], true, false, not, replicate, IfOk};
 ghost use Rattle.im_disk.specs.File.{has_failed_sync};
 ghost use Rattle.im_files.specs.Notes.{is_unneeded};
 
@@ -55,7 +55,7 @@ pub fn open_image<R: Files<File = File> + AllocGlobal, S: Start>(
     ensures failures { IfOk result (λ disk. ⟦<FileDisk<S> as Disk>⟧.failures disk ≡ 0) }
     ensures now { IfOk result (λ disk. ⟦<FileDisk<S> as Disk>⟧.now disk ≡ S.first) }
     ensures past { IfOk result (λ disk. ⟦<FileDisk<S> as Disk>⟧.past disk ≡ []) }
-    ensures honest { IfOk result (λ disk. ⟦<FileDisk<S> as Disk>⟧.honest disk) }
+    ensures honest { IfOk result (λ disk. ⟦<FileDisk<S> as Disk>⟧.honest disk ↔ (S.path ≡ path.now)) }
 {
     match FileDisk::open(rt, path, start) {
         Ok(disk) => {
@@ -81,7 +81,7 @@ pub fn open_image_to_read<R: Files<File = File> + AllocGlobal, S: Start>(
     ensures failures { IfOk result (λ r. ⟦<FileDisk<S> as Disk>⟧.failures r.0 ≡ 0) }
     ensures now { IfOk result (λ r. ⟦<FileDisk<S> as Disk>⟧.now r.0 ≡ S.first) }
     ensures past { IfOk result (λ r. ⟦<FileDisk<S> as Disk>⟧.past r.0 ≡ []) }
-    ensures honest { IfOk result (λ r. ⟦<FileDisk<S> as Disk>⟧.honest r.0) }
+    ensures honest { IfOk result (λ r. ⟦<FileDisk<S> as Disk>⟧.honest r.0 ↔ (S.path ≡ path.now)) }
 {
     let disk = FileDisk::open_to_read(rt, path, start)?;
     let notes = FileNotes::beside(rt, path)?;
@@ -104,7 +104,7 @@ pub fn make_image<R: Files<File = File> + AllocGlobal, S: Start>(
     ensures now { IfOk result (λ r. ⟦<FileDisk<S> as Disk>⟧.now r.0
         ≡ record { bytes = replicate len 0; ranges = [] }) }
     ensures past { IfOk result (λ r. ⟦<FileDisk<S> as Disk>⟧.past r.0 ≡ []) }
-    ensures honest { IfOk result (λ r. ⟦<FileDisk<S> as Disk>⟧.honest r.0) }
+    ensures honest { IfOk result (λ r. ⟦<FileDisk<S> as Disk>⟧.honest r.0 ↔ (S.path ≡ path.now)) }
     ensures made { IfOk result (λ r. is_new ≡ true → r.1 ≡ true) }
 {
     let is_made = is_new || is_free(rt, path);

@@ -37,6 +37,8 @@ impl<R: Clock + Drop> Start for Waiting<R> {
     ghost use Rattle.std.specs.Prelude.{◌≡◌, [], false, IfSome, Some};
     ghost use Rattle.im_files.specs.Lasting.{counted_from, longest};
 
+    ghost path = { [] };
+
     ghost first = { record { bytes = []; ranges = [] } };
 
     ghost outcomes = { [] };

@@ -81,6 +81,10 @@ abbrev pub LeftOnTheWay : Moment → List FileStep → (List ℕ → Type 0) →
 LeftOnTheWay m steps P =
     (many : ℕ) (file : List ℕ) → many ≤ length steps → Left (carried m (take many steps)) file → P file
 
+-- a crash after a beginning of these steps, or after all of them, may leave this file
+abbrev pub MayLeave : Moment → List FileStep → List ℕ → Type 0
+MayLeave m steps file = (many : ℕ) × (many ≤ length steps) × Left (carried m (take many steps)) file
+
 -- Carrying out the list leads from its start to the file now. A crash on the way leaves what the disk says.
 pub record Accounts (d : Listing) : Type 0 where
   pub ends : d.now ≡ carried d.begun d.steps

@@ -3,11 +3,13 @@
 #![tactic(auto)]
 
 mod account;
+mod again;
 mod image;
 mod listed;
 mod settling;
 mod step;
 
+pub use again::{Resent, send_over_steps};
 pub use image::Image;
 pub use listed::Listed;
 pub use step::Step;

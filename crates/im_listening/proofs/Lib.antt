@@ -1,1 +1,2 @@
+pub mod LendingLemmas
 pub mod PatientLemmas

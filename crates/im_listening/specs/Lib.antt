@@ -1,1 +1,3 @@
+pub mod Lending
 pub mod Patience
+pub mod Listening

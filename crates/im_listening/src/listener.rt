@@ -1,9 +1,14 @@
 //! A reader that listens with a thread.
-ghost use Rattle.std.specs.Prelude.{◌≡◌, ◌<◌, Ok, length};
+ghost use Rattle.std.specs.Prelude.{◌≡◌, IfSome};
+ghost use Rattle.std.specs.Option.{ForSome};
 ghost use Rattle.std.specs.Io.{ReadsAtMost};
+ghost use Rattle.std.specs.Io.KnownBytes.{ReadConsumes};
+ghost use Rattle.im_listening.specs.Lending.{HasBytes};
 
 use crate::Ear;
-use crate::patient::read_waiting;
+use crate::delivery::Delivery;
+use crate::input_bytes::InputBytes;
+use crate::loan::{Loan, hear, lend_first, read_heard};
 use crossbeam_channel::{Receiver, Sender, bounded};
 use std::alloc::Global;
 use std::io::{self, Error, ErrorKind, Read};
@@ -13,44 +18,18 @@ use std::thread::{self, Threads, yield_now};
 // How often this thread yields before the other one is taken to wait for the reader.
 const PATIENCE: usize = 4_096;
 
-// What the reader gave and no read has taken yet. The end is kept, since it is read only once.
-#[derive(Clone, Copy)]
-enum Delivery {
-    Nothing,
-    Byte(u8),
-    End,
-    Error(ErrorKind),
-}
-
-// A reader on its way to the thread and back.
-#[derive(Drop)]
-struct Loan<I> {
-    input: I,
-    heard: Delivery,
-}
-
-// Waits for one byte. It reads no more, so a reader that has given nothing still has all that it had.
-fn hear<R: Wait, I: Read>(rt: &R, loan: Loan<I>) -> Loan<I> {
-    let Loan {
-        mut input,
-        heard: _,
-    } = loan;
-    let mut byte = [0u8; 1];
-    let heard = match read_waiting(rt, &mut input, &mut byte) {
-        Ok(0) => Delivery::End,
-        Ok(_) => Delivery::Byte(byte[0]),
-        Err(error) => Delivery::Error(error.kind()),
-    };
-    Loan { input, heard }
-}
-
 // The loop of the thread: it waits for a byte of each reader that is lent, until no lender is left.
-fn hear_all<R: Wait + Drop, I: Read + Drop>(rt: R, lent: Receiver<Loan<I>>, give: Sender<Loan<I>>) {
+fn hear_all<R: Wait + Drop, I: Read + Drop, K: InputBytes>(
+    rt: R,
+    lent: Receiver<Loan<I, K>>,
+    give: Sender<Loan<I, K>>,
+) {
     for _ in rt.forever() {
-        let Ok(loan) = lent.recv(&rt) else {
+        let Ok(mut loan) = lent.recv(&rt) else {
             return;
         };
-        if give.send(&rt, hear(&rt, loan)).is_err() {
+        hear(&rt, &mut loan);
+        if give.send(&rt, loan).is_err() {
             return;
         }
     }
@@ -58,78 +37,66 @@ fn hear_all<R: Wait + Drop, I: Read + Drop>(rt: R, lent: Receiver<Loan<I>>, give
 
 // The way to the thread and back.
 #[derive(Drop)]
-struct Helper<I: Drop> {
-    lend: Sender<Loan<I>>,
-    back: Receiver<Loan<I>>,
+struct Helper<I: Read + Drop, K: InputBytes> {
+    lend: Sender<Loan<I, K>>,
+    back: Receiver<Loan<I, K>>,
 }
 
-// Returns what a read of `count` bytes leaves to be heard, given the room that it had. It is the end if the read gave
-// nothing.
-fn heard_by(count: usize, room: usize) -> Delivery
-    ensures end { count ≡ 0 → 0 < room → result ≡ Delivery.End }
+// Returns the reader that came back, if so many bytes of it were given. It is the one that was lent, so they were; but
+// no contract follows a value through a channel.
+fn ours<I: Read + Drop, K: InputBytes>(loan: Loan<I, K>, given: usize) -> Option<Loan<I, K>>
+    ensures { IfSome result (λ loan. loan.given ≡ given) }
 {
-    if count == 0 && room > 0 {
-        Delivery::End
+    if loan.given == given {
+        Some(loan)
     } else {
-        Delivery::Nothing
+        None
     }
 }
 
-// Gives this byte, and what is there after it. After a line feed nothing more is read.
-fn put_first<I: Read>(byte: u8, loan: &mut Loan<I>, buf: &mut [u8]) -> io::Result<usize>
-    ensures bound { ReadsAtMost result buf.new }
-    ensures some { result ≡ Ok 0 → length buf.old ≡ 0 }
+// Returns the reader, if the thread has just brought it back.
+fn brought<R: Wait, I: Read + Drop, K: InputBytes>(
+    rt: &R,
+    helper: &Helper<I, K>,
+    given: usize,
+) -> Option<Loan<I, K>>
+    ensures { IfSome result (λ loan. loan.given ≡ given) }
 {
-    let Some((first, rest)) = buf.split_first_mut() else {
-        return Ok(0);
-    };
-    *first = byte;
-    if byte == b'\n' {
-        return Ok(1);
-    }
-    match loan.input.read(rest) {
-        Ok(more) => {
-            loan.heard = heard_by(more, rest.len());
-            Ok(1 + more)
-        }
-        Err(_) => Ok(1), // The next read meets it again.
+    match helper.back.try_recv(rt) {
+        Ok(loan) => ours(loan, given),
+        Err(_) => None,
     }
 }
 
-// Reads on, and waits if nothing is there.
-fn read_on<R: Wait, I: Read>(rt: &R, loan: &mut Loan<I>, buf: &mut [u8]) -> io::Result<usize>
-    ensures bound { ReadsAtMost result buf.new }
-    ensures ended { result ≡ Ok 0 → 0 < length buf.old → loan.new.heard ≡ Delivery.End }
+// Returns the reader that was just lent, unless the thread waits.
+fn brought_soon<R: Wait, I: Read + Drop, K: InputBytes>(
+    rt: &R,
+    helper: &Helper<I, K>,
+    given: usize,
+) -> Option<Loan<I, K>>
+    ensures { IfSome result (λ loan. loan.given ≡ given) }
 {
-    match read_waiting(rt, &mut loan.input, buf) {
-        Ok(count) => {
-            loan.heard = heard_by(count, buf.len());
-            Ok(count)
+    for _time in 0..PATIENCE {
+        if let Some(loan) = brought(rt, helper, given) {
+            return Some(loan);
         }
-        Err(error) => Err(error),
+        yield_now();
     }
+    None
 }
 
-// Gives what was heard, or reads on. The end is given again without a read.
-fn read_heard<R: Wait, I: Read>(rt: &R, loan: &mut Loan<I>, buf: &mut [u8]) -> io::Result<usize>
-    ensures bound { ReadsAtMost result buf.new }
-    ensures end { loan.old.heard ≡ Delivery.End → (result ≡ Ok 0) × (loan.new ≡ loan.old) }
-    ensures ended { result ≡ Ok 0 → 0 < length buf.old → loan.new.heard ≡ Delivery.End }
+// Lends a reader to the thread. Returns it, unless the thread waits.
+fn left_here<R: Wait, I: Read + Drop, K: InputBytes>(
+    rt: &R,
+    helper: &Helper<I, K>,
+    loan: Loan<I, K>,
+    given: usize,
+) -> Option<Loan<I, K>>
+    ensures { IfSome result (λ loan. loan.given ≡ given) }
 {
-    if buf.is_empty() {
-        return Ok(0);
-    }
-    match loan.heard {
-        Delivery::Nothing => read_on(rt, loan, buf),
-        Delivery::Byte(byte) => {
-            loan.heard = Delivery::Nothing;
-            put_first(byte, loan, buf)
-        }
-        Delivery::End => Ok(0),
-        Delivery::Error(kind) => {
-            loan.heard = Delivery::Nothing;
-            Err(Error::from(kind))
-        }
+    match helper.lend.send(rt, loan) {
+        Ok(()) => brought_soon(rt, helper, given),
+        Err(refused) => ours(refused.into_inner(), given),
     }
 }
 
@@ -137,32 +104,48 @@ fn read_heard<R: Wait, I: Read>(rt: &R, loan: &mut Loan<I>, buf: &mut [u8]) -> i
 /// and has the reader until then. A read waits for the thread, and continues after the byte that it read. A read also
 /// waits if the reader has nothing yet and doesn't wait itself.
 ///
-/// The end of the input is read once; each later read gives it again. The thread keeps no program from ending.
+/// Its bytes are those of the reader, in their order. The end of the input is read once; each later read gives it
+/// again. The thread keeps no program from ending.
 #[derive(Drop)]
-pub struct Listener<R, I: Drop> {
+pub struct Listener<R, I: Read + Drop, K: InputBytes> {
     rt: R,
     // The reader, unless the thread has it.
-    here: Option<Loan<I>>,
-    helper: Option<Helper<I>>,
+    here: Option<Loan<I, K>>,
+    helper: Option<Helper<I, K>>,
+    // How many bytes were given.
+    given: usize,
+    ghost same: { ForSome here (λ loan. loan.given ≡ given) },
 }
 
-impl<R: Threads + Wait + Copy + Drop + Send + 'static, I: Read + Drop + Send + 'static> Listener<
-    R,
-    I,
-> {
+impl<R: Drop, I: Read + Drop, K: InputBytes> Listener<R, I, K> {
+    ghost use Rattle.im_listening.specs.Listening.{still_in};
+
     /// Makes a reader of these bytes. It can't tell whether a read would wait before [`Listener::begin`].
-    pub fn new(rt: R, input: I) -> Listener<R, I> {
-        let heard = Delivery::Nothing;
+    pub fn new(rt: R, input: I) -> Listener<R, I, K>
+        requires whole { HasBytes K.whole (I.remaining input) }
+        ensures { still_in result ≡ K.whole }
+    {
         Listener {
             rt,
-            here: Some(Loan { input, heard }),
+            here: Some(lend_first(input)),
             helper: None,
+            given: 0,
         }
     }
+}
+
+impl<
+    R: Threads + Wait + Copy + Drop + Send + 'static,
+    I: Read + Drop + Send + 'static,
+    K: InputBytes + Send + 'static,
+> Listener<R, I, K> {
+    ghost use Rattle.im_listening.specs.Listening.{still_in};
 
     /// Starts its thread. If there is no memory for the way to it, or the system gives no thread, the reader still
     /// can't tell.
-    pub fn begin(&mut self, alloc: Global) {
+    pub fn begin(&mut self, alloc: Global)
+        ensures { still_in self.new ≡ still_in self.old }
+    {
         let Ok((lend, lent)) = bounded(alloc, 1) else {
             return;
         };
@@ -177,68 +160,58 @@ impl<R: Threads + Wait + Copy + Drop + Send + 'static, I: Read + Drop + Send + '
     }
 }
 
-impl<R: Wait, I: Read + Drop> Listener<R, I> {
+impl<R: Wait, I: Read + Drop, K: InputBytes> Listener<R, I, K> {
     // Returns whether the thread has just brought the reader back.
-    fn is_back(&mut self) -> bool {
+    fn is_back(&mut self) -> bool
+        ensures { self.new.given ≡ self.old.given }
+    {
         let Some(helper) = &self.helper else {
             return false;
         };
-        match helper.back.try_recv(&self.rt) {
-            Ok(loan) => {
-                self.here = Some(loan);
-                true
-            }
-            Err(_) => false,
-        }
+        let Some(loan) = brought(&self.rt, helper, self.given) else {
+            return false;
+        };
+        self.here = Some(loan);
+        true
     }
 
     // Waits until the thread brings the reader back, if it has it.
-    fn take_back(&mut self) {
+    fn take_back(&mut self)
+        ensures { self.new.given ≡ self.old.given }
+    {
         if self.here.is_some() {
             return;
         }
         let Some(helper) = &self.helper else {
             return;
         };
-        if let Ok(loan) = helper.back.recv(&self.rt) {
-            self.here = Some(loan);
-        }
+        let Ok(loan) = helper.back.recv(&self.rt) else {
+            return;
+        };
+        self.here = ours(loan, self.given);
     }
 
-    // Lends the reader to the thread. Returns whether the thread has it now.
-    fn lend(&mut self, loan: Loan<I>) -> bool {
+    // Lends the reader to the thread. Returns whether the thread has it, and waits.
+    fn lend(&mut self, loan: Loan<I, K>) -> bool
+        requires { loan.given ≡ self.old.given }
+        ensures { self.new.given ≡ self.old.given }
+    {
         let Some(helper) = &self.helper else {
             self.here = Some(loan);
             return false;
         };
-        match helper.lend.send(&self.rt, loan) {
-            Ok(()) => true,
-            Err(refused) => {
-                self.here = Some(refused.into_inner());
-                false
-            }
-        }
-    }
-
-    // Returns whether the thread, to which the reader was just lent, waits.
-    fn waits(&mut self) -> bool {
-        for _time in 0..PATIENCE {
-            if self.is_back() {
-                return false;
-            }
-            yield_now();
-        }
-        true
+        self.here = left_here(&self.rt, helper, loan, self.given);
+        self.here.is_none()
     }
 }
 
-impl<R: Wait, I: Read + Drop> Ear for Listener<R, I> {
+impl<R: Wait, I: Read + Drop, K: InputBytes> Ear for Listener<R, I, K> {
     fn is_quiet(&mut self) -> bool {
         match self.here.take() {
             None => !self.is_back(),
             Some(loan) => {
                 if let Delivery::Nothing = loan.heard {
-                    self.lend(loan) && self.waits()
+                    self.lend(loan)
                 } else {
                     self.here = Some(loan);
                     false
@@ -248,12 +221,24 @@ impl<R: Wait, I: Read + Drop> Ear for Listener<R, I> {
     }
 }
 
-impl<R: Wait, I: Read + Drop> Read for Listener<R, I> {
-    fn read(&mut self, buf: &mut [u8]) -> io::Result<usize> {
+impl<R: Wait, I: Read + Drop, K: InputBytes> Read for Listener<R, I, K> {
+    ghost use Rattle.im_listening.specs.Listening.{still_in};
+
+    ghost remaining = { still_in };
+
+    fn read(&mut self, buf: &mut [u8]) -> io::Result<usize>
+        ensures bound { ReadsAtMost result buf.new }
+        ensures bytes { ReadConsumes (still_in self.old) (still_in self.new) result buf.new }
+    {
         self.take_back();
+        if self.given > usize::MAX - buf.len() {
+            return Err(Error::from(ErrorKind::FileTooLarge)); // As many bytes are never read.
+        }
         let Some(loan) = &mut self.here else {
-            return Ok(0); // The thread has ended, and the reader with it.
+            return Err(Error::from(ErrorKind::BrokenPipe)); // The thread has ended, and the reader with it.
         };
-        read_heard(&self.rt, loan, buf)
+        let read = read_heard(&self.rt, loan, buf);
+        self.given = loan.given;
+        read
     }
 }

@@ -1,6 +1,8 @@
+pub mod Places
 pub mod Sources
 pub mod Working
 pub mod Moving
 pub mod Loading
 pub mod Told
 pub mod Traced
+pub mod Prompting

@@ -5,11 +5,13 @@ ghost use Rattle.im_types.specs.Layout.{sizes_of};
 ghost use Rattle.im_image.specs.Reading.{HasSizes};
 ghost use Rattle.im_migration.specs.Migration.{LeavesLaid, moved_header};
 ghost use Rattle.im_dialogue.specs.Backups.{bytes_of};
+ghost use Rattle.im_program.specs.Places.{IsOpenAt};
 
 use crate::descriptors::Descriptors;
 use crate::opening::{format_reason, give_up, reason_of};
+use crate::shelf::Shelf;
 use im_damage::Damage;
-use im_dialogue::{BackupFault, BackupName, Backups, Shelf};
+use im_dialogue::{BackupFault, BackupName, Backups};
 use im_disk::{Disk, FileDisk, Start, Unknown};
 use im_files::make_image;
 use im_image::image_length;
@@ -79,6 +81,7 @@ fn fill<R: Files<File = File> + AllocGlobal, S: Start>(
     original: &Original,
 ) -> Result<FileDisk<S>, Reason>
     requires anew { is_made ≡ true }
+    requires named { IsOpenAt ⟦<FileDisk<S> as Disk>⟧ S.path path.now disk }
     requires sizes { HasSizes (sizes_of original.now.limits) original.now.memory.now.contents }
     requires last { original.now.count ≤ LAST }
     ensures laid { let h = moved_header (sizes_of original.now.limits) original.now.count in IfOk result
@@ -88,7 +91,7 @@ fn fill<R: Files<File = File> + AllocGlobal, S: Start>(
         Ok(disk) => Ok(disk),
         Err((refusal, disk)) => {
             let reason = format_reason(refusal, disk.failure(), is_made);
-            give_up(rt, path, disk, is_made);
+            let _gone = give_up(rt, path, disk, is_made);
             Err(reason)
         }
     }
@@ -111,19 +114,6 @@ fn make_backup<R: Files<File = File> + AllocGlobal, S: Start>(
         Ok((disk, is_made)) => fill(rt, path, disk, is_made, original),
         Err(fault) => Err(Reason::File(reason_of(rt, path, fault))),
     }
-}
-
-// Puts a backup on the shelf, given the disk of its file, which means its memory and its count (`IsLaidDown`).
-fn note<S: Start>(shelf: &mut Shelf, _disk: FileDisk<S>, original: &Original, name: BackupName)
-    requires laid { let h = moved_header (sizes_of original.now.limits) original.now.count in
-        LeavesLaid ⟦<FileDisk<S> as Disk>⟧ _disk h original.now.memory.now.contents }
-    ensures kept { shelf.new.backups ≡ record {
-      name = bytes_of name;
-      memory = original.now.memory.now.contents;
-      count = original.now.count;
-    } ∷ shelf.old.backups }
-{
-    shelf.note(original.memory, original.count, name.as_bytes());
 }
 
 // Makes a backup in a folder, and puts it on the shelf.
@@ -149,7 +139,7 @@ fn keep_in<R: Files<File = File> + AllocGlobal>(
     };
     match make_backup(rt, path.as_str(), original, Unknown) {
         Ok(disk) => {
-            note(shelf, disk, original, name);
+            shelf.keep(disk, original, name);
             Ok(())
         }
         Err(reason) => Err(reason),

@@ -4,13 +4,13 @@ use crate::descriptors::Descriptors;
 use crate::loading::LoadFault;
 use crate::opening::call_of;
 use crate::shown::{EscapedName, folder_of, input_or};
+use crate::watching::print_answer;
 use im_disk::Failure;
 use im_files::Noting;
 use im_migration::MoveNews;
-use im_text::{News, PathFault, Progress, Reason, Waited, make_now};
+use im_text::{News, PathFault, Progress, Reason, Waited};
 use im_types::{Observer, Refusal};
 use im_words::Work;
-use std::alloc::Global;
 use std::fmt::Display;
 use std::io::Eprint;
 
@@ -35,7 +35,6 @@ pub struct Terminals {
 #[derive(Drop)]
 pub struct Console<'a, R> {
     rt: &'a R,
-    alloc: Global,
     held: &'a Descriptors,
     image: &'a str,
     // The second file: a script, or a new file. The first one is then the old file, or the text that is loaded.
@@ -57,7 +56,6 @@ impl<'a, R: Eprint + AllocGlobal> Console<'a, R> {
         let (image, script) = work.paths();
         Console {
             rt,
-            alloc: rt.alloc(),
             held,
             image,
             script,
@@ -204,10 +202,7 @@ impl<'a, R: Eprint + AllocGlobal> Console<'a, R> {
 
     // Prints the answer to a request that waited.
     fn print_answer(&self, waited: Waited) {
-        let mut line = String::new(self.alloc);
-        if make_now(&mut line, Some(waited)).is_ok() {
-            let _printed = self.rt.eprint(line.as_str());
-        }
+        print_answer(self.rt, waited)
     }
 
     // Prints how far the work has come, now and then, if a person watches.

@@ -4,6 +4,7 @@ ghost use Rattle.std.specs.Io.KnownBytes.{Keeps};
 ghost use Rattle.im_disk.specs.Runs.{ReadsAlone};
 ghost use Rattle.im_migration.specs.Copying.{MayRefuseCopy, MayRefuseSource};
 ghost use Rattle.im_program.specs.Moving.{CopiedFrom};
+ghost use Rattle.im_program.specs.Places.{IsOpenAt};
 
 use crate::hand::AtHand;
 use crate::moving::{place_at, print_counted, source_at};
@@ -86,6 +87,8 @@ pub fn copy_file<
     ensures status { IfOk result (λ r. r.0 ≤ 1) }
     ensures copied { IfOk result (λ r.
         CopiedFrom S.Start T.Start copying.now.asked (W.contents out.old) (W.contents out.new) r.0 r.2 r.1) }
+    ensures named { IfOk result (λ r. IsOpenAt ⟦<FileDisk<S> as Disk>⟧ S.path copying.now.new.now r.1) }
+    ensures old { IfOk result (λ r. IsOpenAt ⟦<FileDisk<T> as Disk>⟧ T.path copying.now.old.now r.2) }
     ensures refused { IfErr result (λ refusal. MayRefuseCopy refusal) }
     ensures same { OnErr result (Keeps (W.contents out.old) (W.contents out.new)) }
 {
@@ -102,7 +105,7 @@ pub fn copy_file<
         }
         Err((refusal, to)) => {
             let reason = reason_for(refusal, to.failure(), from.failure());
-            give_up(rt, new, to, is_made);
+            let _gone = give_up(rt, new, to, is_made);
             observer.tell(News::Refused(reason));
             Err(refusal)
         }

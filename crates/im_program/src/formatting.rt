@@ -3,6 +3,7 @@ ghost use Rattle.std.specs.Prelude.{◌≡◌, ◌⊎◌, ◌≤◌, ◌↔◌, 
 ghost use Rattle.im_types.specs.declared.refusals.Refusal.TheVariants.{Device, NoMemory, WrongLength};
 ghost use Rattle.im_types.specs.Layout.{sizes_of};
 ghost use Rattle.im_types.specs.Sizes.{AreLimits};
+ghost use Rattle.im_program.specs.Places.{IsOpenAt};
 ghost use Rattle.im_program.specs.Working.{WasFormatted, WasMade};
 
 use crate::hand::AtHand;
@@ -59,6 +60,7 @@ pub fn format_file<R: Files<File = File> + AllocGlobal, S: Start, I, N: Observer
     start: S,
 ) -> Result<FileDisk<S>, Refusal>
     ensures made { IfOk result (λ disk. WasMade ⟦<FileDisk<S> as Disk>⟧ (sizes_of limits) disk) }
+    ensures named { IfOk result (λ disk. IsOpenAt ⟦<FileDisk<S> as Disk>⟧ S.path image.now disk) }
     ensures refused { IfErr result (λ refusal. (refusal ≡ WrongLength) ⊎ (refusal ≡ NoMemory) ⊎ (refusal ≡ Device)) }
 {
     let (rt, _held, _input, observer) = hand.parts();
@@ -70,7 +72,7 @@ pub fn format_file<R: Files<File = File> + AllocGlobal, S: Start, I, N: Observer
         Ok(engine) => Ok(engine.close()),
         Err((refusal, disk)) => {
             let reason = format_reason(refusal, disk.failure(), is_made);
-            give_up(rt, image, disk, is_made);
+            let _gone = give_up(rt, image, disk, is_made);
             observer.tell(News::Refused(reason));
             Err(refusal)
         }
@@ -104,6 +106,7 @@ pub(crate) fn format_image<R: Files<File = File> + AllocGlobal, S: Start, I, N: 
     ensures limits { IfOk result (λ _. AreLimits formatting.now.cells formatting.now.elements formatting.now.slots) }
     ensures made { IfOk result (λ r. WasFormatted ⟦<FileDisk<S> as Disk>⟧ formatting.now.cells formatting.now.elements
         formatting.now.slots r.0 r.1) }
+    ensures named { IfOk result (λ r. IsOpenAt ⟦<FileDisk<S> as Disk>⟧ S.path formatting.now.image.now r.1) }
 {
     let limits = limits_asked(formatting, &mut *hand.observer)?;
     let disk = format_file(hand, formatting.image, limits, formatting.is_new, start)?;

@@ -1,6 +1,7 @@
 //! Does the work of one thread on one file.
 ghost use Rattle.std.specs.Prelude.{◌≡◌, ◌⊎◌, ◌≤◌, IfOk, IfSome, IfNone};
 ghost use Rattle.im_words.specs.Words.{task_of_job};
+ghost use Rattle.im_program.specs.Places.{IsOpenAt, file_of};
 ghost use Rattle.im_program.specs.Working.{MakesImage, WasDone};
 
 use crate::backups::Folder;
@@ -12,10 +13,11 @@ use crate::loading::{LoadFault, load_file};
 use crate::looking::inspect_file;
 use crate::overwriting::may_be_made;
 use crate::serving::serve_file;
+use crate::settling::{settle_if, settle_new};
 use crate::talking::talk_file;
 use crate::work::refuse;
 use im_disk::{Disk, FileDisk, Start};
-use im_files::{Noting, note_failed_sync};
+use im_files::Noting;
 use im_listening::Ear;
 use im_migration::MoveNews;
 use im_text::{News, PathFault, Reason};
@@ -36,6 +38,7 @@ fn do_job<
     ensures status { IfOk result (λ r. r.0 ≤ 1) }
     ensures done { IfOk result (λ r. WasDone ⟦<FileDisk<S> as Disk>⟧ S.first (I.remaining hand.entry.input.now)
         (task_of_job job.now) (W.contents out.old) (W.contents out.new) r.0 r.1) }
+    ensures named { IfOk result (λ r. IsOpenAt ⟦<FileDisk<S> as Disk>⟧ S.path (file_of (task_of_job job.now)) r.1) }
 {
     match *job {
         Job::Format(formatting) => format_image(hand, &formatting, start),
@@ -75,32 +78,37 @@ fn may_do<R: Files<File = File> + AllocGlobal + Eprint, I: BufRead>(
     }
 }
 
-// Prints which call on the image's disk failed, if a disk was opened. Leaves a note if a sync failed. A file that is
+// The path of the file that the job works on.
+fn path_of<'a>(job: &Job<'a>) -> &'a str
+    ensures { result.now ≡ file_of (task_of_job job.now) }
+{
+    match *job {
+        Job::Format(formatting) => formatting.image,
+        Job::Serial(serving) => serving.image,
+        Job::Serve(talking) => talking.image,
+        Job::Inspect { image, .. } => image,
+        Job::Dump { image } => image,
+        Job::Load(loading) => loading.new,
+    }
+}
+
+// Prints which call on the job's disk failed, if a disk was opened. Leaves a note if a sync failed. A file that is
 // loaded is a new one.
 fn settle_job<R: Files<File = File> + AllocGlobal + Eprint, S: Start>(
     rt: &R,
     job: &Job,
     disk: &Option<FileDisk<S>>,
     console: &mut Console<'_, R>,
-) {
-    if let (Job::Load(loading), Some(disk)) = (job, disk) {
-        console.settle_new(disk.failure(), note_failed_sync(rt, loading.new, disk));
-        console.settle(None, Noting::Unneeded);
-    } else {
-        settle(rt, job.paths().0, disk, console);
-    }
-}
-
-/// Prints which call on the image's disk failed, if a disk was opened. Leaves a note if a sync failed.
-pub(crate) fn settle<R: Files<File = File> + AllocGlobal + Eprint, S: Start>(
-    rt: &R,
-    image: &str,
-    disk: &Option<FileDisk<S>>,
-    console: &mut Console<'_, R>,
-) {
-    match disk {
-        Some(disk) => console.settle(disk.failure(), note_failed_sync(rt, image, disk)),
-        None => console.settle(None, Noting::Unneeded),
+)
+    requires named { IfSome disk.now (λ it. IsOpenAt ⟦<FileDisk<S> as Disk>⟧ S.path (file_of (task_of_job job.now)) it) }
+{
+    let path = path_of(job);
+    match (job, disk) {
+        (Job::Load(_), Some(disk)) => {
+            settle_new(rt, path, disk, console);
+            console.settle(None, Noting::Unneeded);
+        }
+        _ => settle_if(rt, path, disk, console),
     }
 }
 
@@ -115,6 +123,7 @@ fn work_alone<
     ensures status { result.0 ≤ 1 }
     ensures done { IfSome result.1 (λ disk. WasDone ⟦<FileDisk<S> as Disk>⟧ S.first (I.remaining hand.entry.input.now)
         (task_of_job job.now) (W.contents out.old) (W.contents out.new) result.0 disk) }
+    ensures named { IfSome result.1 (λ disk. IsOpenAt ⟦<FileDisk<S> as Disk>⟧ S.path (file_of (task_of_job job.now)) disk) }
     ensures none { IfNone result.1 (result.0 ≡ 1) }
 {
     let alloc = hand.rt.alloc();
@@ -158,6 +167,7 @@ pub fn act_alone<
     ensures status { result.0 ≤ 1 }
     ensures done { IfSome result.1 (λ disk. WasDone ⟦<FileDisk<S> as Disk>⟧ S.first (I.remaining hand.entry.input.now)
         (task_of_job job.now) (W.contents out.old) (W.contents out.new) result.0 disk) }
+    ensures named { IfSome result.1 (λ disk. IsOpenAt ⟦<FileDisk<S> as Disk>⟧ S.path (file_of (task_of_job job.now)) disk) }
     ensures none { IfNone result.1 (result.0 ≡ 1) }
 {
     let (rt, held, input, console) = hand.parts();

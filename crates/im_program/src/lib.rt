@@ -20,6 +20,8 @@ mod prompting;
 mod running;
 mod scripts;
 mod serving;
+mod settling;
+mod shelf;
 mod shown;
 mod statuses;
 mod talking;

@@ -6,6 +6,7 @@ ghost use Rattle.im_dump.specs.Dumping.{IsDumpOf};
 ghost use Rattle.im_migration.specs.Copying.{IsWhole};
 ghost use Rattle.im_migration.specs.Migration.{MayRefusePlace};
 ghost use Rattle.im_program.specs.Loading.{IsReadied, IsPutInto, MayRefuseLoad, MayRefuseText};
+ghost use Rattle.im_program.specs.Places.{IsOpenAt};
 ghost use Rattle.im_program.specs.Sources.{IsTextOf, bytes_at};
 ghost use Rattle.im_program.specs.Working.{WasLoaded};
 
@@ -152,6 +153,7 @@ fn put_file<R: Files<File = File> + AllocGlobal, S: Start, V: Observer<News> + O
 ) -> Result<FileDisk<S>, Refusal>
     requires { IsWhole resized.now }
     ensures put { IfOk result (λ to. IsPutInto S.Start resized.now to) }
+    ensures named { IfOk result (λ to. IsOpenAt ⟦<FileDisk<S> as Disk>⟧ S.path path.now to) }
     ensures refused { IfErr result (λ e. MayRefusePlace e) }
 {
     let length = image_length(resized.header.limits);
@@ -163,7 +165,7 @@ fn put_file<R: Files<File = File> + AllocGlobal, S: Start, V: Observer<News> + O
                 Some(failure) => Reason::NewCall(call_of(failure)),
                 None => Reason::New(refusal),
             };
-            give_up(rt, path, to, is_made);
+            let _gone = give_up(rt, path, to, is_made);
             observer.tell(News::Refused(reason));
             Err(refusal)
         }
@@ -204,6 +206,7 @@ pub fn load_file<
     ensures status { IfOk result (λ r. r.0 ≤ 1) }
     ensures loaded { IfOk result (λ r. WasLoaded ⟦<FileDisk<S> as Disk>⟧ S.first loading.now
         (I.remaining hand.entry.input.now) (W.contents out.old) (W.contents out.new) r.0 r.1) }
+    ensures named { IfOk result (λ r. IsOpenAt ⟦<FileDisk<S> as Disk>⟧ S.path loading.now.new.now r.1) }
     ensures refused { IfErr result (λ e. MayRefuseLoad e) }
     ensures same { OnErr result (Keeps (W.contents out.old) (W.contents out.new)) }
 {

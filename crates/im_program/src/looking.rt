@@ -4,6 +4,7 @@ ghost use Rattle.std.specs.Io.KnownBytes.{Keeps};
 ghost use Rattle.im_types.specs.declared.refusals.Refusal.TheVariants.{Device};
 ghost use Rattle.im_disk.specs.Since.{ReadsOnly};
 ghost use Rattle.im_report.specs.Look.{ShowsView};
+ghost use Rattle.im_program.specs.Places.{IsOpenAt};
 
 use crate::hand::AtHand;
 use crate::opening::{refusal_of, warn};
@@ -40,6 +41,7 @@ pub fn inspect_file<R: Files<File = File> + AllocGlobal, S: Start, I, W: Write, 
         ShowsView look.now S.first.bytes (W.contents out.old) (W.contents out.new)) }
     ensures reads { IfOk result (λ r. ⟦<FileDisk<S> as Disk>⟧.honest r.1 →
         ReadsOnly S.first (⟦<FileDisk<S> as Disk>⟧.now r.1) [] (⟦<FileDisk<S> as Disk>⟧.past r.1)) }
+    ensures named { IfOk result (λ r. IsOpenAt ⟦<FileDisk<S> as Disk>⟧ S.path image.now r.1) }
     ensures refused { IfErr result (λ refusal. refusal ≡ Device) }
     ensures same { OnErr result (Keeps (W.contents out.old) (W.contents out.new)) }
 {

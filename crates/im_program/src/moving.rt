@@ -7,6 +7,7 @@ ghost use Rattle.im_disk.specs.Since.{LeavesNow};
 ghost use Rattle.im_disk.specs.Runs.{ReadsAlone};
 ghost use Rattle.im_image.specs.Headers.{MayRefuseImage};
 ghost use Rattle.im_migration.specs.Migration.{LeavesBlankOrSame, MeansSame};
+ghost use Rattle.im_program.specs.Places.{IsOpenAt};
 ghost use Rattle.im_program.specs.Moving.{BeginsNew, BeginsOld, MigratedFrom, TellsCount, counted_line};
 
 use crate::hand::AtHand;
@@ -127,6 +128,7 @@ fn new_file<R: Files<File = File> + AllocGlobal, S: Start>(
     start: S,
 ) -> Result<(FileDisk<S>, bool), FileFault>
     ensures found { IfOk result (λ r. BeginsNew S.Start len r.0) }
+    ensures named { IfOk result (λ r. IsOpenAt ⟦<FileDisk<S> as Disk>⟧ S.path path.now r.0) }
 {
     match fs::metadata(rt, path) {
         Err(error) if error.kind() == ErrorKind::NotFound => {
@@ -152,6 +154,7 @@ pub(crate) fn place_at<R: Files<File = File> + AllocGlobal, S: Start, V: Observe
     start: S,
 ) -> Result<(FileDisk<S>, bool), Refusal>
     ensures found { IfOk result (λ r. BeginsNew S.Start len r.0) }
+    ensures named { IfOk result (λ r. IsOpenAt ⟦<FileDisk<S> as Disk>⟧ S.path path.now r.0) }
     ensures refused { IfErr result (λ e. e ≡ Device) }
 {
     match new_file(rt, path, len, start) {
@@ -172,6 +175,7 @@ pub(crate) fn source_at<R: Files<File = File> + AllocGlobal, T: Start, V: Observ
     other: T,
 ) -> Result<FileDisk<T>, Refusal>
     ensures found { IfOk result (λ from. BeginsOld T.Start from) }
+    ensures named { IfOk result (λ from. IsOpenAt ⟦<FileDisk<T> as Disk>⟧ T.path old.now from) }
     ensures refused { IfErr result (λ e. e ≡ Device) }
 {
     if is_one_file(rt, old, new) {
@@ -222,6 +226,8 @@ pub fn migrate_file<
     ensures status { IfOk result (λ r. r.0 ≤ 1) }
     ensures moved { IfOk result (λ r.
         MigratedFrom S.Start T.Start (W.contents out.old) (W.contents out.new) r.0 r.2 r.1) }
+    ensures named { IfOk result (λ r. IsOpenAt ⟦<FileDisk<S> as Disk>⟧ S.path paths.now.new.now r.1) }
+    ensures old { IfOk result (λ r. IsOpenAt ⟦<FileDisk<T> as Disk>⟧ T.path paths.now.old.now r.2) }
     ensures refused { IfErr result (λ refusal. MayRefuseImage refusal) }
     ensures same { OnErr result (Keeps (W.contents out.old) (W.contents out.new)) }
 {

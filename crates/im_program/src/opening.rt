@@ -1,6 +1,9 @@
 //! Why a file wasn't made, opened or written, in the words for a person; and how it is given up.
-ghost use Rattle.std.specs.Prelude.{◌≡◌, [], IfOk, IfErr};
+ghost use Rattle.std.specs.Prelude.{◌≡◌, [], false, not, IfOk, IfErr};
 ghost use Rattle.im_types.specs.declared.refusals.Refusal.{Refusal};
+ghost use Rattle.im_disk.specs.File.{has_failed_sync};
+ghost use Rattle.im_files.specs.Notes.{is_unneeded};
+ghost use Rattle.im_program.specs.Places.{IsOpenAt};
 
 use im_damage::Damage;
 use im_disk::{Disk, Failure, FileDisk, OpenFault, Start};
@@ -108,6 +111,7 @@ pub(crate) fn image_at<R: Files<File = File> + AllocGlobal, S: Start, N: Observe
 ) -> Result<FileDisk<S>, Refusal>
     ensures now { IfOk result (λ disk. ⟦<FileDisk<S> as Disk>⟧.now disk ≡ S.first) }
     ensures past { IfOk result (λ disk. ⟦<FileDisk<S> as Disk>⟧.past disk ≡ []) }
+    ensures named { IfOk result (λ disk. IsOpenAt ⟦<FileDisk<S> as Disk>⟧ S.path image.now disk) }
     ensures refused { IfErr result (λ refusal. refusal ≡ Refusal.Device) }
 {
     match open_image(rt, image, start) {
@@ -116,20 +120,33 @@ pub(crate) fn image_at<R: Files<File = File> + AllocGlobal, S: Start, N: Observe
     }
 }
 
+/// Leaves a note beside a file, at the path at which it was opened, if a sync of it has failed.
+pub(crate) fn note_beside<R: Files<File = File> + AllocGlobal, S: Start>(
+    rt: &R,
+    path: &str,
+    disk: &FileDisk<S>,
+) -> Noting
+    requires named { IsOpenAt ⟦<FileDisk<S> as Disk>⟧ S.path path.now disk.now }
+    ensures needed { is_unneeded result ≡ not (has_failed_sync S.Start disk.now) }
+{
+    note_failed_sync(rt, path, disk)
+}
+
 /// Removes a file that was made and holds no image or a torn one. A file that existed before stays. If a sync of it
-/// failed, a note is left.
+/// failed, a note is left. Returns whether the file is gone.
 pub(crate) fn give_up<R: Files<File = File> + AllocGlobal, S: Start>(
     rt: &R,
     image: &str,
     disk: FileDisk<S>,
     is_made: bool,
-) {
-    let _noted = if is_made {
-        Noting::Unneeded
-    } else {
-        note_failed_sync(rt, image, &disk)
-    };
-    let _removed = remove_image(rt, image, disk, is_made);
+) -> bool
+    requires named { IsOpenAt ⟦<FileDisk<S> as Disk>⟧ S.path image.now disk }
+    ensures same { is_made ≡ false → result ≡ false }
+{
+    if !is_made {
+        let _noted = note_beside(rt, image, &disk);
+    }
+    remove_image(rt, image, disk, is_made)
 }
 
 /// Warns about a file that is read although a note of this boot is beside it.

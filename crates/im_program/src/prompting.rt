@@ -1,4 +1,5 @@
 //! The prompt of a dialogue at a terminal.
+ghost use Rattle.std.specs.Prelude.{◌≡◌};
 
 use im_dialogue::read_asked;
 use im_listening::Ear;
@@ -6,7 +7,7 @@ use std::alloc::Global;
 use std::io::{self, Eprint, Read};
 
 /// A reader at a terminal. Before each read a person is shown a prompt, and is told which word helps at the first line
-/// that asks for nothing. If nobody is there, it only reads.
+/// that asks for nothing. If nobody is there, it only reads. Its bytes are those of the reader below.
 #[derive(Drop)]
 pub struct Prompter<'a, R, I: Drop> {
     rt: &'a R,
@@ -35,8 +36,12 @@ fn asks(alloc: Global, line: &[u8]) -> bool {
 }
 
 impl<'a, R: Eprint + AllocGlobal, I: Read + Drop> Prompter<'a, R, I> {
+    ghost use Rattle.im_program.specs.Prompting.{prompted};
+
     /// Makes a reader that shows its prompt if `is_watched`.
-    pub fn new(rt: &'a R, input: I, is_watched: bool) -> Prompter<'a, R, I> {
+    pub fn new(rt: &'a R, input: I, is_watched: bool) -> Prompter<'a, R, I>
+        ensures { prompted result ≡ input }
+    {
         Prompter {
             rt,
             alloc: rt.alloc(),
@@ -48,7 +53,9 @@ impl<'a, R: Eprint + AllocGlobal, I: Read + Drop> Prompter<'a, R, I> {
 
     // Looks at what a person typed. The end of the input ends the prompt's line. A line that asks for nothing is the
     // occasion to tell which word helps, once.
-    fn look_at(&mut self, typed: &[u8]) {
+    fn look_at(&mut self, typed: &[u8])
+        ensures { prompted self.new ≡ prompted self.old }
+    {
         if typed.is_empty() {
             let _printed = self.rt.eprintln("");
         } else if !self.was_told && !asks(self.alloc, first_line(typed)) {
@@ -59,6 +66,10 @@ impl<'a, R: Eprint + AllocGlobal, I: Read + Drop> Prompter<'a, R, I> {
 }
 
 impl<R: Eprint + AllocGlobal, I: Read + Drop> Read for Prompter<'_, R, I> {
+    ghost use Rattle.im_program.specs.Prompting.{prompted};
+
+    ghost remaining = { λ prompter. I.remaining (prompted prompter) };
+
     fn read(&mut self, buf: &mut [u8]) -> io::Result<usize> {
         if !self.is_watched {
             return self.input.read(buf);

@@ -2,19 +2,20 @@
 ghost use Rattle.std.specs.Prelude.{◌≡◌, ◌⊎◌, ◌≤◌, IfOk, IfErr, OnErr, IfSome, IfNone, IsSome, is_some, true};
 ghost use Rattle.std.specs.Io.KnownBytes.{Keeps};
 ghost use Rattle.im_types.specs.declared.refusals.Refusal.TheVariants.{BadScript, Device, NoMemory};
+ghost use Rattle.im_program.specs.Places.{IsOpenAt};
 ghost use Rattle.im_program.specs.Working.{RanAs, WasRun};
 
 use crate::console::Console;
 use crate::hand::AtHand;
-use crate::jobs::settle;
 use crate::opening::image_at;
 use crate::scripts::{read_file, script_in};
+use crate::settling::settle_if;
 use crate::tracing::{keep_trace, make_file_if};
 use crate::watching::Watch;
 use crate::work::refuse;
 use im_disk::{Disk, FileDisk, Start};
 use im_run::{Assignment, RunContext, RunMode, STALLED, Trace, run_on, run_once_on};
-use im_serving::{Open, Standing};
+use im_serving::{Open, Standing, Teller};
 use im_text::News;
 use im_types::{Observer, Refusal};
 use im_words::ScriptRun;
@@ -58,7 +59,7 @@ fn mode_of(running: &ScriptRun) -> RunMode
 pub fn run_file<
     R: Files<File = File> + AllocGlobal + Threads + Wait + Sync,
     S: Start + Send,
-    V: Observer<Standing> + Copy + Send,
+    V: Observer<Standing> + Teller + Copy + Send,
     I: Read,
     W: Write,
     N: Observer<News>,
@@ -72,6 +73,7 @@ pub fn run_file<
     ensures status { IfOk result (λ r. (r.0 ≤ 1) ⊎ (r.0 ≡ STALLED)) }
     ensures ran { IfOk result (λ r. RanAs ⟦<FileDisk<S> as Disk>⟧ S.first running.now
         (I.remaining hand.entry.input.now) (W.contents out.old) (W.contents out.new) r.2 r.0 r.1) }
+    ensures named { IfOk result (λ r. IsOpenAt ⟦<FileDisk<S> as Disk>⟧ S.path running.now.image.now r.1) }
     ensures recorded { IfOk result (λ r. is_some running.now.trace ≡ true → r.2.recorded ≡ true) }
     ensures refused { IfErr result (λ refusal. (refusal ≡ BadScript) ⊎ (refusal ≡ NoMemory) ⊎ (refusal ≡ Device)) }
     ensures same { OnErr result (Keeps (W.contents out.old) (W.contents out.new)) }
@@ -96,7 +98,7 @@ pub fn run_file<
 fn run_at_once<
     R: Files<File = File> + AllocGlobal + Threads + Wait + Sync,
     S: Start + Send,
-    V: Observer<Standing> + Copy + Send,
+    V: Observer<Standing> + Teller + Copy + Send,
     I: Read,
     W: Write,
     N: Observer<News>,
@@ -110,6 +112,7 @@ fn run_at_once<
     ensures status { (result.0 ≤ 1) ⊎ (result.0 ≡ STALLED) }
     ensures ran { IfSome result.1 (λ disk. IfSome result.2 (λ trace. RanAs ⟦<FileDisk<S> as Disk>⟧ S.first running.now
         (I.remaining hand.entry.input.now) (W.contents out.old) (W.contents out.new) trace result.0 disk)) }
+    ensures named { IfSome result.1 (λ disk. IsOpenAt ⟦<FileDisk<S> as Disk>⟧ S.path running.now.image.now disk) }
     ensures recorded { IfSome result.2 (λ trace. is_some running.now.trace ≡ true → trace.recorded ≡ true) }
     ensures none { IfNone result.1 (result.0 ≡ 1) }
     ensures both { IfSome result.1 (λ _. IsSome result.2) }
@@ -138,6 +141,7 @@ pub(crate) fn act_at_once<
     ensures status { (result.0 ≤ 1) ⊎ (result.0 ≡ STALLED) }
     ensures ran { IfSome result.1 (λ disk. WasRun ⟦<FileDisk<S> as Disk>⟧ S.first running.now
         (I.remaining hand.entry.input.now) (W.contents out.old) (W.contents out.new) result.0 disk) }
+    ensures named { IfSome result.1 (λ disk. IsOpenAt ⟦<FileDisk<S> as Disk>⟧ S.path running.now.image.now disk) }
     ensures none { IfNone result.1 (result.0 ≡ 1) }
 {
     let (rt, held, input, console) = hand.parts();
@@ -154,6 +158,6 @@ pub(crate) fn act_at_once<
     };
     let (status, disk, run) = run_at_once(inner, running, watch, out, start);
     keep_trace(rt, file, run, objects, console);
-    settle(rt, running.image, &disk, console);
+    settle_if(rt, running.image, &disk, console);
     (status, disk)
 }

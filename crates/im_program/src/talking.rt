@@ -4,6 +4,7 @@ ghost use Rattle.std.specs.Io.KnownBytes.{Keeps};
 ghost use Rattle.im_types.specs.declared.refusals.Refusal.TheVariants.{Device};
 ghost use Rattle.im_dialogue.specs.Dialogue.{TalkUnopened, Talked, TalkedFrom};
 ghost use Rattle.im_dialogue.specs.Talk.{outputs};
+ghost use Rattle.im_program.specs.Places.{IsOpenAt};
 ghost use Rattle.im_program.specs.Working.{WasTalked};
 
 use crate::hand::AtHand;
@@ -47,6 +48,7 @@ pub fn talk_file<
     ensures talked { WasTalked ⟦<FileDisk<S> as Disk>⟧ S.first talking.now
         (I.remaining hand.entry.input.now) (outputs (W.contents out.old) (B.kept backups.old))
         (outputs (W.contents out.new) (B.kept backups.new)) result }
+    ensures named { IfOk result (λ r. IsOpenAt ⟦<FileDisk<S> as Disk>⟧ S.path talking.now.image.now r.1) }
     ensures refused { IfErr result (λ refusal. refusal ≡ Device) }
     ensures same { OnErr result (Keeps (W.contents out.old) (W.contents out.new)) }
     ensures kept { OnErr result (B.kept backups.new ≡ B.kept backups.old) }

@@ -1,8 +1,8 @@
 //! Does the work, and tells its lines as the command line asks.
 ghost use Rattle.std.specs.Prelude.{◌≡◌, ◌⊎◌, ◌≤◌, [], IfSome, IfNone, if◌then◌else◌};
+ghost use Rattle.im_program.specs.Places.{IsOldOf, IsOpenAt, file_of};
 ghost use Rattle.im_program.specs.Told.{DoneTold, MovedTold};
 ghost use Rattle.im_words.specs.Words.{demonstration, task_of_work};
-ghost use Rattle.im_program.specs.Working.{IsOfTwo};
 
 use crate::console::Console;
 use crate::hand::AtHand;
@@ -47,7 +47,9 @@ fn act_sieved<
         (task_of_work line.now.work) K.telling K.start (W.contents result.1) result.0 result.2 }
     ensures moved { MovedTold S.Start T.Start (task_of_work line.now.work) K.telling
         K.start (W.contents result.1) result.0 result.3 result.2 }
-    ensures other { IfSome result.3 (λ _. IsOfTwo (task_of_work line.now.work)) }
+    ensures named { IfSome result.2 (λ disk.
+        IsOpenAt ⟦<FileDisk<S> as Disk>⟧ S.path (file_of (task_of_work line.now.work)) disk) }
+    ensures other { IfSome result.3 (λ old. IsOldOf ⟦<FileDisk<T> as Disk>⟧ T.path (task_of_work line.now.work) old) }
     ensures none { IfNone result.2 ((task_of_work line.now.work ≡ demonstration) ⊎ (result.0 ≡ 1)) }
 {
     let mut out = sieve;
@@ -76,7 +78,9 @@ fn act_plainly<
         (task_of_work line.now.work) Telling.Plain K.start (W.contents result.1) result.0 result.2 }
     ensures moved { MovedTold S.Start T.Start (task_of_work line.now.work) Telling.Plain
         K.start (W.contents result.1) result.0 result.3 result.2 }
-    ensures other { IfSome result.3 (λ _. IsOfTwo (task_of_work line.now.work)) }
+    ensures named { IfSome result.2 (λ disk.
+        IsOpenAt ⟦<FileDisk<S> as Disk>⟧ S.path (file_of (task_of_work line.now.work)) disk) }
+    ensures other { IfSome result.3 (λ old. IsOldOf ⟦<FileDisk<T> as Disk>⟧ T.path (task_of_work line.now.work) old) }
     ensures none { IfNone result.2 ((task_of_work line.now.work ≡ demonstration) ⊎ (result.0 ≡ 1)) }
 {
     let mut out: Relay<W, K> = Relay::new(out);
@@ -106,7 +110,9 @@ fn act_with<
         (task_of_work line.now.work) K.telling K.start (W.contents result.1) result.0 result.2 }
     ensures moved { MovedTold S.Start T.Start (task_of_work line.now.work) K.telling
         K.start (W.contents result.1) result.0 result.3 result.2 }
-    ensures other { IfSome result.3 (λ _. IsOfTwo (task_of_work line.now.work)) }
+    ensures named { IfSome result.2 (λ disk.
+        IsOpenAt ⟦<FileDisk<S> as Disk>⟧ S.path (file_of (task_of_work line.now.work)) disk) }
+    ensures other { IfSome result.3 (λ old. IsOldOf ⟦<FileDisk<T> as Disk>⟧ T.path (task_of_work line.now.work) old) }
     ensures none { IfNone result.2 ((task_of_work line.now.work ≡ demonstration) ⊎ (result.0 ≡ 1)) }
 {
     let alloc = hand.rt.alloc();
@@ -146,7 +152,9 @@ pub fn act_told<
         (task_of_work line.now.work) line.now.telling (W.contents out) (W.contents result.1) result.0 result.2 }
     ensures moved { MovedTold S.Start T.Start (task_of_work line.now.work) line.now.telling
         (W.contents out) (W.contents result.1) result.0 result.3 result.2 }
-    ensures other { IfSome result.3 (λ _. IsOfTwo (task_of_work line.now.work)) }
+    ensures named { IfSome result.2 (λ disk.
+        IsOpenAt ⟦<FileDisk<S> as Disk>⟧ S.path (file_of (task_of_work line.now.work)) disk) }
+    ensures other { IfSome result.3 (λ old. IsOldOf ⟦<FileDisk<T> as Disk>⟧ T.path (task_of_work line.now.work) old) }
     ensures none { IfNone result.2 ((task_of_work line.now.work ≡ demonstration) ⊎ (result.0 ≡ 1)) }
 {
     match line.telling {

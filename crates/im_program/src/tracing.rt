@@ -1,5 +1,6 @@
 //! The file of a run's trace.
 ghost use Rattle.std.specs.Prelude.{◌≡◌, [], OnOk, IsOk, true};
+ghost use Rattle.std.specs.Fs.{asks_create_new};
 ghost use Rattle.im_program.specs.Traced.{BeginsTraced, WritesTraced};
 
 use crate::console::Console;
@@ -98,6 +99,16 @@ fn fault_of<R: Files<File = File>>(rt: &R, path: &str, kind: ErrorKind) -> PathF
     }
 }
 
+// The options for opening a file that has to be new.
+fn anew() -> OpenOptions
+    ensures { asks_create_new result ≡ true }
+{
+    let mut options = OpenOptions::new();
+    options.write(true);
+    options.create_new(true);
+    options
+}
+
 // Makes the new file that a trace is to be written to. Returns `Device`, and tells the person why, if something is at
 // the path already or a call of the system fails.
 fn make_file<R: Files<File = File> + AllocGlobal + Eprint>(
@@ -106,11 +117,7 @@ fn make_file<R: Files<File = File> + AllocGlobal + Eprint>(
     path: &str,
     console: &mut Console<'_, R>,
 ) -> Result<File, Refusal> {
-    match OpenOptions::new()
-        .write(true)
-        .create_new(true)
-        .open(rt, path)
-    {
+    match anew().open(rt, path) {
         Ok(file) => Ok(file),
         Err(error) => {
             console.refuse_trace(path, Reason::File(fault_of(rt, path, error.kind())));

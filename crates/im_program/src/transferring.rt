@@ -1,15 +1,17 @@
 //! Gives a new file what an old one means.
 ghost use Rattle.std.specs.Prelude.{◌≡◌, ◌≤◌, IfOk, IfSome, IfNone};
 ghost use Rattle.im_words.specs.Words.{task_of_transfer};
+ghost use Rattle.im_program.specs.Places.{IsOpenAt, file_of, old_file_of};
 ghost use Rattle.im_program.specs.Working.{HasMoved, MovedBy};
 
 use crate::console::Console;
 use crate::copying::copy_file;
 use crate::hand::AtHand;
 use crate::moving::migrate_file;
+use crate::settling::settle_new;
 use crate::work::refuse;
-use im_disk::{FileDisk, Start};
-use im_files::{Noting, note_failed_sync};
+use im_disk::{Disk, FileDisk, Start};
+use im_files::Noting;
 use im_migration::MoveNews;
 use im_text::News;
 use im_types::{Observer, Refusal};
@@ -35,6 +37,10 @@ fn transfer_file<
     ensures status { IfOk result (λ r. r.0 ≤ 1) }
     ensures moved { IfOk result (λ r. MovedBy S.Start T.Start (task_of_transfer transfer.now)
         (W.contents out.old) (W.contents out.new) r.0 r.2 r.1) }
+    ensures named { IfOk result (λ r.
+        IsOpenAt ⟦<FileDisk<S> as Disk>⟧ S.path (file_of (task_of_transfer transfer.now)) r.1) }
+    ensures old { IfOk result (λ r.
+        IsOpenAt ⟦<FileDisk<T> as Disk>⟧ T.path (old_file_of (task_of_transfer transfer.now)) r.2) }
 {
     match *transfer {
         Transfer::Migrate(paths) => migrate_file(hand, &paths, out, starts),
@@ -42,16 +48,14 @@ fn transfer_file<
     }
 }
 
-// Prints which call on the two files failed. Leaves a note if a sync of the new one failed.
-fn settle_two<R: Files<File = File> + AllocGlobal + Eprint, S: Start, T: Start>(
-    rt: &R,
-    new: &str,
-    to: &FileDisk<S>,
-    from: &FileDisk<T>,
-    console: &mut Console<'_, R>,
-) {
-    console.settle_new(to.failure(), note_failed_sync(rt, new, to));
-    console.settle(from.failure(), Noting::Unneeded);
+// The path of the new file.
+fn new_path<'a>(transfer: &Transfer<'a>) -> &'a str
+    ensures { result.now ≡ file_of (task_of_transfer transfer.now) }
+{
+    match *transfer {
+        Transfer::Migrate(paths) => paths.new,
+        Transfer::Copy(copying) => copying.new,
+    }
 }
 
 /// Does the transfer, and prints the line of a refusal. Returns the status, and the disks of the new file and of the
@@ -71,6 +75,10 @@ pub(crate) fn act_on_two<
     ensures status { result.0 ≤ 1 }
     ensures moved { IfSome result.1 (λ to. HasMoved S.Start T.Start (task_of_transfer transfer.now)
         (W.contents out.old) (W.contents out.new) result.0 result.2 to) }
+    ensures named { IfSome result.1 (λ to.
+        IsOpenAt ⟦<FileDisk<S> as Disk>⟧ S.path (file_of (task_of_transfer transfer.now)) to) }
+    ensures old { IfSome result.2 (λ from.
+        IsOpenAt ⟦<FileDisk<T> as Disk>⟧ T.path (old_file_of (task_of_transfer transfer.now)) from) }
     ensures none { IfNone result.1 (result.0 ≡ 1) }
 {
     let (rt, held, input, console) = hand.parts();
@@ -82,7 +90,8 @@ pub(crate) fn act_on_two<
     };
     match transfer_file(inner, transfer, out, starts) {
         Ok((status, to, from)) => {
-            settle_two(rt, transfer.paths().1, &to, &from, console);
+            settle_new(rt, new_path(transfer), &to, console);
+            console.settle(from.failure(), Noting::Unneeded);
             (status, Some(to), Some(from))
         }
         Err(refusal) => {

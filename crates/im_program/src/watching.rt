@@ -1,6 +1,7 @@
-//! What a person is told of a run while it goes on.
+//! What is told of a run while it goes on.
 
-use im_serving::Standing;
+use im_serving::{EarlierAnswer, Standing, Teller};
+use im_text::{Waited, make_now};
 use im_types::Observer;
 use std::alloc::AllocError;
 use std::io::Eprint;
@@ -8,7 +9,16 @@ use std::io::Eprint;
 // The number of checkpoint turns between two lines about how a run stands.
 const TURNS: u64 = 1_024;
 
-/// Prints on standard error for the thread that keeps checkpoints in a run.
+/// Prints the answer to a request that waited when the image was opened, or is of an earlier script.
+pub(crate) fn print_answer<R: Eprint + AllocGlobal>(rt: &R, waited: Waited) {
+    let mut line = String::new(rt.alloc());
+    if make_now(&mut line, Some(waited)).is_ok() {
+        let _printed = rt.eprint(line.as_str());
+    }
+}
+
+/// Prints on standard error for the thread that keeps checkpoints in a run, and for the servers: what they find of
+/// earlier scripts, before they confirm it.
 pub struct Watch<'a, R> {
     rt: &'a R,
     is_watched: bool,
@@ -44,5 +54,25 @@ impl<R: Eprint> Observer<Standing> for Watch<'_, R> {
     fn tell(&mut self, standing: Standing) {
         let Standing { waits, room } = standing;
         let _printed = eprintln!(self.rt; "imem: {waits} elements wait, room for {room}");
+    }
+}
+
+impl<R: Eprint + AllocGlobal> Teller for Watch<'_, R> {
+    ghost use Rattle.std.specs.Prelude.{None};
+
+    ghost told = { λ _. None };
+
+    fn tell_earlier(&mut self, answer: EarlierAnswer) {
+        let EarlierAnswer {
+            element,
+            number,
+            entry,
+        } = answer;
+        let waited = Waited {
+            element,
+            number,
+            entry,
+        };
+        print_answer(self.rt, waited)
     }
 }

@@ -2,6 +2,7 @@
 ghost use Rattle.std.specs.Prelude.{◌≡◌, ◌⊎◌, ◌≤◌, ℕ, List, IfSome, IfNone};
 ghost use Rattle.im_text.specs.Printing.{Begins, IsLast};
 ghost use Rattle.im_words.specs.Words.{demonstration, task_of_work};
+ghost use Rattle.im_program.specs.Places.{IsOldOf, IsOpenAt, file_of};
 ghost use Rattle.im_program.specs.Working.{WasDone, HasMoved, IsOfTwo};
 
 use crate::console::Console;
@@ -54,7 +55,9 @@ pub fn act<
         (task_of_work line.now.work) (W.contents out.old) (W.contents out.new) result.0 disk) }
     ensures moved { IfSome result.1 (λ disk. IsOfTwo (task_of_work line.now.work) → HasMoved S.Start T.Start
         (task_of_work line.now.work) (W.contents out.old) (W.contents out.new) result.0 result.2 disk) }
-    ensures other { IfSome result.2 (λ _. IsOfTwo (task_of_work line.now.work)) }
+    ensures named { IfSome result.1 (λ disk.
+        IsOpenAt ⟦<FileDisk<S> as Disk>⟧ S.path (file_of (task_of_work line.now.work)) disk) }
+    ensures other { IfSome result.2 (λ old. IsOldOf ⟦<FileDisk<T> as Disk>⟧ T.path (task_of_work line.now.work) old) }
     ensures none { IfNone result.1 ((task_of_work line.now.work ≡ demonstration) ⊎ (result.0 ≡ 1)) }
 {
     let (start, other) = starts;

@@ -29,7 +29,8 @@ use Rattle.im_serial.proofs.NotedLemmas.{get_set_here, get_set_other}
 use Rattle.im_serving.specs.declared.intent.Intent.{Intent}
 use Rattle.im_serving.specs.declared.intent.Intent.TheVariants as intent_kinds
 use Rattle.im_run.specs.declared.sheet.Order.{Order}
-use Rattle.im_run.specs.Orders.{AddsGlance, AddsRequest, AreInTurn, AreOrdersFrom, ArePlaced, Ask, HasAdded}
+use Rattle.im_run.specs.Orders.{AddsGlance, AddsRequest, AreInTurn, AreOrdersFrom, ArePartsThere, ArePlaced, Ask}
+use Rattle.im_run.specs.Orders.{BeginsAmong, HasAdded, HasMissed}
 use Rattle.im_run.specs.Orders.{HasHeard, HasReadTo, HaveOps, all_asked_in_part, ask_if, ask_of, asked_in_part}
 use Rattle.im_run.specs.Orders.{asks_among, asks_from}
 use Rattle.im_run.specs.Orders.{intents_at, line_asks, lines_heard, part_of, request_asked, settled_past}
@@ -55,6 +56,11 @@ match_ok P r x is it = subst (λ (s : Result _ _). OnOk s P) is it
 pub if_ok_map : {T E : Type 0} (P Q : T → Type 0) (r : Result T E) → IfOk r P → ((x : T) → P x → Q x) → IfOk r Q
 if_ok_map P Q (Ok x) it f = f x it
 if_ok_map P Q (Err e) it f = tt
+
+-- what is so of the other result
+pub if_ok_of : {T E : Type 0} (P : T → Type 0) (r s : Result T E) → IfOk r (λ x. s ≡ Ok x) → IfOk s P → IfOk r P
+if_ok_of P (Ok x) s is it = if_ok_at P s x is it
+if_ok_of P (Err e) s is it = tt
 
 pub on_ok_map : {T E : Type 0} (P Q : Type 0) (r : Result T E) → OnOk r P → (P → Q) → OnOk r Q
 on_ok_map P Q (Ok x) it f = f it
@@ -332,6 +338,32 @@ pub rest_none : (had : List ℕ) (all : List Heard) (old new : List Order) (left
     → HasReadTo had all old left [] bases new
 rest_none had all old new left bases d rest none it = subst (λ (o : Option (Bor (List ℕ))).
     HasReadTo had all old left (option_map_or (λ t. lines_heard d (lines_of t.now)) o []) bases new) none it
+
+-- ---- the elements of its parts
+
+pub there_start : (elements : ℕ) (all rest : List Heard) (missing : Option ℕ) → rest ≡ all
+    → HasMissed elements all rest missing
+there_start elements all rest missing same = λ none there. subst (ArePartsThere elements) same there
+
+pub there_line : (elements : ℕ) (all : List Heard) (d next : Draft) (h : Heard) (rest : Option (Bor (List ℕ)))
+    (text : Bor (List ℕ)) (line : List ℕ) (behind : Option (Bor (List ℕ))) (was now : Option ℕ) → rest ≡ Some text
+    → lines_of text.now ≡ line ∷ option_map_or (λ r. lines_of r.now) behind [] → heard true d line ≡ Some (next, h)
+    → (now ≡ None → (was ≡ None) × BeginsAmong elements h)
+    → HasMissed elements all (option_map_or (λ t. lines_heard d (lines_of t.now)) rest []) was
+    → HasMissed elements all (option_map_or (λ t. lines_heard next (lines_of t.now)) behind []) now
+there_line elements all d next h rest text line behind was now some lines read found so_far = λ none there.
+    let it = found none in
+    so_far it.0 (subst
+    (λ (o : Option (Bor (List ℕ))).
+    ArePartsThere elements (option_map_or (λ t. lines_heard d (lines_of t.now)) o [])) (sym some)
+    (subst (ArePartsThere elements) (sym (line_heard d next h text.now line behind lines read)) (it.1, there)))
+
+pub there_end : (elements : ℕ) (all : List Heard) (d : Draft) (rest : Option (Bor (List ℕ))) (missing : Option ℕ)
+    → rest ≡ None → HasMissed elements all (option_map_or (λ t. lines_heard d (lines_of t.now)) rest []) missing
+    → missing ≡ None → ArePartsThere elements all
+there_end elements all d rest missing none it = λ there. it there (subst
+    (λ (o : Option (Bor (List ℕ))).
+    ArePartsThere elements (option_map_or (λ t. lines_heard d (lines_of t.now)) o [])) (sym none) tt)
 
 -- ---- all orders
 

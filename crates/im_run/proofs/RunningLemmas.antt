@@ -34,7 +34,7 @@ use Rattle.im_run.specs.declared.run.TheConstants.{STALLED}
 use Rattle.im_run.specs.declared.served.Did.{Did}
 use Rattle.im_run.specs.Tracing.{TraceState}
 use Rattle.im_run.specs.Doing.{AreAllTold}
-use Rattle.im_run.specs.Orders.{Ask, AreOrders, IsOfAll, SetsUp, bases_made, script_heard, settled_when}
+use Rattle.im_run.specs.Orders.{Ask, AreOrders, ArePartsThere, IsOfAll, SetsUp, bases_made, script_heard, settled_when}
 use Rattle.im_run.specs.Planned.{EndsOnPlan, HasServedWhole}
 use Rattle.im_run.specs.Running.{BeginsFinals, Closes, EndedOn, PrintsFinals, Puts, Ran, RanOn, RunOn}
 use Rattle.im_run.specs.Running.{ServedOn, ServersEnded, Settles, final_line, finals}
@@ -325,6 +325,7 @@ module _ {D : Type 0} (now : D → Moment) (past : D → List Moment) (failures 
     traced = it.traced;
     tells = ⊎_elim (λ t. inl (record {
       made = t.made;
+      parts = t.parts;
       put = t.put;
       orders = t.orders;
       of_script = t.of_script;
@@ -343,10 +344,11 @@ module _ {D : Type 0} (disk : Ghosts D) where
       → AreOrders once mid.memory (settled_when once start.memory) bases (script_heard script) orders
       → IsOfAll once bases (script_heard script) whole
       → SetsUp once start.memory script setup [] → bases ≡ bases_made once start.memory script setup
+      → ArePartsThere (length start.memory.windows) (script_heard script)
       → RunOn disk.now disk.past disk.failures once planned script start new was is calls status
   unfolding puts_on
   ended_run once planned script bases whole orders start mid setup text names was held is lines new calls status it
-      prints ended of_script is_whole set_up named =
+      prints ended of_script is_whole set_up named there =
       let served = ended.ended.served in
       let trace = calls.served in
       let begun = it.has.memory it.works in
@@ -380,6 +382,7 @@ module _ {D : Type 0} (disk : Ghosts D) where
         };
         tells = inl (record {
           made = set_up;
+          parts = there;
           put = ap (λ (m : Contents). setup ++ accepted_in m trace) begun;
           orders = orders;
           of_script = subst (λ (b : List ℕ). AreOrders once (after start.memory setup) (settled_when once start.memory) b

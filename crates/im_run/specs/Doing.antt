@@ -18,7 +18,7 @@ use Rattle.im_serving.specs.Elements.{Asked, End}
 use Rattle.im_serving.specs.Serving.{AreDone, AreGlanced, HasAnswers, IsGlanced, ops_of, requests, sites}
 use Rattle.im_run.specs.declared.served.Did.{Did}
 use Rattle.im_run.specs.declared.served.Did.TheVariants as did
-use Rattle.im_run.specs.Orders.{AreOrders, Ask, IsOfAll, SetsUp, bases_made, script_heard, settled_when}
+use Rattle.im_run.specs.Orders.{AreOrders, ArePartsThere, Ask, IsOfAll, SetsUp, bases_made, script_heard, settled_when}
 use Rattle.im_run.specs.Planned.{EndsOnPlan, HasServedWhole}
 
 -- ---- what is told of it
@@ -57,14 +57,16 @@ AreAllTold m trace none (order ∷ orders) told =
     (mine : List Did) × ((others : List Did) × ((told ≡ mine ++ others)
     × (IsOrderTold m trace none order mine × AreAllTold m trace none orders others)))
 
--- The setup of a script was served whole on this memory, by these commands, and the names stand for the bases that they
--- made. Then its parts were served, with this trace; so all these commands were acknowledged, and those are in doubt.
--- This is told of the parts, and it is all that they ask for if nothing was refused. If the script is done once, all
--- requests of its parts are known, the settled ones too, and each was served if nothing was refused. If the run was
--- planned, it ended as its plan says: that of all those requests, if they are known.
+-- The setup of a script was served whole on this memory, by these commands, and the names stand for the bases that
+-- they made. The memory has the element of each part, of one with no line too. Then its parts were served, with this
+-- trace; so all these commands were acknowledged, and those are in doubt. This is told of the parts, and it is all
+-- that they ask for if nothing was refused. If the script is done once, all requests of its parts are known, the
+-- settled ones too, and each was served if nothing was refused. If the run was planned, it ended as its plan says:
+-- that of all those requests, if they are known.
 pub record HasToldScript (once planned : Bool) (start : Contents) (text : List ℕ) (setup acknowledged doubt : List
     Command) (trace : List Line) (none : Type 0) (told : List Did) : Type 0 where
   pub made : SetsUp once start text setup []
+  pub parts : ArePartsThere (length start.windows) (script_heard text)
   pub put : acknowledged ≡ setup ++ accepted_in (after start setup) trace
   pub orders : List Ask
   pub of_script : AreOrders once (after start setup) (settled_when once start) (bases_made once start text setup)

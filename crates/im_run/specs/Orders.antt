@@ -1,5 +1,5 @@
 -- What each element asks for in a script. (Own.)
-use Rattle.std.specs.Prelude.{◌≡◌, ◌≤◌, ℕ, zero, suc, ◌==◌, ◌&&◌, Bool, true, false, not, List, [], ◌∷◌, ◌++◌}
+use Rattle.std.specs.Prelude.{◌≡◌, ◌≤◌, ◌<◌, ℕ, zero, suc, ◌==◌, ◌&&◌, Bool, true, false, not, List, [], ◌∷◌, ◌++◌}
 use Rattle.std.specs.Prelude.{map, length, Option, None, Some, IsSome, slice_get, if◌then◌else◌}
 use Rattle.std.specs.Option.{option_map, option_map_or}
 use mathlib.Core.List.{IsPrefix}
@@ -9,6 +9,7 @@ use Rattle.im_types.specs.Window.{next_number}
 use Rattle.im_script.specs.declared.places.Place.{Place}
 use Rattle.im_script.specs.declared.script.Heard.{Heard}
 use Rattle.im_script.specs.declared.script.Heard.TheVariants.{Says, Glances}
+use Rattle.im_script.specs.declared.script.Said.TheVariants.{Nothing, Begins, Block, Asks}
 use Rattle.im_script.specs.Places.{place_address, action_op}
 use Rattle.im_script.specs.Script.{Draft, heard, lines_of, new_draft}
 use Rattle.im_serial.specs.declared.past.Past.{Past}
@@ -100,6 +101,21 @@ IsPlaced bases had (Glances glancer place) = IsSome (place_address bases place)
 abbrev pub ArePlaced : List ℕ → List ℕ → List Heard → Type 0
 ArePlaced bases had [] = Unit {0}
 ArePlaced bases had (h ∷ lines) = IsPlaced bases had h × ArePlaced bases (settled_past had h) lines
+
+-- ---- whose parts it has
+
+-- the part that a line begins, if it begins one, is of one of so many elements
+abbrev pub BeginsAmong : ℕ → Heard → Type 0
+BeginsAmong elements (Says Nothing) = Unit {0}
+BeginsAmong elements (Says (Block block)) = Unit {0}
+BeginsAmong elements (Says (Begins element)) = element < elements
+BeginsAmong elements (Says (Asks line)) = Unit {0}
+BeginsAmong elements (Glances glancer place) = Unit {0}
+
+-- each part that these lines begin is of one of so many elements, be there a line in it or not
+abbrev pub ArePartsThere : ℕ → List Heard → Type 0
+ArePartsThere elements [] = Unit {0}
+ArePartsThere elements (h ∷ lines) = BeginsAmong elements h × ArePartsThere elements lines
 
 -- ---- what it asks of the setup
 
@@ -233,6 +249,10 @@ pub record HasHeard (had : List ℕ) (h : Heard) (before bases : List ℕ) (old 
   pub settled : left ≡ settled_past had h
   pub adds : (more : List ℕ) → IsPlaced (bases ++ more) had h
       × HasAdded (λ element. line_asks (bases ++ more) had element h) old new
+
+-- From these lines it comes to those: if no element was missing, and none of those behind is, none of all is.
+abbrev pub HasMissed : ℕ → List Heard → List Heard → Option ℕ → Type 0
+HasMissed elements all rest missing = missing ≡ None → ArePartsThere elements rest → ArePartsThere elements all
 
 -- From these lines it comes to those: what all ask for was added to the orders, but for what the rest asks for.
 pub record HasReadTo (had : List ℕ) (all : List Heard) (old : List Order) (left : List ℕ) (rest : List Heard)

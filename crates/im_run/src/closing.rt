@@ -11,7 +11,7 @@ use im_damage::Damage;
 use im_disk::Disk;
 use im_engine::Engine;
 use im_serial::{Paper, both};
-use im_text::{News, Reason, finish};
+use im_text::{News, Reason, Waited, finish};
 use im_types::{Observer, Refusal};
 use std::alloc::Global;
 use std::io::Write;
@@ -88,6 +88,8 @@ pub struct Ending<D: Disk> {
     pub engine: Engine<D>,
     /// What was done, by elements, and for each element in order.
     pub did: Vec<Did>,
+    /// The requests of earlier scripts that waited when the servers began.
+    pub waits: Vec<Waited>,
     /// The refusal, if there is one.
     pub done: Result<(), Reason>,
 }
@@ -109,12 +111,11 @@ pub fn close<D: Disk, W: Write, N: Observer<News>>(
     ensures printed { Closes (W.contents out.old) paper.lines (W.contents out.new) ending.engine.memory
         ending.did.items result.0 }
 {
-    let Ending { engine, did, done } = ending;
-    let failed = engine.failed();
-    let ended = with_disk(done, failed);
+    let failed = ending.engine.failed();
+    let ended = with_disk(ending.done, failed);
     let told = print_finals(
-        engine.memory(),
-        did.as_slice(),
+        ending.engine.memory(),
+        ending.did.as_slice(),
         &mut paper.line,
         &mut paper.lines,
         out,
@@ -128,5 +129,5 @@ pub fn close<D: Disk, W: Write, N: Observer<News>>(
         out,
         &mut Behind { observer },
     );
-    (status_of(failed, stalled, status), engine.close())
+    (status_of(failed, stalled, status), ending.engine.close())
 }

@@ -3,11 +3,14 @@
 //! The crate stands on `im_serving`. The setup is served first, through the engine.
 #![tactic(auto)]
 
+mod assigning;
 mod beginning;
 mod calls;
 mod closing;
 mod context;
 mod deeds;
+mod late;
+mod missing;
 mod noting;
 mod numbering;
 mod once;

@@ -34,6 +34,7 @@ fn no_order(alloc: Global, element: u16) -> Order
     Order {
         element,
         base: 0,
+        untold: 0,
         next: 0,
         intents: Vec::new(alloc),
     }
@@ -81,11 +82,18 @@ fn first_of(memory: &Memory, element: u16, once: bool) -> u64
     }
 }
 
+// Returns the least kept number whose entry this run didn't tell. If the script is done once, those below the next one
+// are of the script itself, and were told.
+fn untold_of(base: u64, next: u64, once: bool) -> u64 {
+    if once { next } else { base }
+}
+
 /// Keeps an order that asks for something, with its element's numbers.
 pub(crate) fn keep_order(
     numbered: &mut Vec<Order>,
     order: Order,
     base: u64,
+    untold: u64,
     next: u64,
 ) -> Result<(), Reason>
     ensures { OnOk result (map ask_of numbered.new.items
@@ -102,6 +110,7 @@ pub(crate) fn keep_order(
     let kept = Order {
         element,
         base,
+        untold,
         next,
         intents,
     };
@@ -129,7 +138,8 @@ pub fn number_orders(
         let element = order.element;
         let base = base_of(memory, element);
         let next = first_of(memory, element, once);
-        match keep_order(&mut numbered, order, base, next) {
+        let untold = untold_of(base, next, once);
+        match keep_order(&mut numbered, order, base, untold, next) {
             Ok(()) => {}
             Err(reason) => return Err(reason),
         }

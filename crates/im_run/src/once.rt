@@ -12,7 +12,7 @@ use crate::sheet::{Assignment, Commission};
 use crate::tracing::Trace;
 use im_disk::Disk;
 use im_serial::Server;
-use im_serving::{Gate, Host, Standing};
+use im_serving::{Gate, Host, Standing, Teller};
 use im_text::{News, Reason, finish};
 use im_types::Observer;
 use std::alloc::Global;
@@ -50,7 +50,7 @@ fn run_rest<
     W: Write,
     N: Observer<News>,
     G: Gate + Sync,
-    V: Observer<Standing> + Copy + Send,
+    V: Observer<Standing> + Teller + Copy + Send,
     R: Host,
 >(
     context: &RunContext<'_, G, V, R>,
@@ -115,7 +115,7 @@ pub fn run_once_on<
     W: Write,
     N: Observer<News>,
     G: Gate + Sync,
-    V: Observer<Standing> + Copy + Send,
+    V: Observer<Standing> + Teller + Copy + Send,
     R: Host,
 >(
     context: &RunContext<'_, G, V, R>,

@@ -1,19 +1,20 @@
 //! What each element asks for in a script.
-ghost use Rattle.std.specs.Prelude.{◌≡◌, ◌==◌, ◌++◌, ◌∷◌, [], OnOk, IfOk, false, true, map, if◌then◌else◌};
+ghost use Rattle.std.specs.Prelude.{◌≡◌, ◌==◌, ◌++◌, ◌∷◌, [], OnOk, IfOk, None, false, true, map, length};
+ghost use Rattle.std.specs.Prelude.{if◌then◌else◌};
 ghost use mathlib.Core.List.{IsPrefix};
 ghost use Rattle.im_script.specs.declared.script.Heard.TheVariants.{Says};
 ghost use Rattle.im_serial.specs.Asked.{wanted_by};
 ghost use Rattle.im_serial.specs.Serving.{ServedBy};
-ghost use Rattle.im_run.specs.Orders.{AddsGlance, AddsRequest, HasAdded, HasHeard, HasOrders, HasReadTo};
+ghost use Rattle.im_run.specs.Orders.{AddsGlance, AddsRequest, ArePartsThere, BeginsAmong, HasAdded, HasHeard};
+ghost use Rattle.im_run.specs.Orders.{HasOrders, HasReadTo};
 ghost use Rattle.im_run.specs.Orders.{IsOfAll, ask_of, asks_among, asks_in, blocks_asked, blocks_of, first_asked};
 ghost use Rattle.im_run.specs.Orders.{line_blocks, script_heard, settled_by};
 
+use crate::assigning::{make_workload, with_parts};
+use crate::missing::missed_by;
 use crate::noting::note_block;
-use crate::numbering::number_orders;
-use crate::sheet::{AllOrders, Commission, Order, Sheet, Workload};
-use crate::whole::read_whole;
+use crate::sheet::{Commission, Order, Sheet, Workload};
 use im_disk::Disk;
-use im_memory::Memory;
 use im_script::{
     Allocation, Heard, Place, Reader, Said, Script, ScriptFault, ScriptLine, split_line,
 };
@@ -148,7 +149,14 @@ fn take_heard<D: Disk, W: Write, N: Observer<News>>(
     }
 }
 
-// Does what each line says, in order.
+// Returns how many elements the memory of a server has.
+fn count_elements<D: Disk>(server: &Server<D>) -> u16
+    ensures { result ≡ length server.now.engine.memory.windows }
+{
+    server.engine.memory().elements()
+}
+
+// Does what each line says, in order. It notes the least element that is missing and whose part begins.
 fn take_lines<D: Disk, W: Write, N: Observer<News>>(
     server: &mut Server<D>,
     sheet: &mut Sheet,
@@ -160,21 +168,28 @@ fn take_lines<D: Disk, W: Write, N: Observer<News>>(
         server.old (W.contents out.old) server.new (W.contents out.new) }
     ensures read { OnOk result (HasReadTo (settled_by sheet.old.past) (script_heard script.now) sheet.old.orders.items
         (settled_by sheet.new.past) [] server.new.bases.items sheet.new.orders.items) }
+    ensures there { OnOk result (sheet.new.missing ≡ None
+        → ArePartsThere (length server.old.engine.memory.windows) (script_heard script.now)) }
 {
-    let alloc = sheet.alloc;
-    let mut reader = Reader::new(alloc);
+    let elements = count_elements(server);
+    let mut missing: Option<u16> = None;
+    let mut reader = Reader::new(sheet.alloc);
     let mut rest = Some(script.text());
     for number in 1..usize::MAX {
         let text = match rest {
             Some(text) => text,
-            None => return Ok(()),
+            None => {
+                sheet.missing = missing;
+                return Ok(());
+            }
         };
         let (line, behind) = split_line(text);
         rest = behind;
-        let heard = match reader.read_with_glances(alloc, number, line) {
+        let heard = match reader.read_with_glances(sheet.alloc, number, line) {
             Ok(heard) => heard,
             Err(fault) => return Err(Reason::Script(fault)), // There was no memory for it.
         };
+        missing = missed_by(elements, missing, heard);
         match take_heard(server, sheet, heard, out, observer) {
             Ok(()) => {}
             Err(reason) => return Err(reason),
@@ -195,55 +210,11 @@ fn set_up<D: Disk, W: Write, N: Observer<News>>(
         server.old (W.contents out.old) server.new (W.contents out.new) }
     ensures read { OnOk result (HasReadTo (settled_by sheet.old.past) (script_heard script.now) sheet.old.orders.items
         (settled_by sheet.new.past) [] server.new.bases.items sheet.new.orders.items) }
+    ensures there { OnOk result (sheet.new.missing ≡ None
+        → ArePartsThere (length server.old.engine.memory.windows) (script_heard script.now)) }
 {
     match take_lines(server, sheet, script, out, observer) {
         Ok(()) => server.lines.flush(out),
-        Err(reason) => Err(reason),
-    }
-}
-
-// Reads all that a script asks for, if it is done once.
-fn read_whole_if(
-    alloc: Global,
-    bases: &[u32],
-    asked: Commission<'_, '_>,
-) -> Result<Option<AllOrders>, Reason>
-    ensures { IfOk result (λ whole. IsOfAll asked.entry.once bases.now (script_heard asked.entry.script.now)
-        (asks_in whole)) }
-{
-    if !asked.once {
-        return Ok(None);
-    }
-    match read_whole(alloc, bases, asked.script) {
-        Ok(whole) => Ok(Some(whole)),
-        Err(reason) => Err(reason),
-    }
-}
-
-// Returns what the servers do for these orders.
-fn make_workload(
-    alloc: Global,
-    memory: &Memory,
-    bases: &[u32],
-    orders: Vec<Order>,
-    asked: Commission<'_, '_>,
-) -> Result<Workload, Reason>
-    ensures asked { IfOk result (λ work. map ask_of work.orders.items
-        ≡ asks_among (first_asked asked.entry.once memory.now.contents) orders.items) }
-    ensures whole { IfOk result (λ work. IsOfAll asked.entry.once bases.now (script_heard asked.entry.script.now)
-        (asks_in work.whole)) }
-    ensures mode { IfOk result (λ work. work.mode ≡ asked.entry.mode) }
-{
-    let orders = match number_orders(alloc, memory, orders, asked.once) {
-        Ok(orders) => orders,
-        Err(reason) => return Err(reason),
-    };
-    match read_whole_if(alloc, bases, asked) {
-        Ok(whole) => Ok(Workload {
-            orders,
-            whole,
-            mode: asked.mode,
-        }),
         Err(reason) => Err(reason),
     }
 }
@@ -258,7 +229,8 @@ fn make_workload(
 /// All that the script asks for is read beside it, so that it is seen at the end that all was served.
 ///
 /// It is refused with what serving a block is refused with, with `Place` if a request's place lies past the last
-/// address, and with `Memory`. The setup's calls until then are returned.
+/// address, with `NoElement` if a part is of an element that the memory doesn't have, even one with no line, and with
+/// `Memory`. The setup's calls until then are returned.
 pub fn read_orders<D: Disk, W: Write, N: Observer<News>>(
     alloc: Global,
     server: &mut Server<D>,
@@ -274,16 +246,24 @@ pub fn read_orders<D: Disk, W: Write, N: Observer<News>>(
     ensures whole { IfOk result.0 (λ work. IsOfAll asked.entry.once server.new.bases.items
         (script_heard asked.entry.script.now) (asks_in work.whole)) }
     ensures mode { IfOk result.0 (λ work. work.mode ≡ asked.entry.mode) }
+    ensures there { OnOk result.0 (ArePartsThere (length server.old.engine.memory.windows)
+        (script_heard asked.entry.script.now)) }
 {
     let Ok(mut sheet) = Sheet::new(alloc, server.engine.memory(), asked.once) else {
         return (Err(Reason::Memory), Vec::new(alloc));
     };
     match set_up(server, &mut sheet, asked.script, out, observer) {
         Ok(()) => {
-            let Sheet { orders, setup, .. } = sheet;
+            let Sheet {
+                orders,
+                setup,
+                missing,
+                ..
+            } = sheet;
             let memory = server.engine.memory();
             let bases = server.bases.as_slice();
-            (make_workload(alloc, memory, bases, orders, asked), setup)
+            let work = make_workload(alloc, memory, bases, orders, asked);
+            (with_parts(work, missing), setup)
         }
         Err(reason) => {
             let Sheet { setup, .. } = sheet;

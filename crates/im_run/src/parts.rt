@@ -52,6 +52,7 @@ fn make_part<D: Disk, K: Name, R: Wait>(
     let Order {
         element,
         base,
+        untold,
         next,
         intents,
     } = order;
@@ -69,6 +70,7 @@ fn make_part<D: Disk, K: Name, R: Wait>(
             element,
             first: next,
             base,
+            untold,
             entries: Vec::new(alloc),
         },
         glances,

@@ -10,6 +10,7 @@ use crate::beginning::begin;
 use crate::calls::Calls;
 use crate::closing::{Ending, close};
 use crate::context::RunContext;
+use crate::late::tell_late;
 use crate::opening::open_server;
 use crate::orders::read_orders;
 use crate::served::{ServedRun, serve_orders};
@@ -20,7 +21,7 @@ use im_controller::Opening;
 use im_disk::Disk;
 use im_engine::Engine;
 use im_serial::Server;
-use im_serving::{Gate, Host, Standing};
+use im_serving::{Gate, Host, Standing, Teller};
 use im_text::{News, Reason};
 use im_types::{Observer, Refusal};
 use std::alloc::Global;
@@ -45,7 +46,7 @@ fn reason_of(refused: Option<(u16, Refusal)>) -> Result<(), Reason>
 fn serve_opening<
     D: Disk + Drop + Send,
     G: Gate + Sync,
-    V: Observer<Standing> + Copy + Send,
+    V: Observer<Standing> + Teller + Copy + Send,
     R: Host,
 >(context: &RunContext<'_, G, V, R>, opening: Opening<D>, work: Workload) -> (Ending<D>, Calls)
     requires plan { work.mode.planned ≡ true → opening.plan
@@ -56,7 +57,12 @@ fn serve_opening<
         opening.engine result.0.engine result.1.items result.0.did.items (IsOk result.0.done) }
     ensures recorded { result.1.recorded ≡ opening.book.recorded }
 {
-    let Workload { orders, whole, .. } = work;
+    let Workload {
+        orders,
+        whole,
+        waits,
+        ..
+    } = work;
     let ServedRun {
         engine,
         did,
@@ -64,7 +70,13 @@ fn serve_opening<
         refused,
     } = serve_orders::<D, Brand, G, V, R>(context, opening, orders);
     let done = with_whole(engine.memory(), &whole, reason_of(refused));
-    (Ending { engine, did, done }, trace)
+    let ending = Ending {
+        engine,
+        did,
+        waits,
+        done,
+    };
+    (ending, trace)
 }
 
 // Returns the ending of a run in which no server began.
@@ -76,6 +88,7 @@ fn no_server<D: Disk>(alloc: Global, engine: Engine<D>, reason: Reason) -> Endin
     Ending {
         engine,
         did: Vec::new(alloc),
+        waits: Vec::new(alloc),
         done: Err(reason),
     }
 }
@@ -87,7 +100,7 @@ fn serve_on<
     W: Write,
     N: Observer<News>,
     G: Gate + Sync,
-    V: Observer<Standing> + Copy + Send,
+    V: Observer<Standing> + Teller + Copy + Send,
     R: Host,
 >(
     context: &RunContext<'_, G, V, R>,
@@ -107,6 +120,7 @@ fn serve_on<
     match begin(context.rt, alloc, engine, &work) {
         Ok(opening) => {
             let (ending, trace) = serve_opening(context, opening, work);
+            tell_late(ending.engine.memory(), ending.waits.as_slice(), observer);
             let (status, disk) = close(alloc, ending, paper, out, observer);
             (status, disk, trace)
         }
@@ -124,7 +138,7 @@ pub(crate) fn run_server<
     W: Write,
     N: Observer<News>,
     G: Gate + Sync,
-    V: Observer<Standing> + Copy + Send,
+    V: Observer<Standing> + Teller + Copy + Send,
     R: Host,
 >(
     context: &RunContext<'_, G, V, R>,
@@ -221,7 +235,7 @@ pub fn run_on<
     W: Write,
     N: Observer<News>,
     G: Gate + Sync,
-    V: Observer<Standing> + Copy + Send,
+    V: Observer<Standing> + Teller + Copy + Send,
     R: Host,
 >(
     context: &RunContext<'_, G, V, R>,

@@ -1,5 +1,5 @@
 //! Serves all elements through one controller.
-ghost use Rattle.std.specs.Prelude.{◌≡◌, ◌∷◌, [], ℕ, List, IfOk, IsOk, None, OnErr, false, map};
+ghost use Rattle.std.specs.Prelude.{◌≡◌, ◌∷◌, [], ℕ, List, IfOk, IsOk, None, OnErr, false, map, true};
 ghost use Rattle.im_types.specs.Trace.{IsLegal, end_of};
 ghost use Rattle.im_types.specs.declared.commands.Line.{Line};
 ghost use Rattle.im_controller.specs.Kept.{IsOriginOf};
@@ -16,7 +16,7 @@ use crate::sheet::Order;
 use im_controller::{Controller, Finished, Name, Opening, Port, finish};
 use im_disk::Disk;
 use im_engine::Engine;
-use im_serving::{Done, Gate, Host, Standing, serve_elements};
+use im_serving::{Done, Gate, Host, Standing, Teller, serve_elements};
 use im_text::Waited;
 use im_types::{Observer, Refusal};
 use std::alloc::{AllocError, Global};
@@ -197,7 +197,7 @@ fn serve_parts<
     D: Disk + Drop + Send,
     K: Name + Send + Sync,
     G: Gate + Sync,
-    V: Observer<Standing> + Copy + Send,
+    V: Observer<Standing> + Teller + Copy + Send,
     R: Host,
 >(
     context: &RunContext<'_, G, V, R>,
@@ -219,11 +219,32 @@ fn serve_parts<
     note_all(alloc, elements, served, unmade)
 }
 
+// Returns the refusal that is told. There is one if a port didn't come back, or if an answer waits that nobody took:
+// someone was served then who didn't ask (decision 872).
+fn refused_at_end(
+    refused: Option<(u16, Refusal)>,
+    came: bool,
+    claimed: bool,
+) -> Option<(u16, Refusal)>
+    ensures refused { result ≡ None → refused ≡ None }
+    ensures came { result ≡ None → came ≡ true }
+    ensures claimed { result ≡ None → claimed ≡ true }
+{
+    if !came {
+        return first_refusal(refused, 0, Refusal::NotAnswered);
+    }
+    if !claimed {
+        return first_refusal(refused, 0, Refusal::NotAnswered);
+    }
+    refused
+}
+
 /// Serves what each element asks for, all at once, through a controller over an engine, and gives the engine and the
 /// trace back. The thread that keeps checkpoints tells its observer how things stand.
 ///
 /// An element that doesn't exist is refused with `NoElement`, and one for which memory or a thread is missing with
-/// `NoMemory`. Nothing of it is served then. The requests of the others continue.
+/// `NoMemory`. Nothing of it is served then. The requests of the others continue. It is `NotAnswered` if a port doesn't
+/// come back, or if an answer waits that no server took.
 ///
 /// What is told is, for each order in its turn, a prefix of what it asks for, and all of it if nothing was refused.
 /// Each request has its own number. Its entry is its answer in the trace, or what was found later under that number.
@@ -232,7 +253,7 @@ pub(crate) fn serve_orders<
     D: Disk + Drop + Send,
     K: Name + Send + Sync,
     G: Gate + Sync,
-    V: Observer<Standing> + Copy + Send,
+    V: Observer<Standing> + Teller + Copy + Send,
     R: Host,
 >(context: &RunContext<'_, G, V, R>, opening: Opening<D>, orders: Vec<Order>) -> ServedRun<D>
     requires origin { IsOriginOf D.Disk opening K.origin }
@@ -254,11 +275,17 @@ pub(crate) fn serve_orders<
         refused,
         ..
     } = serve_parts(context, &controller, orders);
-    let Finished { engine, trace, .. } = finish(context.rt, controller, ports);
+    let Finished {
+        engine,
+        trace,
+        came,
+        claimed,
+        ..
+    } = finish(context.rt, controller, ports);
     ServedRun {
         engine,
         did,
         trace: Calls::of(trace),
-        refused,
+        refused: refused_at_end(refused, came, claimed),
     }
 }

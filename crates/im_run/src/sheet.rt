@@ -5,6 +5,7 @@ use im_memory::Memory;
 use im_script::{Said, Script};
 use im_serial::Past;
 use im_serving::Intent;
+use im_text::Waited;
 use im_types::Line;
 use std::alloc::{AllocError, Global};
 
@@ -15,6 +16,8 @@ pub struct Order {
     pub element: u16,
     /// The least of its numbers that is still kept.
     pub base: u64,
+    /// The least of its kept numbers whose entry this run didn't tell. It is `next` if it told all of them.
+    pub untold: u64,
     /// The number of its next request.
     pub next: u64,
     /// Its operations and glances.
@@ -64,6 +67,8 @@ pub struct Workload {
     pub orders: Vec<Order>,
     /// All that the script asks for, if it is done once. A plan is of that then.
     pub whole: Option<AllOrders>,
+    /// The requests of earlier scripts that wait.
+    pub waits: Vec<Waited>,
     /// How it is run.
     pub mode: RunMode,
 }
@@ -79,6 +84,9 @@ pub struct Sheet {
     pub setup: Vec<Line>,
     /// What is settled of the lines that weren't read yet, if the script is done once.
     pub past: Option<Past>,
+    /// The least element that the memory doesn't have and whose part begins among the lines that were read, if there is
+    /// one.
+    pub missing: Option<u16>,
 }
 
 impl Sheet {
@@ -100,6 +108,7 @@ impl Sheet {
             orders,
             setup: Vec::new(alloc),
             past,
+            missing: None,
         })
     }
 

@@ -15,7 +15,7 @@ use crate::run::STALLED;
 use crate::sheet::Assignment;
 use im_disk::{Disk, FuseDisk, MemDisk};
 use im_serial::Interrupted;
-use im_serving::{Gate, Host, Standing};
+use im_serving::{Gate, Host, Standing, Teller};
 use im_text::News;
 use im_types::Observer;
 use std::io::Write;
@@ -51,7 +51,7 @@ fn run_in<
     W: Write,
     N: Observer<News>,
     G: Gate + Sync,
-    V: Observer<Standing> + Copy + Send,
+    V: Observer<Standing> + Teller + Copy + Send,
     R: Host,
 >(
     context: &RunContext<'_, G, V, R>,
@@ -83,7 +83,7 @@ pub fn run_over_stops<
     W: Write,
     N: Observer<News>,
     G: Gate + Sync,
-    V: Observer<Standing> + Copy + Send,
+    V: Observer<Standing> + Teller + Copy + Send,
     R: Host,
 >(
     context: &RunContext<'_, G, V, R>,

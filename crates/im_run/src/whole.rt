@@ -86,7 +86,7 @@ fn number_all(alloc: Global, orders: Vec<Order>, bases: &[u32]) -> Result<Vec<Or
     for order in orders {
         let element = order.element;
         let first = first_behind(bases, element);
-        match keep_order(&mut numbered, order, 0, first) {
+        match keep_order(&mut numbered, order, 0, 0, first) {
             Ok(()) => {}
             Err(reason) => return Err(reason),
         }

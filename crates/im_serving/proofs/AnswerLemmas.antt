@@ -53,7 +53,7 @@ goes_from start seen last more p g = (
       ∙ ap (λ (t : List Line). t ++ last) (append_assoc start p.0 g.0),
 )
 
-goes_has : (seen more : List Line) (line : Line) → GoesOnTo seen (line ∷ []) more → StandIn (line ∷ []) more
+pub goes_has : (seen more : List Line) (line : Line) → GoesOnTo seen (line ∷ []) more → StandIn (line ∷ []) more
 goes_has seen more line g = (seen ++ g.0, [], g.1, tt)
 
 goes_stand : (lines seen more : List Line) (line : Line) → GoesOnTo seen (line ∷ []) more → StandIn lines seen

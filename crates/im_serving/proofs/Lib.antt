@@ -1,5 +1,6 @@
 pub mod SendLemmas
 pub mod Crosses
 pub mod AnswerLemmas
+pub mod ToldLemmas
 pub mod GlanceLemmas
 pub mod ElementLemmas

@@ -1,3 +1,5 @@
 pub mod Numbers
+pub mod Earlier
+pub mod Told
 pub mod Serving
 pub mod Elements

@@ -7,10 +7,13 @@ ghost use Rattle.im_types.specs.declared.commands.Command.TheVariants.{Request a
 ghost use Rattle.im_controller.specs.Lines.{EndsIn, GoesOnTo, line_of};
 ghost use Rattle.im_serving.specs.Elements.{StayGlanced};
 ghost use Rattle.im_serving.specs.Serving.{IsAskedIn, asked_line};
+ghost use Rattle.im_serving.specs.Told.{IsToldBelow};
 
 use crate::context::Context;
 use crate::gate::Gate;
 use crate::glances::Glances;
+use crate::numbers::ServedNumbers;
+use crate::teller::Teller;
 use im_controller::{Controller, Name, Port, Receipt};
 use im_disk::Disk;
 use im_types::{Entry, Op, Outcome, Refusal};
@@ -75,8 +78,8 @@ fn submit<D: Disk, K: Name, R: Wait>(
 }
 
 /// Asks for an operation, and learns what was shown when it was answered.
-pub(crate) fn ask<D: Disk, K: Name, G: Gate, R: Wait>(
-    context: &Context<'_, D, K, G, R>,
+pub(crate) fn ask<D: Disk, K: Name, G: Gate, T: Teller, R: Wait>(
+    context: &Context<'_, D, K, G, T, R>,
     port: &mut Port<K>,
     glances: &mut Glances<K>,
     number: u64,
@@ -102,13 +105,16 @@ pub(crate) fn ask<D: Disk, K: Name, G: Gate, R: Wait>(
     }
 }
 
-/// Confirms all entries below a number, and asks again after each turn that the full journal needs.
+/// Confirms all entries below a number, and asks again after each turn that the full journal needs. Those of earlier
+/// scripts were told before.
 pub(crate) fn confirm<D: Disk, K: Name, R: Wait>(
     rt: &R,
     controller: &Controller<D, K>,
     port: &mut Port<K>,
+    served: &ServedNumbers,
     upto: u64,
 ) -> Result<Receipt<K>, Refusal>
+    requires told { IsToldBelow upto served.now }
     ensures element { port.new.element ≡ port.old.element }
     ensures longer { IsPrefix port.old.history port.new.history }
 {

@@ -9,6 +9,7 @@ use crate::host::Host;
 use crate::parts::{Done, Part};
 use crate::running::Running;
 use crate::starting::begin_all;
+use crate::teller::Teller;
 use im_controller::{Controller, Name, Standing};
 use im_disk::Disk;
 use im_types::{Observer, Refusal};
@@ -61,13 +62,12 @@ fn serve_within<
     D: Disk + Drop + Send,
     K: Name + Send + Sync,
     G: Gate + Sync,
-    V: Observer<Standing> + Copy + Send + 's,
+    V: Observer<Standing> + Teller + Copy + Send + 's,
     R: Host,
 >(
-    context: &Context<'s, D, K, G, R>,
+    context: &Context<'s, D, K, G, V, R>,
     alloc: Global,
     scope: &Scope<'s, E>,
-    watcher: V,
     crew: Crew<K>,
 ) -> Vec<Done<K>>
     requires all { (length crew.parts.items ≤ vec_capacity crew.all) × (crew.all.items ≡ []) }
@@ -75,7 +75,7 @@ fn serve_within<
     ensures { AreEnded K.origin.memory crew.parts.items result.items }
 {
     let Crew { parts, all, done } = crew;
-    let keeper = keep(context.rt, scope, context.controller, watcher);
+    let keeper = keep(context.rt, scope, context.controller, context.teller);
     let all = begin_all(context, alloc, scope, parts, all);
     let done = end_all(context.rt, all, done);
     context.controller.end(context.rt);
@@ -87,7 +87,8 @@ fn serve_within<
 
 /// Serves all elements at once. Each has a thread that sends what it asks for and one that serves it. Beside them runs
 /// the thread that keeps checkpoints, which tells an observer how things stand. Without that thread, the servers make
-/// the turns that they need.
+/// the turns that they need. Each server tells a copy of that observer the answers of earlier scripts, before it
+/// confirms them.
 ///
 /// The ports come back in the order of the parts, each retired. If one of an element's threads can't be made, the
 /// element is refused with `NoMemory`, and nothing of it is served.
@@ -101,7 +102,7 @@ pub fn serve_elements<
     D: Disk + Drop + Send,
     K: Name + Send + Sync,
     G: Gate + Sync,
-    V: Observer<Standing> + Copy + Send,
+    V: Observer<Standing> + Teller + Copy + Send,
     R: Host,
 >(
     rt: &R,
@@ -128,8 +129,9 @@ pub fn serve_elements<
                 rt,
                 controller,
                 gate,
+                teller: watcher,
             };
-            serve_within(&context, alloc, scope, watcher, crew)
+            serve_within(&context, alloc, scope, crew)
         },
     ))
 }

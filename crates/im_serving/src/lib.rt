@@ -7,6 +7,7 @@
 mod asking;
 mod awaiting;
 mod context;
+mod earlier;
 mod elements;
 mod ending;
 mod gate;
@@ -20,8 +21,11 @@ mod running;
 mod sender;
 mod server;
 mod starting;
+mod teller;
+mod telling;
 
 pub use context::Context;
+pub use earlier::EarlierAnswer;
 pub use elements::serve_elements;
 pub use gate::{Gate, Open};
 pub use glances::{Glanced, Glances};
@@ -34,3 +38,4 @@ pub use parts::{Done, Part};
 pub use sender::{Sent, send_all};
 pub use server::serve_element;
 pub use starting::PIPE;
+pub use teller::Teller;

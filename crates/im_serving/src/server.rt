@@ -3,6 +3,7 @@ ghost use Rattle.std.specs.Prelude.{◌≡◌, ◌≤◌, ◌+◌, ◌++◌, ◌
 ghost use mathlib.Core.List.{IsPrefix};
 ghost use Rattle.im_serving.specs.Elements.{ServesOn, StayGlanced, deeds_of};
 ghost use Rattle.im_serving.specs.Serving.{AreDone, HasAsked, Looked};
+ghost use Rattle.im_serving.specs.Told.{TellsEarlier};
 
 use crate::asking::ask;
 use crate::awaiting::{await_rest, make_place};
@@ -11,6 +12,7 @@ use crate::gate::Gate;
 use crate::glances::Glances;
 use crate::intent::Intent;
 use crate::numbers::ServedNumbers;
+use crate::teller::Teller;
 use im_controller::{Name, Port};
 use im_disk::Disk;
 use im_pipes::{Outlet, Received};
@@ -18,8 +20,8 @@ use im_types::{Op, Refusal};
 use std::sync::Wait;
 
 // Serves an operation under the next number. It makes room for the entry before it asks.
-fn serve_one<D: Disk, K: Name, G: Gate, R: Wait>(
-    context: &Context<'_, D, K, G, R>,
+fn serve_one<D: Disk, K: Name, G: Gate, T: Teller, R: Wait>(
+    context: &mut Context<'_, D, K, G, T, R>,
     port: &mut Port<K>,
     served: &mut ServedNumbers,
     glances: &mut Glances<K>,
@@ -34,8 +36,10 @@ fn serve_one<D: Disk, K: Name, G: Gate, R: Wait>(
         served.old.entries.items served.new.entries.items) }
     ensures seen { StayGlanced K.origin.memory port.old.element glances.old glances.new }
     ensures made { glances.new.made ≡ glances.old.made }
+    ensures told { TellsEarlier port.old.history port.new.history port.old.element served.old served.new
+        (T.told context.old.teller) (T.told context.new.teller) }
 {
-    match make_place(context.rt, context.controller, port, served, glances) {
+    match make_place(context, port, served, glances) {
         Ok(()) => {}
         Err(refusal) => return Err(refusal),
     }
@@ -56,8 +60,8 @@ fn serve_one<D: Disk, K: Name, G: Gate, R: Wait>(
 }
 
 // Serves what a line of the element asks for.
-fn serve_intent<D: Disk, K: Name, G: Gate, R: Wait>(
-    context: &Context<'_, D, K, G, R>,
+fn serve_intent<D: Disk, K: Name, G: Gate, T: Teller, R: Wait>(
+    context: &mut Context<'_, D, K, G, T, R>,
     port: &mut Port<K>,
     served: &mut ServedNumbers,
     glances: &mut Glances<K>,
@@ -75,6 +79,8 @@ fn serve_intent<D: Disk, K: Name, G: Gate, R: Wait>(
         → AreDone port.old served.old glances.old.made.items before
         → AreDone port.new served.new glances.new.made.items before) }
     ensures seen { StayGlanced K.origin.memory port.old.element glances.old glances.new }
+    ensures told { TellsEarlier port.old.history port.new.history port.old.element served.old served.new
+        (T.told context.old.teller) (T.told context.new.teller) }
 {
     match intent {
         Intent::Request(op) => serve_one(context, port, served, glances, op),
@@ -83,8 +89,8 @@ fn serve_intent<D: Disk, K: Name, G: Gate, R: Wait>(
 }
 
 // Serves what comes out of the pipe, up to its end. It is refused if no end mark comes.
-fn serve_all<D: Disk, K: Name, G: Gate, R: Wait>(
-    context: &Context<'_, D, K, G, R>,
+fn serve_all<D: Disk, K: Name, G: Gate, T: Teller, R: Wait>(
+    context: &mut Context<'_, D, K, G, T, R>,
     port: &mut Port<K>,
     served: &mut ServedNumbers,
     glances: &mut Glances<K>,
@@ -94,6 +100,8 @@ fn serve_all<D: Disk, K: Name, G: Gate, R: Wait>(
     ensures done { ServesOn K.origin.memory (deeds_of port.old served.old glances.old)
         (deeds_of port.new served.new glances.new) result outlet.old outlet.new }
     ensures open { OnErr result (outlet.new.ended ≡ false) }
+    ensures told { TellsEarlier port.old.history port.new.history port.old.element served.old served.new
+        (T.told context.old.teller) (T.told context.new.teller) }
 {
     let rt = context.rt;
     for _ in rt.forever() {
@@ -129,8 +137,8 @@ fn drain<R: Wait>(rt: &R, outlet: &mut Outlet<Intent>)
 }
 
 // Serves what an element asks for, up to the pipe's end. It doesn't retire the port.
-fn serve_to_end<D: Disk, K: Name, G: Gate, R: Wait>(
-    context: &Context<'_, D, K, G, R>,
+fn serve_to_end<D: Disk, K: Name, G: Gate, T: Teller, R: Wait>(
+    context: &mut Context<'_, D, K, G, T, R>,
     port: &mut Port<K>,
     served: &mut ServedNumbers,
     glances: &mut Glances<K>,
@@ -139,6 +147,8 @@ fn serve_to_end<D: Disk, K: Name, G: Gate, R: Wait>(
     requires { outlet.old.ended ≡ false }
     ensures done { ServesOn K.origin.memory (deeds_of port.old served.old glances.old)
         (deeds_of port.new served.new glances.new) result outlet.old outlet.new }
+    ensures told { TellsEarlier port.old.history port.new.history port.old.element served.old served.new
+        (T.told context.old.teller) (T.told context.new.teller) }
 {
     match serve_all(context, port, served, glances, outlet) {
         Ok(()) => await_rest(context.rt, context.controller, port, served),
@@ -157,6 +167,10 @@ fn serve_to_end<D: Disk, K: Name, G: Gate, R: Wait>(
 /// After the last request it waits, in order, for each of its requests that is still kept. At the end it retires its
 /// port.
 ///
+/// An entry that an earlier script left is told to the teller before it is confirmed: its answer, as it was found. What
+/// is told is one number after another, so nothing is left out. No entry of an earlier script is confirmed untold, if
+/// none was when the server began.
+///
 /// It leaves at most four lines in the trace for each request, and one for each entry that was kept before the first.
 ///
 /// A glance waits for nobody. Its value comes after all that was shown when the element's last request was answered,
@@ -170,8 +184,8 @@ fn serve_to_end<D: Disk, K: Name, G: Gate, R: Wait>(
 /// The i-th entry is the answer to the i-th operation that was received, under the i-th number from the first on, or
 /// what was found under that number later. The lines of the operations stand in the trace, as far as the port has seen
 /// it, in their order.
-pub fn serve_element<D: Disk, K: Name, G: Gate, R: Wait>(
-    context: &Context<'_, D, K, G, R>,
+pub fn serve_element<D: Disk, K: Name, G: Gate, T: Teller, R: Wait>(
+    context: &mut Context<'_, D, K, G, T, R>,
     port: &mut Port<K>,
     served: &mut ServedNumbers,
     glances: &mut Glances<K>,
@@ -180,6 +194,8 @@ pub fn serve_element<D: Disk, K: Name, G: Gate, R: Wait>(
     requires { outlet.old.ended ≡ false }
     ensures done { ServesOn K.origin.memory (deeds_of port.old served.old glances.old)
         (deeds_of port.new served.new glances.new) result outlet.old outlet.new }
+    ensures told { TellsEarlier port.old.history port.new.history port.old.element served.old served.new
+        (T.told context.old.teller) (T.told context.new.teller) }
 {
     let done = serve_to_end(context, port, served, glances, outlet);
     port.retire(context.rt, context.controller);

@@ -12,6 +12,7 @@ use crate::parts::{Done, Part, ServerStart};
 use crate::running::{Pair, Running, Sends, Serves, Stopped};
 use crate::sender::{Sent, send_all};
 use crate::server::serve_element;
+use crate::teller::Teller;
 use im_controller::{Controller, Name};
 use im_disk::Disk;
 use im_pipes::{Inlet, Outlet, pipe};
@@ -25,11 +26,26 @@ use std::thread::{PromisedHandle, Scope};
 /// How many messages a pipe holds.
 pub const PIPE: usize = 8;
 
-// Serves an element from its end of the pipe.
-fn serve_part<D: Disk, K: Name, G: Gate, R: Wait>(
+// Puts together what a server uses.
+fn context_of<'a, D: Disk, K: Name, G, T, R>(
+    rt: &'a R,
+    controller: &'a Controller<D, K>,
+    company: (&'a G, T),
+) -> Context<'a, D, K, G, T, R> {
+    let (gate, teller) = company;
+    Context {
+        rt,
+        controller,
+        gate,
+        teller,
+    }
+}
+
+// Serves an element from its end of the pipe. Its company is the gate and its teller.
+fn serve_part<D: Disk, K: Name, G: Gate, T: Teller + Copy, R: Wait>(
     rt: &R,
     controller: &Controller<D, K>,
-    gate: &G,
+    company: (&G, T),
     server: ServerStart<K>,
     outlet: Outlet<Intent>,
 ) -> Stopped<K>
@@ -44,12 +60,14 @@ fn serve_part<D: Disk, K: Name, G: Gate, R: Wait>(
         mut glances,
     } = server;
     let mut outlet = outlet;
-    let context = Context {
-        rt,
-        controller,
-        gate,
-    };
-    let done = serve_element(&context, &mut port, &mut served, &mut glances, &mut outlet);
+    let mut context = context_of(rt, controller, company);
+    let done = serve_element(
+        &mut context,
+        &mut port,
+        &mut served,
+        &mut glances,
+        &mut outlet,
+    );
     Stopped {
         done: Done {
             port,
@@ -146,8 +164,16 @@ fn begin_sending<'s, E, R: Host>(
 
 // Starts the thread that serves an element. If it can't be made, the pipe is ended; then the server runs here, finds
 // nothing to serve and retires.
-fn begin_serving<'s, E, D: Disk + Drop + Send, K: Name + Send + Sync, G: Gate + Sync, R: Host>(
-    context: &Context<'s, D, K, G, R>,
+fn begin_serving<
+    's,
+    E,
+    D: Disk + Drop + Send,
+    K: Name + Send + Sync,
+    G: Gate + Sync,
+    T: Teller + Copy + Send + 's,
+    R: Host,
+>(
+    context: &Context<'s, D, K, G, T, R>,
     scope: &Scope<'s, E>,
     server: ServerStart<K>,
     inlet: Inlet<Intent>,
@@ -160,14 +186,14 @@ fn begin_serving<'s, E, D: Disk + Drop + Send, K: Name + Send + Sync, G: Gate + 
 {
     let rt = context.rt;
     let controller = context.controller;
-    let gate = context.gate;
+    let company = (context.gate, context.teller);
     let serves = Serves {
         server: Snapshot::of(&server),
         outlet: Snapshot::of(&outlet),
     };
     match scope.spawn_with(
         serves,
-        move || serve_part(rt, controller, gate, server, outlet),
+        move || serve_part(rt, controller, company, server, outlet),
     ) {
         Ok(thread) => Ok((thread, inlet)),
         Err(refused) => {
@@ -178,8 +204,16 @@ fn begin_serving<'s, E, D: Disk + Drop + Send, K: Name + Send + Sync, G: Gate + 
 }
 
 // Starts to serve an element, with two threads.
-fn begin<'s, E, D: Disk + Drop + Send, K: Name + Send + Sync, G: Gate + Sync, R: Host>(
-    context: &Context<'s, D, K, G, R>,
+fn begin<
+    's,
+    E,
+    D: Disk + Drop + Send,
+    K: Name + Send + Sync,
+    G: Gate + Sync,
+    T: Teller + Copy + Send + 's,
+    R: Host,
+>(
+    context: &Context<'s, D, K, G, T, R>,
     alloc: Global,
     scope: &Scope<'s, E>,
     part: Part<K>,
@@ -216,9 +250,10 @@ pub(crate) fn begin_all<
     D: Disk + Drop + Send,
     K: Name + Send + Sync,
     G: Gate + Sync,
+    T: Teller + Copy + Send + 's,
     R: Host,
 >(
-    context: &Context<'s, D, K, G, R>,
+    context: &Context<'s, D, K, G, T, R>,
     alloc: Global,
     scope: &Scope<'s, E>,
     parts: Vec<Part<K>>,

@@ -37,6 +37,7 @@ fn tell<R: Audience + Host>(
         "pages" => im_stories_pages::walk(rt, word, said),
         "image" => im_stories_image::walk(rt, word, said),
         "engine" => im_stories_engine::walk(rt, word, said),
+        "listed" => im_stories_listed::walk(rt, word, said),
         "program" => im_stories_program::walk(rt, held, word, said),
         "migration" => im_stories_migration::walk(rt, held, word, said),
         "run" => played(

@@ -7,6 +7,7 @@ use im_listening::{Ear, Listener, Patient};
 use im_script::read_text;
 use im_story::Saying;
 use std::io::{self, BufReader, Error, ErrorKind, Read};
+use std::marker::Brand;
 use std::sync::Wait;
 use std::thread::{Threads, yield_now};
 
@@ -66,8 +67,8 @@ impl Read for Hasty {
 }
 
 // Starts to listen to a reader with a thread.
-fn listening<R: Audience, I: Read + Drop + Send + 'static>(rt: &R, input: I) -> Listener<R, I> {
-    let mut listener = Listener::new(*rt, input);
+fn listening<R: Audience, I: Read + Drop + Send + 'static>(rt: &R, i: I) -> Listener<R, I, Brand> {
+    let mut listener = Listener::new(*rt, i);
     listener.begin(rt.alloc());
     listener
 }
@@ -85,7 +86,7 @@ fn wait_for<R: Wait, E: Ear>(rt: &R, ear: &mut E) {
 // Gives all that is said in order, wherever it was asked whether something is there.
 fn tell_lines<R: Audience>(
     rt: &R,
-    mut listener: Listener<R, &'static [u8]>,
+    mut listener: Listener<R, &'static [u8], Brand>,
     told: &mut Saying,
 ) -> Result<()> {
     let mut given = Vec::new(rt.alloc());
@@ -102,7 +103,7 @@ fn tell_lines<R: Audience>(
 // Is quiet while nobody says anything. Then a byte is said, and is given, and the end.
 fn tell_silence<R: Audience>(rt: &R, told: &mut Saying) -> Result<()> {
     let (say, said) = bounded(rt.alloc(), 1)?;
-    let mut listener = Listener::new(*rt, Mouth { rt: *rt, said });
+    let mut listener: Listener<R, Mouth<R>, Brand> = Listener::new(*rt, Mouth { rt: *rt, said });
     writeln!(told, "nobody listens: {}", listener.is_quiet());
     listener.begin(rt.alloc());
     writeln!(told, "nothing is said: {}", listener.is_quiet());
@@ -144,7 +145,8 @@ fn tell_reads<I: Read>(input: &mut I, times: usize, told: &mut Saying) -> Result
 // Waits for a reader that doesn't wait itself, and doesn't read again after the end.
 fn tell_waiting<R: Audience>(rt: &R, told: &mut Saying) -> Result<()> {
     tell_reads(&mut Patient::new(*rt, Hasty(STEPS)), 5, told)?;
-    tell_reads(&mut Listener::new(*rt, Hasty(STEPS)), 6, told)?;
+    let mut unheard = Listener::<R, Hasty, Brand>::new(*rt, Hasty(STEPS));
+    tell_reads(&mut unheard, 6, told)?;
     let mut listener = listening(rt, Hasty(STEPS));
     let _quiet = listener.is_quiet();
     tell_reads(&mut listener, 6, told)
@@ -181,7 +183,8 @@ fn show_each<R: Audience>(rt: &R, told: &mut Saying) -> Result<()> {
     tell_waiting(rt, told)?;
     told.text("# a text of a reader that does not wait\n");
     tell_whole(rt, &mut Patient::new(*rt, Hasty(STEPS)), told);
-    let mut input = BufReader::new(rt.alloc(), Listener::new(*rt, Hasty(STEPS)))?;
+    let unheard = Listener::<R, Hasty, Brand>::new(*rt, Hasty(STEPS));
+    let mut input = BufReader::new(rt.alloc(), unheard)?;
     tell_whole(rt, &mut input, told);
     told.text("# an end that is heard\n");
     tell_end(rt, told)

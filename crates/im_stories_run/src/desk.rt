@@ -2,17 +2,19 @@
 
 use crate::again::run_again;
 use crate::gates::After;
+use crate::heard::Hearing;
 use crate::scripts::script_of;
 use im_disk::Mode;
 use im_report::inspect_on;
 use im_run::{Assignment, RunContext, RunMode, run_on, run_once_on, write_trace};
 use im_script::read_script_with_glances;
-use im_serving::{Gate, Host, Open};
+use im_serving::{EarlierAnswer, Gate, Host, Open};
 use im_story::{Printout, Saying};
 use im_story_disk::StoryFile;
-use im_text::{News, Reason};
-use im_types::{Limits, Observer, Refusal, Unobserved};
+use im_text::{News, Reason, Waited};
+use im_types::{Entry, Limits, Observer, Refusal};
 use std::alloc::Global;
+use std::sync::Mutex;
 
 /// How a script is run: once or not, as a plan or not, and for its trace or not.
 #[derive(Clone, Copy)]
@@ -33,14 +35,44 @@ impl How {
     }
 }
 
-// Notes why the work is refused, and nothing else.
+// Notes why the work is refused, and what is told of earlier scripts.
 #[derive(Drop)]
-struct WhyRefused(Option<Reason>);
+struct Noted {
+    refused: Option<Reason>,
+    heard: Saying,
+}
 
-impl Observer<News> for WhyRefused {
+impl Noted {
+    // Notes the answer to a request of an earlier script.
+    fn note(&mut self, when: &str, who: (u16, u64), entry: Entry) {
+        let (element, number) = who;
+        write!(self.heard, "{when}: {element}.{number} now ");
+        self.heard.entry(entry);
+        self.heard.text("\n")
+    }
+
+    // Notes what servers told.
+    fn note_told(&mut self, told: &[EarlierAnswer]) {
+        for answer in told {
+            let who = (answer.element, answer.number);
+            self.note("before it is confirmed", who, answer.entry)
+        }
+    }
+}
+
+impl Observer<News> for Noted {
     fn tell(&mut self, news: News) {
-        if let News::Refused(reason) = news {
-            self.0 = Some(reason);
+        match news {
+            News::Refused(reason) => self.refused = Some(reason),
+            News::Answered(waited) => {
+                let Waited {
+                    element,
+                    number,
+                    entry,
+                } = waited;
+                self.note("at the end", (element, number), entry)
+            }
+            _ => {}
         }
     }
 }
@@ -54,8 +86,8 @@ pub struct RunDesk<'a> {
     pub place: StoryFile,
     /// What was last printed.
     pub out: Printout,
-    /// Why the last run was refused, if it was.
-    reason: WhyRefused,
+    // Why the last run was refused, if it was, and what it told of earlier scripts.
+    noted: Noted,
     /// Whether the last run held requests back until another one was answered.
     held: bool,
     /// What is told.
@@ -81,7 +113,10 @@ impl<'a> RunDesk<'a> {
             text,
             place: StoryFile::new(alloc),
             out: Printout::new(alloc),
-            reason: WhyRefused(None),
+            noted: Noted {
+                refused: None,
+                heard: Saying::new(alloc),
+            },
             held: false,
             said: Saying::new(alloc),
         }
@@ -113,17 +148,21 @@ impl<'a> RunDesk<'a> {
         let Some(disk) = self.place.taken() else {
             return 2;
         };
-        let (out, reason) = (&mut self.out, &mut self.reason);
-        let context = RunContext::new(rt, alloc, gate, Unobserved);
+        self.noted.heard = Saying::new(alloc);
+        let heard = Mutex::new(Vec::new(alloc));
+        let hearing = Hearing { rt, heard: &heard };
+        let (out, noted) = (&mut self.out, &mut self.noted);
+        let context = RunContext::new(rt, alloc, gate, hearing);
         let asked = Assignment {
             script: &script,
             mode,
         };
         let (status, disk, trace) = if how.once {
-            run_once_on(&context, disk, asked, out, reason)
+            run_once_on(&context, disk, asked, out, noted)
         } else {
-            run_on(&context, disk, asked, out, reason)
+            run_on(&context, disk, asked, out, noted)
         };
+        self.noted.note_told(heard.lock(rt).as_slice());
         self.place.lay_down(disk);
         if mode.recorded {
             self.out = Printout::new(alloc);
@@ -153,14 +192,22 @@ impl<'a> RunDesk<'a> {
         }
     }
 
+    // Runs a script, and tells what it told of earlier scripts.
+    fn run_owed<R: Host>(&mut self, rt: &R, how: How, name: &str) {
+        let script = script_of(self.place.alloc, self.text, name);
+        let status = self.serve(rt, how, script.said(), &Open);
+        self.said.also(&self.noted.heard);
+        writeln!(self.said, "status {status}")
+    }
+
     // Runs a script on a disk whose calls fail behind the opening. Tells whether the observer was told of that.
     fn run_failing<R: Host>(&mut self, rt: &R, name: &str) {
         let _opened = self.place.found(None);
         self.place.fuse = (self.place.calls, Mode::Stop);
         let script = script_of(self.place.alloc, self.text, name);
-        self.reason = WhyRefused(None);
+        self.noted.refused = None;
         let status = self.serve(rt, How::of("run"), script.said(), &Open);
-        let is_told = match self.reason.0 {
+        let is_told = match self.noted.refused {
             Some(reason) => reason.refusal() == Some(Refusal::Device),
             None => false,
         };
@@ -174,7 +221,7 @@ impl<'a> RunDesk<'a> {
         let Some(disk) = self.place.taken() else {
             return Saying::new(alloc);
         };
-        let (status, disk) = inspect_on(alloc, disk, &mut self.out, &mut self.reason);
+        let (status, disk) = inspect_on(alloc, disk, &mut self.out, &mut self.noted);
         self.place.lay_down(disk);
         let mut lines = lines_of(alloc, self.out.text(), words);
         writeln!(lines, "status {status}");
@@ -196,6 +243,7 @@ impl<'a> RunDesk<'a> {
             "new" | "old" => self.lay(call == "old"),
             "run" | "plan" | "trace" | "once" | "once-plan" => self.run(rt, How::of(call), words),
             "fault" => self.run_failing(rt, words),
+            "owed" | "once-owed" | "owed-plan" => self.run_owed(rt, How::of(call), words),
             "again" | "again-plan" => run_again(rt, self, How::of(call), words),
             "held" => writeln!(self.said, "{words}: {}", self.held),
             "report" if words == "windows" => self.tell_report(&["element"]),

@@ -9,6 +9,8 @@
 //!                                requests of the other of elements 1 and 2 are held until one of N's is answered
 //! held TEXT                      tells the text, and whether the last run held requests back so
 //! report, report windows         the image's cells and entries, or its windows
+//! owed NAME, once-owed NAME, owed-plan NAME    the same as run, once and plan, but it tells what the run told of
+//!                                earlier scripts: before it was confirmed, or at the end
 //! fault NAME                     a run on an image whose calls fail behind its opening
 //! once NAME, once-plan NAME      runs what the image doesn't have of a script, or goes on with its plan
 //! again NAME N, again NAME N by M    the same on new images, stopped behind 0 to N calls of the disk, or each M of
@@ -22,6 +24,7 @@ mod again;
 mod desk;
 mod ends;
 mod gates;
+mod heard;
 mod scripts;
 
 use desk::RunDesk;

@@ -4,7 +4,7 @@ use crate::casts::{Cast, keep, outcome_of};
 use im_controller::{Name, Port, Shown};
 use im_glass::{Glance, PaneName};
 use im_serving::Host;
-use im_types::Op;
+use im_types::{Op, Refusal};
 
 /// How many cells the writer fills and readers look at.
 pub const CELLS: u32 = 256;
@@ -91,7 +91,8 @@ impl<K: Name + Send + Sync, R: Host> Cast<'_, K, R> {
         }
     }
 
-    /// The last element fills the last cell of a large memory, and looks there.
+    /// The last element fills the last cell of a large memory, looks there, and fetches it up to its sixtieth request.
+    /// Nobody keeps checkpoints: each time that the journal is full, the port makes a turn (20,000 calls at most).
     pub fn look_far(&mut self) {
         let Ok(mut glance) = self.controller.glance(self.rt, 63) else {
             return self.said.text("  no glance\n");
@@ -111,7 +112,16 @@ impl<K: Name + Send + Sync, R: Host> Cast<'_, K, R> {
                 Err(_) => writeln!(self.said, "  glance {a}: refused"),
             }
         }
-        self.submit(&mut port, 2, Op::Fetch(65_535));
+        let mut number = 2u64;
+        for _ in 0..20_000u32 {
+            let answer = port.submit(self.rt, self.controller, number, Op::Fetch(65_535));
+            match outcome_of(&answer) {
+                Err(Refusal::JournalFull) => drop(port.help(self.rt, self.controller)),
+                Ok(_) if number < 60 => number = number.saturating_add(1),
+                _ => break,
+            }
+        }
+        self.submit(&mut port, number, Op::Fetch(65_535));
         self.keep(port)
     }
 }

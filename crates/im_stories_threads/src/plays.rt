@@ -101,8 +101,8 @@ pub static PLAYS: [Play; 10] = [
         ..USUAL
     },
     Play {
-        head: "a great memory, and a glance at its last cell",
-        sizes: (65_536, 64, 4_096),
+        head: "a great memory, a glance at its last cell, and a port that makes room by itself",
+        sizes: (65_536, 64, 16),
         blocks: (65_536, 0),
         ..USUAL
     },

@@ -27,6 +27,7 @@ impl<K: Name + Send + Sync, R: Host> Cast<'_, K, R> {
             element,
             first: 1,
             base: 1,
+            untold: 1,
             entries,
         };
         Some(Part {

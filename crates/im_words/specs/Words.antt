@@ -5,7 +5,6 @@ use Rattle.std.specs.Option.{option_map, option_and_then, option_map_or}
 use Rattle.std.specs.List.{before_first, after_first, position_or_len}
 use Rattle.std.specs.Str.{bytes_eq}
 use Rattle.clap.specs.declared.builder.action.ArgAction.TheVariants.{SetTrue}
-use Rattle.clap.specs.declared.builder.value_parser.ValueParser.TheVariants.{Unsigned}
 use Rattle.clap.specs.Words.{
   App,
   Row,
@@ -47,9 +46,9 @@ flag_rule id = record (new_rule id) { long = Some id; action = Some SetTrue }
 abbrev pub path_rule : Text → Rule
 path_rule id = record (new_rule id) { required = true }
 
--- the option for the time that an opening waits: whole seconds, up to a day
+-- the option for the time that an opening waits
 abbrev pub wait_rule : Rule
-wait_rule = record (option_rule (codes "wait")) { parser = Some (Unsigned 0 86400) }
+wait_rule = option_rule (codes "wait")
 
 -- a subcommand that takes a path, with [--statuses] and [--wait SECONDS]
 abbrev pub file_app : Text → Text → App
@@ -323,19 +322,19 @@ abbrev pub has_statuses : Option (Text × List Row) → Bool
 has_statuses None = false
 has_statuses (Some met) = is_given met.1 (codes "statuses")
 
--- the text after a leading plus; a text without one is taken whole
-abbrev pub behind_plus : Text → Text
-behind_plus [] = []
-behind_plus (byte ∷ rest) = if byte == 43 then rest else byte ∷ rest
+-- the seconds that a text gives in decimal digits, up to a day
+abbrev pub seconds_of : Text → Option ℕ
+seconds_of text =
+    option_and_then (λ seconds. if nat_le seconds 86400 then Some seconds else None) (number_up_to 4294967295 text)
 
--- the seconds that a text gives in decimal digits, after an optional plus; none if it isn't such a text
-abbrev pub seconds_of : Text → ℕ
-seconds_of text = unwrap_or (number_up_to 4294967295 (behind_plus text)) 0
+-- how many seconds an opening waits: none, if it isn't said
+abbrev pub seconds_in : List Row → Option ℕ
+seconds_in rows = option_map_or seconds_of (first_of (codes "wait") rows) (Some 0)
 
 -- how many seconds the openings of the subcommand that was found wait
-abbrev pub wait_in : Option (Text × List Row) → ℕ
-wait_in None = 0
-wait_in (Some met) = seconds_of (path_in met.1 (codes "wait"))
+abbrev pub wait_in : Option (Text × List Row) → Option ℕ
+wait_in None = Some 0
+wait_in (Some met) = seconds_in met.1
 
 -- whether a subcommand serves a script
 abbrev pub is_of_script : Text → Bool
@@ -351,7 +350,7 @@ abbrev pub asks_telling : List Text → Telling
 asks_telling words = telling_in (subcommand_of imem_app words)
 
 -- the same of the words, as clap walks them
-abbrev pub asks_wait : List Text → ℕ
+abbrev pub asks_wait : List Text → Option ℕ
 asks_wait words = wait_in (subcommand_of imem_app words)
 
 -- the same of the words, as clap walks them

@@ -228,12 +228,12 @@ pub(crate) fn bad_look(alloc: Global, found: &ArgMatches<'_>) -> Result<Error, A
         found.get_str("element"),
     ) {
         (None, Some(text), _) => format!(in alloc;
-            "invalid value {text:?} for '--cells <FROM-TO>': two addresses below 4294967296 are expected, as 0-99"
+            "invalid value {text:?} for '--cells <FROM-TO>': two addresses, 0 to 1048575, are expected, as 0-99"
         )?,
         (_, _, text) => {
             let text = text.unwrap_or("");
             format!(in alloc;
-                "invalid value {text:?} for '--element <N>': a decimal number below 4294967296 is expected"
+                "invalid value {text:?} for '--element <N>': a decimal number, 0 to 63, is expected"
             )?
         }
     };

@@ -1,21 +1,19 @@
 //! What the words that clap found ask for.
-ghost use Rattle.std.specs.Prelude.{◌≡◌, IfSome, codes};
+ghost use Rattle.std.specs.Prelude.{◌≡◌, ◌⊎◌, IfNone, IfSome, None, Some, codes};
 ghost use Rattle.std.specs.Option.{option_map};
 ghost use Rattle.clap.specs.Words.{subcommand_rows_of};
-ghost use Rattle.im_words.specs.Words.{behind_plus, has_statuses, is_of_script, seconds_of, task_in, task_of_work};
-ghost use Rattle.im_words.specs.Words.{telling_in, wait_in};
+ghost use Rattle.im_words.specs.Words.{has_statuses, is_of_script, task_in, task_of_work, telling_in, wait_in};
 
 use crate::copy_words::{copy_work, dump_work, load_work};
 use crate::format_words::format_work;
 use crate::look_words::{inspect_work, stat_work};
 use crate::migrate_words::migrate_work;
-use crate::parts::{is_given, path_of};
+use crate::parts::{is_given, seconds_given};
 use crate::script_words::{run_work, serial_work, telling_given};
 use crate::serve_words::serve_work;
 use crate::words::{CommandLine, Work};
 use clap::ArgMatches;
 use im_filters::Telling;
-use im_script::read_u32;
 
 /// What the command line asks for. Returns `None` if a number is not the decimal number of a u32, if a plan is to be
 /// done once, or if lines are to be told in two ways.
@@ -60,33 +58,13 @@ fn statuses_of(matches: &ArgMatches<'_>) -> bool
     }
 }
 
-/// Returns the text after a leading plus. A text without one is returned whole.
-fn behind_plus(text: &[u8]) -> &[u8]
-    ensures { result.now ≡ behind_plus text.now }
-{
-    if text.is_empty() {
-        return text;
-    }
-    if text[0] == b'+' { &text[1..] } else { text }
-}
-
-/// Returns the seconds that a text gives in decimal digits, after an optional plus. clap has refused any other text.
-fn read_seconds(text: &[u8]) -> u32
-    ensures { result ≡ seconds_of text.now }
-{
-    match read_u32(behind_plus(text)) {
-        Some(seconds) => seconds,
-        None => 0,
-    }
-}
-
-/// How many seconds the subcommand's openings wait.
-fn wait_of(matches: &ArgMatches<'_>) -> u32
+/// How many seconds the subcommand's openings wait. Returns `None` if that is not a decimal number of at most a day.
+fn wait_of(matches: &ArgMatches<'_>) -> Option<u32>
     ensures { result ≡ wait_in (subcommand_rows_of matches.now) }
 {
     match matches.subcommand() {
-        None => 0,
-        Some((_, found)) => read_seconds(path_of(found, "wait").as_bytes()),
+        None => Some(0),
+        Some((_, found)) => seconds_given(found),
     }
 }
 
@@ -114,21 +92,21 @@ fn telling_of(matches: &ArgMatches<'_>) -> Telling
 }
 
 /// The work, how the program is to end, how long its openings wait, and how its lines are told. Returns `None` as
-/// [`work_of`] does.
+/// [`work_of`] and [`wait_of`] do.
 pub(crate) fn line_of<'a>(matches: &ArgMatches<'a>) -> Option<CommandLine<'a>>
-    ensures work { option_map (λ (line : CommandLine). task_of_work line.work) result
-        ≡ task_in (subcommand_rows_of matches.now) }
+    ensures work { IfSome result (λ line. task_in (subcommand_rows_of matches.now) ≡ Some (task_of_work line.work)) }
+    ensures none { IfNone result ((task_in (subcommand_rows_of matches.now) ≡ None)
+        ⊎ (wait_in (subcommand_rows_of matches.now) ≡ None)) }
     ensures statuses { IfSome result (λ line. line.statuses ≡ has_statuses (subcommand_rows_of matches.now)) }
-    ensures wait { IfSome result (λ line. line.wait ≡ wait_in (subcommand_rows_of matches.now)) }
+    ensures wait { IfSome result (λ line. wait_in (subcommand_rows_of matches.now) ≡ Some line.wait) }
     ensures telling { IfSome result (λ line. line.telling ≡ telling_in (subcommand_rows_of matches.now)) }
 {
-    match work_of(matches) {
-        Some(work) => Some(CommandLine {
-            work,
-            statuses: statuses_of(matches),
-            wait: wait_of(matches),
-            telling: telling_of(matches),
-        }),
-        None => None,
-    }
+    let work = work_of(matches)?;
+    let wait = wait_of(matches)?;
+    Some(CommandLine {
+        work,
+        statuses: statuses_of(matches),
+        wait,
+        telling: telling_of(matches),
+    })
 }

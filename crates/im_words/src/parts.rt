@@ -3,14 +3,15 @@ ghost use Rattle.std.specs.Prelude.{◌≡◌, false, IfOk, codes};
 ghost use Rattle.std.specs.Option.{option_map};
 ghost use Rattle.clap.specs.Words.{app_of, first_of, found_of, rows_of, rule_of};
 ghost use Rattle.clap.specs.declared.builder.command.Command.TheViews.{out-Command};
-ghost use Rattle.im_words.specs.Words.{file_app, flag_rule, is_given, option_rule, path_in, path_rule, wait_rule};
+ghost use Rattle.im_words.specs.Words.{file_app, flag_rule, is_given, option_rule, path_in, path_rule, seconds_in};
+ghost use Rattle.im_words.specs.Words.{seconds_of, wait_rule};
 
-use clap::builder::ValueParser;
 use clap::{Arg, ArgAction, ArgMatches, Command};
+use im_script::read_u32;
 use std::alloc::{AllocError, Global};
 
 /// The most seconds that the opening of a file waits for its lock: a day.
-const MAX_WAIT: u64 = 86_400;
+const MAX_WAIT: u32 = 86_400;
 
 /// An option with a value, which the help names.
 pub(crate) fn value_option<'a>(alloc: Global, id: &'a str, value: &'a str, help: &'a str) -> Arg<'a>
@@ -65,11 +66,12 @@ fn wait_option<'a>(alloc: Global) -> Arg<'a>
     ensures rule { rule_of result ≡ wait_rule }
     ensures local { result.global ≡ false }
 {
-    Arg::new(alloc, "wait")
-        .long("wait")
-        .value_name("SECONDS")
-        .value_parser(ValueParser::unsigned(0, MAX_WAIT))
-        .help("Try again for this time if a file is in use, 0 to 86400 seconds [default: 0]")
+    value_option(
+        alloc,
+        "wait",
+        "SECONDS",
+        "Try again for this time if a file is in use, 0 to 86400 seconds [default: 0]",
+    )
 }
 
 /// What the help says of a subcommand: of its path, what it does, and how it is used.
@@ -135,6 +137,29 @@ pub(crate) fn path_if<'a>(found: &ArgMatches<'a>, id: &str) -> Option<&'a str>
     ensures { option_map (λ path. path.now) result ≡ first_of id.now (rows_of (found_of found.now)) }
 {
     found.get_str(id)
+}
+
+/// Returns the seconds that a text gives in decimal digits, if they are at most a day.
+fn read_seconds(text: &[u8]) -> Option<u32>
+    ensures { result ≡ seconds_of text.now }
+{
+    let seconds = read_u32(text)?;
+    if seconds <= MAX_WAIT {
+        Some(seconds)
+    } else {
+        None
+    }
+}
+
+/// Returns the seconds that an opening waits, which are 0 if they aren't given. Returns `None` if their text is not the
+/// decimal number of at most a day.
+pub(crate) fn seconds_given(found: &ArgMatches) -> Option<u32>
+    ensures { result ≡ seconds_in (rows_of (found_of found.now)) }
+{
+    match found.get_str("wait") {
+        Some(text) => read_seconds(text.as_bytes()),
+        None => Some(0),
+    }
 }
 
 /// Whether a flag is given.

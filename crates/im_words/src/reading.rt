@@ -10,6 +10,7 @@ use crate::format_words::{bad_option, format_command};
 use crate::look_words::{bad_look, inspect_command, stat_command};
 use crate::migrate_words::migrate_command;
 use crate::orders::line_of;
+use crate::parts::{path_of, seconds_given};
 use crate::script_words::{bad_script, run_command, serial_command};
 use crate::serve_words::serve_command;
 use crate::words::{CommandLine, WordFault, version};
@@ -104,21 +105,78 @@ fn sized_command<'a>(alloc: Global, name: &str) -> Result<Command<'a>, AllocErro
     }
 }
 
+/// Which sizes an image may have.
+fn range_of(id: &str) -> &'static str {
+    if id == "cells" {
+        "1 to 1048576"
+    } else if id == "elements" {
+        "1 to 64"
+    } else {
+        "16 to 4096"
+    }
+}
+
 /// The error for a size that is no number, with the usage of the subcommand.
 fn bad_size(alloc: Global, name: &str, found: Option<&ArgMatches>) -> Result<Error, AllocError> {
     let (id, text) = match found {
         Some(found) => bad_option(found).unwrap_or(("cells", "")),
         None => ("cells", ""),
     };
+    let range = range_of(id);
     let message = format!(in alloc;
-        "invalid value {text:?} for '--{id} <N>': a decimal number below 4294967296 is expected"
+        "invalid value {text:?} for '--{id} <N>': a decimal number, {range}, is expected"
     )?;
     let mut command = sized_command(alloc, name)?;
     command.error(ErrorKind::ValueValidation, message.as_str())
 }
 
+/// The subcommand of this name that takes no sizes, as its usage shows it.
+fn unsized_command<'a>(alloc: Global, name: &str) -> Result<Command<'a>, AllocError> {
+    if name == "serial" {
+        serial_command(alloc)?.bin_name("imem serial")
+    } else if name == "run" {
+        run_command(alloc)?.bin_name("imem run")
+    } else if name == "serve" {
+        serve_command(alloc)?.bin_name("imem serve")
+    } else if name == "inspect" {
+        inspect_command(alloc)?.bin_name("imem inspect")
+    } else if name == "migrate" {
+        migrate_command(alloc)?.bin_name("imem migrate")
+    } else if name == "dump" {
+        dump_command(alloc)?.bin_name("imem dump")
+    } else {
+        stat_command(alloc)?.bin_name("imem stat")
+    }
+}
+
+/// The error for a time to wait that is no number of at most a day, with the usage of the subcommand.
+fn bad_wait(alloc: Global, name: &str, text: &str) -> Result<Error, AllocError> {
+    let message = format!(in alloc;
+        "invalid value {text:?} for '--wait <SECONDS>': a decimal number, 0 to 86400 seconds, is expected"
+    )?;
+    let has_sizes = name == "format" || name == "copy" || name == "load";
+    let mut command = if has_sizes {
+        sized_command(alloc, name)?
+    } else {
+        unsized_command(alloc, name)?
+    };
+    command.error(ErrorKind::ValueValidation, message.as_str())
+}
+
+/// The subcommand's name and the text of its time to wait, if that is no number of at most a day.
+fn bad_seconds<'a>(matches: &ArgMatches<'a>) -> Option<(&'a str, &'a str)> {
+    let (name, found) = matches.subcommand()?;
+    match seconds_given(found) {
+        Some(_) => None,
+        None => Some((name, path_of(found, "wait"))),
+    }
+}
+
 /// The error for a text that is no number, or for two flags that can't go together, with the usage of the subcommand.
 fn bad_number(alloc: Global, matches: &ArgMatches<'_>) -> Result<Error, AllocError> {
+    if let Some((name, text)) = bad_seconds(matches) {
+        return bad_wait(alloc, name, text);
+    }
     match matches.subcommand() {
         Some(("run", _)) => bad_script(alloc, "run"),
         Some(("serial", _)) => bad_script(alloc, "serial"),
@@ -137,16 +195,17 @@ fn number_fault(alloc: Global, matches: &ArgMatches<'_>) -> WordFault {
 }
 
 /// Reads the words of a command line, with the program's own name first. [`WordFault::Bad`] has the error
-/// that clap found, or says that a number is not written in decimal digits below 2^32. `--help` and `--version` are
-/// such faults too, with status 0.
+/// that clap found, or says which number is not written in decimal digits and below 2^32, a time to wait up to 86,400.
+/// `--help` and `--version` are such faults too, with status 0.
 pub fn read_words<'a>(alloc: Global, words: &'a [&'a str]) -> Result<CommandLine<'a>, WordFault>
     ensures work { IfOk result (λ line. asks_task (texts words.entry.now) ≡ Some (task_of_work line.work)) }
     ensures statuses { IfOk result (λ line. line.statuses ≡ asks_statuses (texts words.entry.now)) }
-    ensures wait { IfOk result (λ line. line.wait ≡ asks_wait (texts words.entry.now)) }
+    ensures wait { IfOk result (λ line. asks_wait (texts words.entry.now) ≡ Some line.wait) }
     ensures telling { IfOk result (λ line. line.telling ≡ asks_telling (texts words.entry.now)) }
     ensures sound { IsOk result → fault_of imem_app (texts words.entry.now) ≡ [] }
     ensures taken { IfErr result (λ fault. takes imem_app (texts words.entry.now) ≡ true →
-        IsSome (asks_task (texts words.entry.now)) → fault ≡ WordFault.NoMemory) }
+        IsSome (asks_task (texts words.entry.now)) → IsSome (asks_wait (texts words.entry.now))
+        → fault ≡ WordFault.NoMemory) }
 {
     let command = match imem_command(alloc) {
         Ok(command) => command,

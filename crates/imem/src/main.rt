@@ -2,9 +2,10 @@
 #![tactic(auto)]
 
 ghost use Rattle.std.specs.Prelude.{◌≡◌, ◌≤◌};
+ghost use Rattle.im_listening.specs.Lending.{HasBytes};
 
 use im_files::Waiting;
-use im_listening::Listener;
+use im_listening::{InputBytes, Listener};
 use im_program::{
     AtHand, CommandLine, Console, Descriptors, Job, Prompter, Terminals, WordFault, Work, act_told,
     read_words, refuse, status_for,
@@ -14,6 +15,7 @@ use std::alloc::{AllocError, Global};
 use std::env::{self, Env};
 use std::fs::File;
 use std::io::{self, BufRead, BufReader, Eprint, Input, IsTerminal, Print, Read, Write};
+use std::marker::Brand;
 use std::process::ExitCode;
 use std::rt::Files;
 use std::sync::Wait;
@@ -41,18 +43,74 @@ fn prompts(line: &CommandLine, terminals: Terminals) -> bool {
     is_dialogue(line) && terminals.input && terminals.errors
 }
 
+// Tells a person who gave no word that there is help.
+fn tell_help<R: Eprint>(rt: &R, line: &CommandLine, terminals: Terminals) {
+    if terminals.errors && matches!(line.work, Work::Demonstration) {
+        let _printed = rt.eprintln("imem: 'imem --help' tells what there is");
+    }
+}
+
 // A reader of standard input, to which a thread listens in a dialogue.
-fn listen<R: Threads + Wait + Copy + Drop + Send + 'static, I: Read + Drop + Send + 'static>(
-    rt: &R,
-    alloc: Global,
-    input: I,
-    line: &CommandLine,
-) -> Listener<R, I> {
+fn listen<
+    R: Threads + Wait + Copy + Drop + Send + 'static,
+    I: Read + Drop + Send + 'static,
+    K: InputBytes + Send + 'static,
+>(rt: &R, alloc: Global, input: I, line: &CommandLine) -> Listener<R, I, K>
+    requires whole { HasBytes K.whole (I.remaining input) }
+{
     let mut listener = Listener::new(*rt, input);
     if is_dialogue(line) {
         listener.begin(alloc);
     }
     listener
+}
+
+// Where the work is done.
+#[derive(Drop)]
+struct Surroundings<'a, R> {
+    rt: &'a R,
+    held: &'a Descriptors,
+    terminals: Terminals,
+}
+
+// Does the work on this input.
+fn work_heard<
+    R: Files<File = File>
+        + AllocGlobal
+        + Eprint
+        + Threads
+        + Wait
+        + Clock
+        + Copy
+        + Drop
+        + Send
+        + Sync
+        + 'static,
+    I: BufRead + Drop + Send + 'static,
+    W: Write,
+    K: InputBytes + Send + 'static,
+>(place: Surroundings<'_, R>, line: &CommandLine, out: &mut W, input: I) -> u8
+    requires whole { HasBytes K.whole (I.remaining input) }
+    ensures { result ≤ 5 }
+{
+    let rt = place.rt;
+    let listener: Listener<R, I, K> = listen(rt, rt.alloc(), input, line);
+    let prompter = Prompter::new(rt, listener, prompts(line, place.terminals));
+    match BufReader::new(rt.alloc(), prompter) {
+        Ok(mut input) => {
+            let mut console = Console::new(rt, place.held, &line.work, place.terminals);
+            let hand = AtHand {
+                rt,
+                held: place.held,
+                input: &mut input,
+                observer: &mut console,
+            };
+            let starts = (Waiting::new(*rt, line.wait), Waiting::new(*rt, line.wait));
+            let (status, _out, _disk, _old) = act_told(hand, line, out, starts);
+            status_for(status, line.statuses, console.reason())
+        }
+        Err(_) => refuse(rt.alloc(), Refusal::NoMemory, out),
+    }
 }
 
 /// Does the work, and tells its lines as the command line says. Each read of standard input takes as much as there is,
@@ -76,23 +134,13 @@ fn work_on<
 >(rt: &R, held: &Descriptors, line: &CommandLine, out: &mut W, terminals: Terminals) -> u8
     ensures { result ≤ 5 }
 {
-    let listener = listen(rt, rt.alloc(), rt.reader(), line);
-    let input = Prompter::new(rt, listener, prompts(line, terminals));
-    match BufReader::new(rt.alloc(), input) {
-        Ok(mut input) => {
-            let mut console = Console::new(rt, held, &line.work, terminals);
-            let hand = AtHand {
-                rt,
-                held,
-                input: &mut input,
-                observer: &mut console,
-            };
-            let starts = (Waiting::new(*rt, line.wait), Waiting::new(*rt, line.wait));
-            let (status, _out, _disk, _old) = act_told(hand, line, out, starts);
-            status_for(status, line.statuses, console.reason())
-        }
-        Err(_) => refuse(rt.alloc(), Refusal::NoMemory, out),
-    }
+    tell_help(rt, line, terminals);
+    let place = Surroundings {
+        rt,
+        held,
+        terminals,
+    };
+    work_heard::<R, I, W, Brand>(place, line, out, rt.reader())
 }
 
 /// Does what the command line asks for.

@@ -161,6 +161,21 @@ count = 3
 close = closed
 calls = 16
 
+# In one group a put answers the take ahead of it, and the take behind it waits
+format 4096 16 256 = formatted
+0.1 alloc m 1 = base 0
+together 1.1 take 0 with 2.1 put 0 7 with 3.1 take 0 = waiting, stored, waiting
+collect 1.1 = value 7
+together 4.1 put 0 8 with 5.1 put 0 9 = stored, stored
+collect 3.1 = value 8
+cell 0 = full 9 in block 0 of 1 m
+6.1 take 0 = value 9
+count = 7
+close = closed
+open = opened
+count = 7
+collect 3.1 = value 8
+
 # Where the room ends, later members are answered on the memory without the refused ones
 format 4096 16 16 = formatted
 14 times 1.1 fetch 9 = nocell x14

@@ -49,7 +49,7 @@ imem load - b.img --slots 16 --cells 0 --elements 3 = load - into b.img, 0 cells
 imem format --wait 1 a.img --cells 5 = make a.img of 5 cells, 16 elements, 256 slots, waiting 1 s
 imem serial a.img s --wait=86400 --statuses = serve s on a.img, by statuses, waiting 86400 s
 imem run --wait 007 a.img s --planned = run s on a.img, planned, waiting 7 s
-imem serve a.img --wait +5 --watch = talk on a.img, watched, waiting 5 s
+imem serve a.img --wait 5 --watch = talk on a.img, watched, waiting 5 s
 imem inspect a.img --wait 0 = tell of a.img
 imem migrate a.img b.img --wait 60 = move a.img on to b.img, waiting 60 s
 imem copy a.img b.img --wait 3 = copy a.img to b.img, waiting 3 s
@@ -125,45 +125,66 @@ imem load a.dump = status 2
 says NEW = yes
 imem load a.dump b.img --count 5 = status 2
 
-# A time to wait is a number of whole seconds, at most a day
+# A time to wait is a number of whole seconds in decimal digits, at most a day
 imem serve a.img --wait 86401 = status 2
-says 86401 = yes
-says --wait <SECONDS> = yes
+says invalid value "86401" for '--wait <SECONDS>': a decimal number, 0 to 86400 seconds, is expected = yes
+says Usage: imem serve [OPTIONS] <IMAGE> = yes
 imem serial a.img s --wait 1.5 = status 2
-says '1.5' = yes
+says "1.5" for '--wait <SECONDS>' = yes
+says Usage: imem serial [OPTIONS] <IMAGE> <SCRIPT> = yes
 imem inspect a.img --wait 18446744073709551616 = status 2
+says Usage: imem inspect [OPTIONS] <IMAGE> = yes
 imem format a.img --wait 5s = status 2
+says Usage: imem format [OPTIONS] <IMAGE> = yes
 imem run a.img s --wait -1 = status 2
+imem run a.img s --wait=-1 = status 2
+says Usage: imem run [OPTIONS] <IMAGE> <SCRIPT> = yes
+imem serve a.img --wait +5 = status 2
+says "+5" for '--wait <SECONDS>': a decimal number, 0 to 86400 seconds, is expected = yes
+imem dump a.img --wait 1e3 = status 2
+says "1e3" for '--wait <SECONDS>' = yes
+says Usage: imem dump [OPTIONS] <IMAGE> = yes
+imem stat a.img --wait 0x5 = status 2
+says Usage: imem stat [OPTIONS] <IMAGE> = yes
+imem migrate a.img b.img --wait "" = status 2
+says Usage: imem migrate [OPTIONS] <OLD> <NEW> = yes
+-- The time to wait is named first.
+imem copy a.img b.img --cells y --wait x = status 2
+says "x" for '--wait <SECONDS>' = yes
+says Usage: imem copy [OPTIONS] <OLD> <NEW> = yes
+imem load a.dump b.img --wait 1_0 = status 2
+says Usage: imem load [OPTIONS] <TEXT> <NEW> = yes
 imem migrate a.img b.img --wait = status 2
 imem inspect a.img --wait 1 --wait 2 = status 2
 imem --wait 5 = status 2
 
 # An option takes decimal digits alone, of a number below 2^32
 imem format a.img --cells 4294967296 = status 2
-says 4294967296 = yes
-says for '--cells <N>' = yes
+says "4294967296" for '--cells <N>': a decimal number, 1 to 1048576, is expected = yes
 says Usage: imem format [OPTIONS] <IMAGE> = yes
 -- The first option at fault is named, with its word.
 imem format a.img --slots 1e3 --cells 64 --elements two = status 2
-says "two" for '--elements <N>' = yes
+says "two" for '--elements <N>': a decimal number, 1 to 64, is expected = yes
 imem format a.img --cells +5 = status 2
-says 4294967296 = yes
+says 1 to 1048576 = yes
+imem format a.img --cells 1e6 = status 2
+says "1e6" for '--cells <N>': a decimal number, 1 to 1048576, is expected = yes
 imem format a.img --cells 0x5 = status 2
-says 4294967296 = yes
+says 1 to 1048576 = yes
 imem format a.img --cells 1_0 = status 2
-says 4294967296 = yes
+says 1 to 1048576 = yes
 -- Five and a space, and an empty word.
 imem format a.img --cells 5~ = status 2
-says 4294967296 = yes
+says 1 to 1048576 = yes
 imem format a.img --cells "" = status 2
-says 4294967296 = yes
+says 1 to 1048576 = yes
 
 # The usage is that of the subcommand whose size is no number
 imem copy a.img b.img --cells 4294967296 = status 2
 says "4294967296" for '--cells <N>' = yes
 says Usage: imem copy [OPTIONS] <OLD> <NEW> = yes
 imem load a.dump b.img --elements 1 --slots +16 = status 2
-says "+16" for '--slots <N>' = yes
+says "+16" for '--slots <N>': a decimal number, 16 to 4096, is expected = yes
 says Usage: imem load [OPTIONS] <TEXT> <NEW> = yes
 
 # Help says what each subcommand does, with an example
@@ -207,6 +228,13 @@ says entry E.N OPERATION -> ANSWER = yes
 imem load --help = status 0
 says imem load a.dump b.img = yes
 says 18 BadScript = yes
+-- The short word asks for the same.
+imem -h = status 0
+says Usage: imem [COMMAND] = yes
+imem serial -h = status 0
+says Usage: imem serial [OPTIONS] <IMAGE> <SCRIPT> = yes
+imem stat -h = status 0
+says Usage: imem stat [OPTIONS] <IMAGE> = yes
 
 # The version is told with the layout that is written
 imem --version = status 0
@@ -230,13 +258,13 @@ imem inspect a.img --json = tell of a.img, as JSON
 imem inspect a.img --waiting --json --cells 0-1 = tell of a.img, cells 0 to 1, who waits, as JSON
 imem dump a.img --json = dump a.img, as JSON
 imem inspect a.img --cells 9 = status 2
-says invalid value "9" for '--cells <FROM-TO>': two addresses below 4294967296 are expected, as 0-99 = yes
+says invalid value "9" for '--cells <FROM-TO>': two addresses, 0 to 1048575, are expected, as 0-99 = yes
 says Usage: imem inspect = yes
 imem inspect a.img --cells 9-8 = status 2
 imem inspect a.img --cells 1-2-3 = status 2
 imem inspect a.img --cells 0-4294967296 = status 2
 imem inspect a.img --cells 0- = status 2
 imem inspect a.img --element x = status 2
-says invalid value "x" for '--element <N>': a decimal number below 4294967296 is expected = yes
+says invalid value "x" for '--element <N>': a decimal number, 0 to 63, is expected = yes
 imem stat --help = status 0
 says jq .journal.room = yes

@@ -11,6 +11,30 @@ report
 run stores
 report
 
+-- What earlier scripts left is told before it is confirmed. What waited is told at the end, if it is still kept.
+# a fetch that waited, and is kept
+new
+run waits
+owed stores
+
+# a take that waited: its value is nowhere else, and its window is full
+new
+run takes
+owed asks much
+report windows
+
+# an answer that is of no plan
+new
+run first
+owed-plan wide
+report windows
+
+# an answer of the script itself, which is told first
+new
+run first
+once-owed long
+report windows
+
 -- A fetch and its store, by two servers. A gate may hold one back.
 # a fetch and its store, by two servers in any order
 new
@@ -52,6 +76,11 @@ report
 # one that only glances, too
 new
 run no glancer
+report
+
+# one whose part has no line, too
+new
+run no line
 report
 
 -- Whoever is refused then, the observer is told about the disk.
@@ -306,6 +335,14 @@ store x 5
 element 16
 fetch x
 
+script no line
+# An element that doesn't exist, with no line, and one that does.
+setup
+alloc x i 1
+element 20
+element 1
+fetch x
+
 script no glancer
 # An element that doesn't exist and only glances.
 element 1
@@ -408,6 +445,37 @@ requests round
 1.4 fetch 0
 2.1 fetch 1
 3.1 store 1 7
+
+script takes
+# A take without its put.
+setup
+alloc m m 1
+alloc x i 1
+element 1
+take m
+
+script asks much
+# More requests than a window has, behind one of an earlier script that another element answers.
+element 1
+store 1 7
+repeat 65 fetch 1
+element 2
+put 0 42
+
+script first
+# A store alone.
+setup
+alloc x i 1
+element 1
+store x 5
+
+script wide
+# More requests of a plan than a window has, of another cell.
+setup
+alloc y i 1
+element 1
+store y 8
+repeat 64 fetch y
 
 script long
 setup

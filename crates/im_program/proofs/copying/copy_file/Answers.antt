@@ -32,3 +32,10 @@ returns-in-Ok-clause-copied g c =
     c.end.ensures.same))
     (read_since other opened mid old c.in_ok-from.ensures.found c.in_ok-length.ensures.reads.reads
     c.copy.ensures.reads.honest c.copy.ensures.reads.reads)
+
+pub returns-in-Ok-clause-named : goal.returns-in-Ok-clause-named
+returns-in-Ok-clause-named g c = λ honest. c.in_ok-to.ensures.named (c.in-Ok.ensures.leaves honest).0
+
+pub returns-in-Ok-clause-old : goal.returns-in-Ok-clause-old
+returns-in-Ok-clause-old g c = λ honest.
+    c.in_ok-from.ensures.named (c.in_ok-length.ensures.reads.honest (c.copy.ensures.reads.honest honest))

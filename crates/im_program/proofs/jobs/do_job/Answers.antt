@@ -23,3 +23,21 @@ returns-in-Dump-clause-done g c = rw c.in-Dump.is (ok_both _ _ _ c.dump_file.res
 
 pub returns-in-Load-clause-done : goal.returns-in-Load-clause-done
 returns-in-Load-clause-done g c = rw c.in-Load.is c.load_file.ensures.loaded
+
+pub returns-in-Format-clause-named : goal.returns-in-Format-clause-named
+returns-in-Format-clause-named g c = rw c.in-Format.is c.format_image.ensures.named
+
+pub returns-in-Serial-clause-named : goal.returns-in-Serial-clause-named
+returns-in-Serial-clause-named g c = rw c.in-Serial.is c.serve_file.ensures.named
+
+pub returns-in-Serve-clause-named : goal.returns-in-Serve-clause-named
+returns-in-Serve-clause-named g c = rw c.in-Serve.is c.talk_file.ensures.named
+
+pub returns-in-Inspect-clause-named : goal.returns-in-Inspect-clause-named
+returns-in-Inspect-clause-named g c = rw c.in-Inspect.is c.inspect_file.ensures.named
+
+pub returns-in-Dump-clause-named : goal.returns-in-Dump-clause-named
+returns-in-Dump-clause-named g c = rw c.in-Dump.is c.dump_file.ensures.named
+
+pub returns-in-Load-clause-named : goal.returns-in-Load-clause-named
+returns-in-Load-clause-named g c = rw c.in-Load.is c.load_file.ensures.named

@@ -21,3 +21,10 @@ returns-clause-moved g c =
     (λ honest done h. c.migrate_on-status.ensures.moved done h honest) c.migrate_on-status.ensures.told
     (read_since other opened mid old c.in-Ok.ensures.found c.in-Ok-length_of.ensures.reads.reads
     c.migrate_on-status.ensures.reads.honest c.migrate_on-status.ensures.reads.reads)
+
+pub returns-clause-named : goal.returns-clause-named
+returns-clause-named g c = λ honest. c.in-Ok-place_at.ensures.named (c.migrate_on-status.ensures.honest honest)
+
+pub returns-clause-old : goal.returns-clause-old
+returns-clause-old g c = λ honest.
+    c.in-Ok.ensures.named (c.in-Ok-length_of.ensures.reads.honest (c.migrate_on-status.ensures.reads.honest honest))

@@ -48,3 +48,6 @@ returns-then-running-clause-recorded g c = λ asked.
 
 pub returns-clause-recorded : goal.returns-clause-recorded
 returns-clause-recorded g c = λ asked. c.run_on.ensures.recorded (c.mode_of.ensures.recorded ∙ asked)
+
+pub returns-then-running-clause-named : goal.returns-then-running-clause-named
+returns-then-running-clause-named g c = λ honest. c.in_ok-disk.ensures.named (c.run_once_on.ensures.run honest).0

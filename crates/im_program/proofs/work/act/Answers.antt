@@ -17,4 +17,11 @@ returns-in-Transfer-clause-moved g c = rw c.in-Transfer.is
 
 pub returns-in-Transfer-clause-other : goal.returns-in-Transfer-clause-other
 returns-in-Transfer-clause-other g c = rw c.in-Transfer.is
-    (some_each _ c.act_on_two.result.2 (λ disk. is_of_two c.in-Transfer.transfer))
+    (some_then _ _ c.act_on_two.result.2 (λ disk named. (is_of_two c.in-Transfer.transfer, named))
+    c.act_on_two.ensures.old)
+
+pub returns-in-Run-clause-named : goal.returns-in-Run-clause-named
+returns-in-Run-clause-named g c = rw c.in-Run.is c.act_at_once-status.ensures.named
+
+pub returns-in-Transfer-clause-named : goal.returns-in-Transfer-clause-named
+returns-in-Transfer-clause-named g c = rw c.in-Transfer.is c.act_on_two.ensures.named

@@ -5,7 +5,7 @@ use Rattle.im_serial.proofs.ScriptedLemmas.{has_served, unserved}
 use Rattle.im_run.specs.Orders.{HasReadTo, IsOfAll, ask_of, asks_among, asks_in, first_asked, script_heard}
 use Rattle.im_run.specs.Orders.{settled_by, settled_when}
 use Rattle.im_run.proofs.BlocksLemmas.{ends_as, passes_as}
-use Rattle.im_run.proofs.OrdersLemmas.{if_ok_map, orders_read}
+use Rattle.im_run.proofs.OrdersLemmas.{if_ok_map, if_ok_of, on_ok_map, orders_read}
 use Rattle.im_run.proofs.orders.read_orders.Goals as goal
 
 pub returns-in_default-clause-served : goal.returns-in_default-clause-served
@@ -14,7 +14,7 @@ returns-in_default-clause-served g c = unserved g.D.Disk _ _ _ _ _
 pub returns-in-Ok-set_up-clause-served : goal.returns-in-Ok-set_up-clause-served
 returns-in-Ok-set_up-clause-served g c =
     let once = c.args.asked.once in
-    has_served g.D.Disk c.make_workload.result _ _ _ _ _
+    has_served g.D.Disk c.with_parts.result _ _ _ _ _
     (passes_as g.D.Disk (settled_by c.in-Ok.sheet.past) (settled_when once c.args.server.now.engine.memory)
     (script_heard c.args.asked.script.now) _ _ _ _
     (c.in-Ok.ensures.settled ∙ ap (settled_when once) c.memory.ensures) c.in-Ok-set_up.ensures.served.serves)
@@ -43,16 +43,26 @@ returns-in-Ok-set_up-clause-orders g c =
     let script = script_heard c.args.asked.script.now in
     let was : settled_by first.past ≡ settled_when once c.args.server.now.engine.memory =
     c.in-Ok.ensures.settled ∙ ap (settled_when once) c.memory.ensures in
-    if_ok_map _ _ c.make_workload.result c.make_workload.ensures.asked (λ work asked.
+    if_ok_of _ c.with_parts.result c.make_workload-work.result c.with_parts.ensures.work
+    (if_ok_map _ _ c.make_workload-work.result c.make_workload-work.ensures.asked (λ work asked.
     orders_read (first_asked once c.set_up.new.server.engine.memory) (settled_when once c.args.server.now.engine.memory)
     (settled_by s.past) bases script first.orders.items s.orders.items work.orders.items c.in-Ok.ensures.places
     c.in-Ok.ensures.none
     (subst (λ (h : List ℕ). HasReadTo h script first.orders.items (settled_by s.past) [] bases s.orders.items) was
     c.in-Ok-set_up.ensures.read)
     (subst (λ (m : Contents). map ask_of work.orders.items ≡ asks_among (first_asked once m) s.orders.items)
-    c.memory-memory.ensures asked))
+    c.memory-memory.ensures asked)))
 
 pub returns-in-Ok-set_up-clause-whole : goal.returns-in-Ok-set_up-clause-whole
-returns-in-Ok-set_up-clause-whole g c = if_ok_map _ _ c.make_workload.result c.make_workload.ensures.whole
+returns-in-Ok-set_up-clause-whole g c = if_ok_of _ c.with_parts.result c.make_workload-work.result
+    c.with_parts.ensures.work (if_ok_map _ _ c.make_workload-work.result c.make_workload-work.ensures.whole
     (λ work whole. subst (λ (b : List ℕ). IsOfAll c.args.asked.once b (script_heard c.args.asked.script.now)
-    (asks_in work.whole)) c.as_slice-bases.ensures.value whole)
+    (asks_in work.whole)) c.as_slice-bases.ensures.value whole))
+
+pub returns-in-Ok-set_up-clause-mode : goal.returns-in-Ok-set_up-clause-mode
+returns-in-Ok-set_up-clause-mode g c = if_ok_of _ c.with_parts.result c.make_workload-work.result
+    c.with_parts.ensures.work c.make_workload-work.ensures.mode
+
+pub returns-in-Ok-set_up-clause-there : goal.returns-in-Ok-set_up-clause-there
+returns-in-Ok-set_up-clause-there g c =
+    on_ok_map _ _ c.with_parts.result c.with_parts.ensures.there c.in-Ok-set_up.ensures.there

@@ -11,3 +11,6 @@ returns-in-Ok-clause-served g c =
 
 pub returns-in-Ok-clause-read : goal.returns-in-Ok-clause-read
 returns-in-Ok-clause-read g c = ok_if _ c.flush.result c.in-Ok.ensures.read
+
+pub returns-in-Ok-clause-there : goal.returns-in-Ok-clause-there
+returns-in-Ok-clause-there g c = ok_if _ c.flush.result c.in-Ok.ensures.there

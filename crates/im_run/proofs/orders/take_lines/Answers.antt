@@ -1,12 +1,12 @@
-use Rattle.std.proofs.Common.{[], List, ℕ, ap₂, refl}
+use Rattle.std.proofs.Common.{[], List, ℕ, ap₂, refl, subst}
 use Rattle.std.specs.Option.{option_map_or}
 use Rattle.im_script.specs.Script.{Draft, draft_of, lines_of}
 use Rattle.im_serial.specs.Serving.{server_of}
 use Rattle.im_serial.proofs.OnceLemmas.{part_ends, part_serves}
 use Rattle.im_serial.proofs.ScriptedLemmas.{ends_here, has_served}
-use Rattle.im_run.specs.Orders.{blocks_of, lines_heard, script_heard, settled_by}
+use Rattle.im_run.specs.Orders.{ArePartsThere, blocks_of, lines_heard, script_heard, settled_by}
 use Rattle.im_run.proofs.BlocksLemmas.{blocks_line, blocks_none, blocks_some, blocks_start}
-use Rattle.im_run.proofs.OrdersLemmas.{read_line, read_none, rest_none, rest_some}
+use Rattle.im_run.proofs.OrdersLemmas.{read_line, read_none, rest_none, rest_some, there_end, there_line, there_start}
 use Rattle.im_run.proofs.orders.take_lines.Goals as goal
 
 pub loop-number-init : goal.loop-number-init
@@ -18,6 +18,7 @@ loop-number-init g c =
     record {
       served = blocks_start g.D.Disk had all _ bases _ same;
       read = read_none had bases all _ c.args.sheet.now.orders.items same;
+      there = there_start _ all _ _ same;
     }
 
 pub loop-number-preserved : goal.loop-number-preserved
@@ -54,6 +55,9 @@ loop-number-preserved g c =
           c.split_line.ensures c.in-Ok.ensures.ok
           (rest_some had all first.orders.items s.orders.items before now.bases.items d c.loop-number.rest text
           c.in-Some.is it.read) heard;
+      there = there_line c.count_elements-elements.result all d next c.in-Ok.heard c.loop-number.rest text
+          c.split_line.result.0.now c.split_line.result.1 c.loop-number.missing c.missed_by-missing.result c.in-Some.is
+          c.split_line.ensures c.in-Ok.ensures.ok c.missed_by-missing.ensures.there it.there;
     }
 
 pub returns-in-None-clause-served : goal.returns-in-None-clause-served
@@ -71,6 +75,13 @@ returns-in-None-clause-read g c =
     rest_none (settled_by first.past) (script_heard c.args.script.now) first.orders.items s.orders.items
     (settled_by s.past) c.loop-number.server.bases.items (draft_of c.loop-number.reader) c.loop-number.rest
     c.in-None.is c.loop-number.invariant.read
+
+pub returns-in-None-clause-there : goal.returns-in-None-clause-there
+returns-in-None-clause-there g c = λ none.
+    let all = script_heard c.args.script.now in
+    subst (λ (n : ℕ). ArePartsThere n all) c.count_elements-elements.ensures
+    (there_end c.count_elements-elements.result all (draft_of c.loop-number.reader) c.loop-number.rest
+    c.loop-number.missing c.in-None.is c.loop-number.invariant.there none)
 
 pub returns-in-Err-clause-served : goal.returns-in-Err-clause-served
 returns-in-Err-clause-served g c =

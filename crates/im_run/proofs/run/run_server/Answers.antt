@@ -55,6 +55,7 @@ returns-in-Ok-clause-run g c = λ honest.
     serving.reached))
     (names_made once start.memory script server.bases.items known put bases (named_here start.memory there put
     serving.named))
+    (match_ok _ r.result.0 c.in-Ok.work c.in-Ok.is r.ensures.there)
 
 pub returns-in-Ok-clause-honest : goal.returns-in-Ok-clause-honest
 returns-in-Ok-clause-honest g c = λ honest.

@@ -3,12 +3,16 @@ use Rattle.std.specs.Prelude.{None}
 use Rattle.im_trace.specs.Ends.{RecordingState}
 use Rattle.im_run.specs.Doing.{AreAllTold}
 use Rattle.im_run.specs.Orders.{ask_of}
+use Rattle.im_run.proofs.DoingLemmas.{told_weaker}
 use Rattle.im_run.proofs.served.serve_orders.Goals as goal
 
 pub returns-clause-told : goal.returns-clause-told
 returns-clause-told g c =
     let notes = c.serve_parts-ports in
     let end = c.finish-engine in
-    subst (λ (t : RecordingState). AreAllTold g.K.Name.origin.memory t.items (notes.result.refused ≡ None)
+    told_weaker g.K.Name.origin.memory c.of.result.items (notes.result.refused ≡ None)
+    (c.refused_at_end.result ≡ None) (map ask_of c.args.orders.items) notes.result.did.items
+    c.refused_at_end.ensures.refused
+    (subst (λ (t : RecordingState). AreAllTold g.K.Name.origin.memory t.items (notes.result.refused ≡ None)
     (map ask_of c.args.orders.items) notes.result.did.items) (sym c.of.ensures)
-    (notes.ensures.told end.result.trace.items end.ensures.came.seen)
+    (notes.ensures.told end.result.trace.items end.ensures.came.seen))

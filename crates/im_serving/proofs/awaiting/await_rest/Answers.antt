@@ -1,9 +1,10 @@
 use Rattle.std.proofs.Common.{◌∙◌, refl}
 use Rattle.im_serving.proofs.AnswerLemmas.{looked_none, looked_then}
+use Rattle.im_serving.proofs.ToldLemmas.{same_none, same_then}
 use Rattle.im_serving.proofs.awaiting.await_rest.Goals as goal
 
 pub loop-number-init : goal.loop-number-init
-loop-number-init g c = (refl, refl, looked_none _ _ _ _)
+loop-number-init g c = (refl, refl, looked_none _ _ _ _, same_none _)
 
 pub loop-number-preserved : goal.loop-number-preserved
 loop-number-preserved g c =
@@ -13,7 +14,13 @@ loop-number-preserved g c =
       looked_then c.args.port.now.history l.port.history c.await_one.new.port.history c.args.port.now.element
           l.port.element c.args.served.now.first l.served.first c.args.served.now.entries.items l.served.entries.items
           c.await_one.new.served.entries.items l.invariant.0 l.invariant.1 l.invariant.2 c.await_one.ensures.looked,
+      same_then c.args.served.now l.served c.await_one.new.served l.invariant.3 c.await_one.ensures.same,
     )
+
+pub returns-in-Err-clause-same : goal.returns-in-Err-clause-same
+returns-in-Err-clause-same g c =
+    let l = c.loop-number in
+    same_then c.args.served.now l.served c.await_one.new.served l.invariant.3 c.await_one.ensures.same
 
 pub returns-in-Err-clause-looked : goal.returns-in-Err-clause-looked
 returns-in-Err-clause-looked g c =

@@ -1,5 +1,6 @@
 use Rattle.std.proofs.Common.{◌∙◌}
 use Rattle.im_serving.proofs.AnswerLemmas.{looked_then}
+use Rattle.im_serving.proofs.ToldLemmas.{tells_then}
 use Rattle.im_serving.proofs.awaiting.first_waiting.Goals as goal
 
 pub returns-in-Ok-false-clause-looked : goal.returns-in-Ok-false-clause-looked
@@ -24,4 +25,21 @@ loop-number-preserved g c =
       looked_then c.args.port.now.history l.port.history c.is_answered.new.port.history c.args.port.now.element
           l.port.element c.args.served.now.first l.served.first c.args.served.now.entries.items l.served.entries.items
           c.is_answered.new.served.entries.items l.invariant.0 l.invariant.1 l.invariant.2 c.is_answered.ensures.looked,
+      tells_then c.args.port.now.history l.port.history c.is_answered.new.port.history c.args.port.now.element
+          l.port.element c.args.served.now l.served c.is_answered.new.served _ _ _ l.invariant.0
+          l.invariant.3 c.is_answered.ensures.told,
     )
+
+pub returns-in-Ok-false-clause-told : goal.returns-in-Ok-false-clause-told
+returns-in-Ok-false-clause-told g c =
+    let l = c.loop-number in
+    tells_then c.args.port.now.history l.port.history c.is_answered.new.port.history c.args.port.now.element
+    l.port.element c.args.served.now l.served c.is_answered.new.served _ _ _ l.invariant.0
+    l.invariant.3 c.is_answered.ensures.told
+
+pub returns-in-Err-is_answered-clause-told : goal.returns-in-Err-is_answered-clause-told
+returns-in-Err-is_answered-clause-told g c =
+    let l = c.loop-number in
+    tells_then c.args.port.now.history l.port.history c.is_answered.new.port.history c.args.port.now.element
+    l.port.element c.args.served.now l.served c.is_answered.new.served _ _ _ l.invariant.0
+    l.invariant.3 c.is_answered.ensures.told

@@ -1,5 +1,6 @@
 use Rattle.std.proofs.Common.{◌≡◌}
 use Rattle.im_serving.specs.Serving.{Looked}
+use Rattle.im_serving.specs.Told.{TellsEarlier}
 use Rattle.im_serving.proofs.awaiting.first_waiting.Given as goal
 
 abbrev pub invariant-loop-number : goal.invariant-loop-number
@@ -7,3 +8,5 @@ invariant-loop-number g l =
     (l.port.element ≡ l.fn.port.element) × (l.served.first ≡ l.fn.served.first)
     × Looked l.fn.port.history l.port.history l.fn.port.element l.fn.served.first l.fn.served.entries.items
     l.served.entries.items
+    × TellsEarlier l.fn.port.history l.port.history l.fn.port.element l.fn.served l.served
+    (g.T.Teller.told l.fn.context.teller) (g.T.Teller.told l.context.teller)

@@ -1,6 +1,7 @@
 use Rattle.std.proofs.Common.{rules}
 use Rattle.im_serving.proofs.AnswerLemmas.{looked_none, looked_on}
 use Rattle.im_serving.proofs.GlanceLemmas.{glanced_more}
+use Rattle.im_serving.proofs.ToldLemmas.{same_none, tells_as, tells_confirmed, tells_none}
 use Rattle.im_serving.proofs.awaiting.make_place.Goals as goal
 
 pub returns-in-Ok-confirm-clause-seen : goal.returns-in-Ok-confirm-clause-seen
@@ -26,3 +27,19 @@ returns-in-Err-confirm-clause-looked g c =
 
 pub returns-then-saturating_sub-lt-WINDOW-clause-looked : goal.returns-then-saturating_sub-lt-WINDOW-clause-looked
 returns-then-saturating_sub-lt-WINDOW-clause-looked g c = looked_none _ _ _ _
+
+pub returns-in-Ok-confirm-clause-told : goal.returns-in-Ok-confirm-clause-told
+returns-in-Ok-confirm-clause-told g c =
+    let f = c.first_waiting in
+    tells_confirmed c.args.port.now.history f.new.port.history c.confirm.new.port.history c.args.port.now.element
+    c.confirmable-upto.result c.args.served.now f.new.served _ _ _ c.confirm.ensures.longer (search rules)
+    c.confirmable-upto.ensures f.ensures.told
+
+pub returns-in-Err-confirm-clause-told : goal.returns-in-Err-confirm-clause-told
+returns-in-Err-confirm-clause-told g c =
+    let f = c.first_waiting in
+    tells_as c.args.port.now.history f.new.port.history c.confirm.new.port.history c.args.port.now.element
+    c.args.served.now f.new.served f.new.served _ _ c.confirm.ensures.longer (same_none f.new.served) f.ensures.told
+
+pub returns-then-saturating_sub-lt-WINDOW-clause-told : goal.returns-then-saturating_sub-lt-WINDOW-clause-told
+returns-then-saturating_sub-lt-WINDOW-clause-told g c = tells_none _ _ _ _

@@ -2,6 +2,7 @@ use Rattle.std.proofs.Common.{rules, ◌≡◌, ◌∙◌, ◌++◌, ◌∷◌, 
 use Rattle.im_serving.specs.Serving.{AreDone}
 use Rattle.im_serving.proofs.GlanceLemmas.{begun_all, begun_then, counted_same, counted_then, done_then, few_by, few_then}
 use Rattle.im_serving.proofs.GlanceLemmas.{glanced_then}
+use Rattle.im_serving.proofs.ToldLemmas.{tells_then}
 use Rattle.im_serving.proofs.server.serve_all.Goals as goal
 
 pub loop-preserved : goal.loop-preserved
@@ -24,6 +25,9 @@ loop-preserved g c = (
       c.args.glances.now.glance c.loop.glances.glance c.serve_intent.new.glances.glance
       c.args.glances.now.made.items c.loop.glances.made.items c.serve_intent.new.glances.made.items c.loop.invariant.2
       c.loop.invariant.8 c.serve_intent.ensures.seen,
+  tells_then c.args.port.now.history c.loop.port.history c.serve_intent.new.port.history c.args.port.now.element
+      c.loop.port.element c.args.served.now c.loop.served c.serve_intent.new.served _ _ _ c.loop.invariant.2
+      c.loop.invariant.9 c.serve_intent.ensures.told,
 )
 
 pub returns-in-Err-clause-done : goal.returns-in-Err-clause-done
@@ -83,3 +87,9 @@ returns-in-Gone-clause-done g c =
       few = few_by _ _ count;
       seen = l.invariant.8;
     }
+
+pub returns-in-Err-clause-told : goal.returns-in-Err-clause-told
+returns-in-Err-clause-told g c =
+    tells_then c.args.port.now.history c.loop.port.history c.serve_intent.new.port.history c.args.port.now.element
+    c.loop.port.element c.args.served.now c.loop.served c.serve_intent.new.served _ _ _ c.loop.invariant.2
+    c.loop.invariant.9 c.serve_intent.ensures.told

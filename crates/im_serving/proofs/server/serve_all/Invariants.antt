@@ -1,5 +1,6 @@
 use Rattle.std.proofs.Common.{◌≡◌, ◌+◌, false, length}
 use Rattle.im_serving.specs.Serving.{AreDone, AreGlanced}
+use Rattle.im_serving.specs.Told.{TellsEarlier}
 use Rattle.im_serving.proofs.server.serve_all.Given as goal
 
 abbrev pub invariant-loop : goal.invariant-loop
@@ -13,3 +14,5 @@ invariant-loop g l =
     ≡ length l.fn.served.entries.items + length l.fn.glances.made.items + length l.outlet.items)
     × (AreGlanced g.K.Name.origin.memory l.fn.port.element l.fn.glances.last l.fn.glances.glance l.fn.glances.made.items
     → AreGlanced g.K.Name.origin.memory l.fn.port.element l.glances.last l.glances.glance l.glances.made.items)
+    × TellsEarlier l.fn.port.history l.port.history l.fn.port.element l.fn.served l.served
+    (g.T.Teller.told l.fn.context.teller) (g.T.Teller.told l.context.teller)

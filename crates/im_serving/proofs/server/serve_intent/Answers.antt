@@ -1,5 +1,6 @@
 use Rattle.std.proofs.Common.{rules}
 use Rattle.im_serving.proofs.GlanceLemmas.{done_glance, done_refused, done_request, glanced_by, unglanced}
+use Rattle.im_serving.proofs.ToldLemmas.{tells_none}
 use Rattle.im_serving.proofs.server.serve_intent.Goals as goal
 
 pub returns-in-Request-clause-done : goal.returns-in-Request-clause-done
@@ -30,3 +31,6 @@ returns-in-Glance-clause-seen g c =
     c.args.glances.now.glance c.read.new.self.glance
     c.args.glances.now.made.items c.read.new.self.made.items c.read.ensures.kept c.read.ensures.made
     c.read.ensures.last c.read.ensures.same
+
+pub returns-in-Glance-clause-told : goal.returns-in-Glance-clause-told
+returns-in-Glance-clause-told g c = tells_none _ _ _ _

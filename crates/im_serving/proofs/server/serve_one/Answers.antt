@@ -1,6 +1,7 @@
 use Rattle.std.proofs.Common.{rules, refl, arith}
 use Rattle.im_serving.proofs.AnswerLemmas.{asked_as, looked_count, looked_few, looked_on}
 use Rattle.im_serving.proofs.GlanceLemmas.{glanced_then}
+use Rattle.im_serving.proofs.ToldLemmas.{tells_as, tells_kept}
 use Rattle.im_serving.proofs.server.serve_one.Goals as goal
 
 pub returns-in-Ok-answer-clause-seen : goal.returns-in-Ok-answer-clause-seen
@@ -76,3 +77,29 @@ returns-in-Ok-answer-clause-few g c =
     c.args.served.now.entries.items c.make_place.new.served.entries.items c.push_reserved.new.self.items
     c.in-Ok-answer.entry (search rules) c.make_place.ensures.looked in
     omega (arith, one)
+
+pub returns-in-Ok-answer-clause-told : goal.returns-in-Ok-answer-clause-told
+returns-in-Ok-answer-clause-told g c =
+    let m = c.make_place in
+    tells_as c.args.port.now.history m.new.port.history c.ask-answer.new.port.history c.args.port.now.element
+    c.args.served.now m.new.served _ _ _ c.ask-answer.ensures.longer
+    (record { element = refl; first = refl; base = refl; untold = refl }) m.ensures.told
+
+pub returns-in-Err-answer-clause-told : goal.returns-in-Err-answer-clause-told
+returns-in-Err-answer-clause-told g c =
+    let m = c.make_place in
+    tells_as c.args.port.now.history m.new.port.history c.ask-answer.new.port.history c.args.port.now.element
+    c.args.served.now m.new.served _ _ _ c.ask-answer.ensures.longer
+    (record { element = refl; first = refl; base = refl; untold = refl }) m.ensures.told
+
+pub returns-then-is_err-clause-told : goal.returns-then-is_err-clause-told
+returns-then-is_err-clause-told g c =
+    let m = c.make_place in
+    tells_kept c.args.port.now.history m.new.port.history c.args.port.now.element c.args.served.now m.new.served _ _ _
+    (record { element = refl; first = refl; base = refl; untold = refl }) m.ensures.told
+
+pub returns-in_err-number-clause-told : goal.returns-in_err-number-clause-told
+returns-in_err-number-clause-told g c =
+    let m = c.make_place in
+    tells_kept c.args.port.now.history m.new.port.history c.args.port.now.element c.args.served.now m.new.served _ _ _
+    (record { element = refl; first = refl; base = refl; untold = refl }) m.ensures.told

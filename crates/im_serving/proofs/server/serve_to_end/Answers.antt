@@ -1,6 +1,7 @@
 use Rattle.std.proofs.Common.{◌∙◌, [], append-nil, refl}
 use Rattle.im_serving.proofs.AnswerLemmas.{found_length}
 use Rattle.im_serving.proofs.GlanceLemmas.{always, begun_more, done_on, few_more, still_counted, still_few}
+use Rattle.im_serving.proofs.ToldLemmas.{tells_as}
 use Rattle.im_serving.proofs.server.serve_to_end.Goals as goal
 
 pub returns-in-Ok : goal.returns-in-Ok
@@ -28,6 +29,9 @@ returns-in-Ok g c =
         few = still_few _ _ _ _ _ same it.few;
         seen = it.seen;
       };
+      told = tells_as c.args.port.now.history s.port.history a.new.port.history c.args.port.now.element
+          c.args.served.now s.served a.new.served _ _ a.ensures.looked.longer a.ensures.same
+          c.serve_all.ensures.told;
     }
 
 pub returns-in-Err : goal.returns-in-Err
@@ -48,4 +52,5 @@ returns-in-Err g c =
         few = few_more _ _ _ _ it.few d.ensures.more;
         seen = it.seen;
       };
+      told = c.serve_all.ensures.told;
     }

@@ -1,9 +1,9 @@
-use Rattle.std.proofs.Common.{◌≡◌, ◌∙◌, ap, sym, subst, rules, refl, [], true, Option, None}
-use Rattle.std.specs.Prelude.{IsSome}
+use Rattle.std.proofs.Common.{◌≡◌, ◌∙◌, ap, sym, subst, rules, refl, [], true, Option, None, ⊎_elim}
+use Rattle.std.specs.Prelude.{IsNone, IsSome, Some}
 use Rattle.clap.specs.Simple.{is_simple, subcommand_of}
 use Rattle.clap.specs.Words.{App, app_of, fault_of, is_simple_and_free, takes}
 use Rattle.im_script.specs.Grammar.{texts}
-use Rattle.im_words.specs.Words.{Task, asks_task, has_statuses, imem_app, task_in, telling_in, wait_in}
+use Rattle.im_words.specs.Words.{asks_task, asks_wait, has_statuses, imem_app, task_in, telling_in, wait_in}
 use Rattle.im_words.proofs.reading.read_words.Goals as goal
 
 free : is_simple_and_free imem_app ≡ true
@@ -28,7 +28,7 @@ returns-in-Some-clause-work c =
     let app : app_of c.in-Ok.command ≡ imem_app = c.in-Ok.ensures.app in
     let met = c.in-Ok-try_get_matches_from.ensures.matches (ap is_simple app ∙ simple) in
     let same = met.1 ∙ ap (λ (a : App). subcommand_of a (texts c.args.words.now)) app in
-    sym (c.in-Some.ensures.work ∙ ap task_in same)
+    sym (ap task_in same) ∙ c.in-Some.ensures.work
 
 pub returns-in-Some-clause-statuses : goal.returns-in-Some-clause-statuses
 returns-in-Some-clause-statuses c =
@@ -42,7 +42,7 @@ returns-in-Some-clause-wait c =
     let app : app_of c.in-Ok.command ≡ imem_app = c.in-Ok.ensures.app in
     let met = c.in-Ok-try_get_matches_from.ensures.matches (ap is_simple app ∙ simple) in
     let same = met.1 ∙ ap (λ (a : App). subcommand_of a (texts c.args.words.now)) app in
-    c.in-Some.ensures.wait ∙ ap wait_in same
+    sym (ap wait_in same) ∙ c.in-Some.ensures.wait
 
 pub returns-in-Some-clause-telling : goal.returns-in-Some-clause-telling
 returns-in-Some-clause-telling c =
@@ -51,12 +51,15 @@ returns-in-Some-clause-telling c =
     let same = met.1 ∙ ap (λ (a : App). subcommand_of a (texts c.args.words.now)) app in
     c.in-Some.ensures.telling ∙ ap telling_in same
 
+none_some : {A : Type 0} (o : Option A) → o ≡ None → IsSome o → ⊥
+none_some None is some = search rules
+none_some (Some a) is some = absurd (subst (λ (o : Option A). IsNone o) (sym is) tt)
+
 pub returns-clause-taken : goal.returns-clause-taken
-returns-clause-taken c = λ taken some.
+returns-clause-taken c = λ taken some waits.
     let app : app_of c.in-Ok.command ≡ imem_app = c.in-Ok.ensures.app in
     let met = c.in-Ok-try_get_matches_from.ensures.matches (ap is_simple app ∙ simple) in
     let same = met.1 ∙ ap (λ (a : App). subcommand_of a (texts c.args.words.now)) app in
-    let none : asks_task (texts c.args.words.now) ≡ None = sym (c.in-None.ensures.work ∙ ap task_in same) in
-    let nothing : Option Task = None in
-    let it : IsSome nothing = subst (λ (o : Option Task). IsSome o) none some in
-    absurd (search rules)
+    ⊎_elim (λ none. absurd (none_some (asks_task (texts c.args.words.now)) (sym (ap task_in same) ∙ none) some))
+    (λ none. absurd (none_some (asks_wait (texts c.args.words.now)) (sym (ap wait_in same) ∙ none) waits))
+    c.in-None.ensures.none

@@ -7,7 +7,7 @@ use Rattle.im_disk.proofs.file.FileDisk.put.Goals as goal
 
 pub returns-in-Err-clause-moment : goal.returns-in-Err-clause-moment
 returns-in-Err-clause-moment g c = λ honest.
-    let after = replay g.S.Start.first g.S.Start.outcomes in
+    let after = replay g.S.Start.path g.S.Start.first g.S.Start.outcomes in
     let before = after c.args.self.now.ledger.events in
     let was = subst (λ (l : List AccountedCall). IsTrue (after l).agrees) c.note_written-in-Err.ensures honest in (
       was,

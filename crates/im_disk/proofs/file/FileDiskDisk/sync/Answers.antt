@@ -7,7 +7,7 @@ use Rattle.im_disk.proofs.file.FileDiskDisk.sync.Goals as goal
 
 pub returns-in-Err-clause-moment : goal.returns-in-Err-clause-moment
 returns-in-Err-clause-moment g c = λ honest.
-    let at = replay g.S.Start.first g.S.Start.outcomes in
+    let at = replay g.S.Start.path g.S.Start.first g.S.Start.outcomes in
     let before = at c.args.self.now.ledger.events in
     inr (record {
       past = ap (λ (l : List AccountedCall). (at l).past) c.note-in-Err.ensures;

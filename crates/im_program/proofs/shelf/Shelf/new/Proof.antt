@@ -21,12 +21,12 @@ use denote.Triple.Entry.{on_entry}
 use denote.Triple.Spec.{Meets, triple_of}
 use denote.Triple.Table.{entered}
 use denote.Triple.Walked.{says, ends_at, walked, walk_Meets}
-use Rattle.im_dialogue.specs.declared.shelf.Shelf.{Shelf}
-use Rattle.im_dialogue.specs.contracts.shelf.Shelf as T
-use Rattle.im_dialogue.specs.contracts.shelf.Shelf.new.Key.{name as #it}
-use Rattle.im_dialogue.specs.contracts.shelf.Shelf.new as it
-use Rattle.im_dialogue.proofs.shelf.Shelf.new.Statement as stated
-use Rattle.im_dialogue.proofs.shelf.Shelf.new.Code as code
+use Rattle.im_program.specs.declared.shelf.Shelf.{Shelf}
+use Rattle.im_program.specs.contracts.shelf.Shelf as T
+use Rattle.im_program.specs.contracts.shelf.Shelf.new.Key.{name as #it}
+use Rattle.im_program.specs.contracts.shelf.Shelf.new as it
+use Rattle.im_program.proofs.shelf.Shelf.new.Statement as stated
+use Rattle.im_program.proofs.shelf.Shelf.new.Code as code
 
 abbrev v : Val
 v = vstruct (vcons (vstruct vnil) vnil)

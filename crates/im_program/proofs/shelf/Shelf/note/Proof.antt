@@ -27,14 +27,14 @@ use denote.Triple.Entry.{on_entry}
 use denote.Triple.Spec.{Meets, triple_of}
 use denote.Triple.Table.{entered}
 use denote.Triple.Walked.{says, Stays, stay_ref, walk_of, AllGo, Goes-ref, Walks, ends_at, walked, walk_Meets}
-use Rattle.im_dialogue.specs.declared.shelf.Shelf.{Shelf}
+use Rattle.im_program.specs.declared.shelf.Shelf.{Shelf}
 use Rattle.im_dialogue.specs.Backups.{Backup}
 use Rattle.im_memory.specs.contracts.memory.Memory as Mem
-use Rattle.im_dialogue.specs.contracts.shelf.Shelf as T
-use Rattle.im_dialogue.specs.contracts.shelf.Shelf.note.Key.{name as #it}
-use Rattle.im_dialogue.specs.contracts.shelf.Shelf.note as it
-use Rattle.im_dialogue.proofs.shelf.Shelf.note.Statement as stated
-use Rattle.im_dialogue.proofs.shelf.Shelf.note.Code as code
+use Rattle.im_program.specs.contracts.shelf.Shelf as T
+use Rattle.im_program.specs.contracts.shelf.Shelf.note.Key.{name as #it}
+use Rattle.im_program.specs.contracts.shelf.Shelf.note as it
+use Rattle.im_program.proofs.shelf.Shelf.note.Statement as stated
+use Rattle.im_program.proofs.shelf.Shelf.note.Code as code
 use denote.Ref.{Bor}
 use denote.Builtin.{u8, u64}
 use denote.Exit.{yes}

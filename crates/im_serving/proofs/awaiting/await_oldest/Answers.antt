@@ -1,0 +1,37 @@
+use Rattle.im_serving.proofs.AnswerLemmas.{looked_found, looked_none, looked_same, sees_found, sees_longer}
+use Rattle.im_serving.proofs.ToldLemmas.{same_none, tells_as, tells_next, tells_none}
+use Rattle.im_serving.proofs.awaiting.await_oldest.Goals as goal
+
+pub returns-then-is_told-clause-looked : goal.returns-then-is_told-clause-looked
+returns-then-is_told-clause-looked g c = looked_none _ _ _ _
+
+pub returns-in-Ok-clause-looked : goal.returns-in-Ok-clause-looked
+returns-in-Ok-clause-looked g c =
+    let a = c.await_answer in
+    looked_found c.args.port.now.history a.new.self.history c.args.port.now.element c.args.served.now.first
+    c.args.served.now.base c.args.served.now.entries.items c.learn.new.served.entries.items c.entry.result
+    c.learn.ensures.noted
+    (sees_found _ _ _ _ a.result c.in-Ok.found c.entry.result c.in-Ok.is c.entry.ensures.entry
+    a.ensures.order)
+
+pub returns-in-Err-clause-looked : goal.returns-in-Err-clause-looked
+returns-in-Err-clause-looked g c =
+    looked_same _ _ _ _ _ (sees_longer _ _ _ _ c.await_answer.result c.await_answer.ensures.order)
+
+pub returns-then-is_told-clause-told : goal.returns-then-is_told-clause-told
+returns-then-is_told-clause-told g c = tells_none _ _ _ _
+
+pub returns-in-Ok-clause-told : goal.returns-in-Ok-clause-told
+returns-in-Ok-clause-told g c =
+    let a = c.await_answer in
+    tells_next c.args.port.now.history a.new.self.history c.args.port.now.element c.args.served.now.base c.entry.result
+    c.args.served.now c.learn.new.served _ _ c.learn.ensures.told
+    (sees_found _ _ _ _ a.result c.in-Ok.found c.entry.result c.in-Ok.is c.entry.ensures.entry
+    a.ensures.order)
+
+pub returns-in-Err-clause-told : goal.returns-in-Err-clause-told
+returns-in-Err-clause-told g c =
+    let was = c.args.port.now in
+    tells_as was.history was.history c.await_answer.new.self.history was.element c.args.served.now c.args.served.now
+    c.args.served.now _ _ (sees_longer _ _ _ _ c.await_answer.result c.await_answer.ensures.order)
+    (same_none c.args.served.now) (tells_none was.history was.element c.args.served.now _)
