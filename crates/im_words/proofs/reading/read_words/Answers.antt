@@ -16,7 +16,7 @@ returns-in-Some-clause-sound c = λ ok.
     sym (ap (λ (a : App). fault_of a (texts c.args.words.now)) app) ∙ none
 
 pub returns-in-Err-try_get_matches_from-clause-taken : goal.returns-in-Err-try_get_matches_from-clause-taken
-returns-in-Err-try_get_matches_from-clause-taken c = λ taken some.
+returns-in-Err-try_get_matches_from-clause-taken c = λ taken some waits.
     let same : takes (app_of c.in-Ok.command) (texts c.args.words.now) ≡ true = ap (λ (a : App). takes a (texts c.args.words.now)) c.in-Ok.ensures.app ∙ taken in
     c.fault.ensures (c.in-Err-try_get_matches_from.ensures.passes same)
 
@@ -52,8 +52,8 @@ returns-in-Some-clause-telling c =
     c.in-Some.ensures.telling ∙ ap telling_in same
 
 none_some : {A : Type 0} (o : Option A) → o ≡ None → IsSome o → ⊥
-none_some None is some = search rules
-none_some (Some a) is some = absurd (subst (λ (o : Option A). IsNone o) (sym is) tt)
+none_some {A = A} None is some = search rules
+none_some {A = A} (Some a) is some = absurd (subst (λ (o : Option A). IsNone o) (sym is) tt)
 
 pub returns-clause-taken : goal.returns-clause-taken
 returns-clause-taken c = λ taken some waits.
