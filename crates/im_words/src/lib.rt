@@ -10,6 +10,7 @@ mod parts;
 mod reading;
 mod script_words;
 mod serve_words;
+mod tips;
 mod words;
 
 pub use format_words::{DEFAULT_CELLS, DEFAULT_ELEMENTS, DEFAULT_SLOTS};

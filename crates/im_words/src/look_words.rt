@@ -32,7 +32,8 @@ const INSPECT_EXAMPLES: &str = "The lines, in this order:
   entry K.N OPERATION -> REPLY            each entry that is kept for the element, by number
 With --cells, --element or --waiting, only the lines that they name: of the cells at these addresses, of
 the element and its entries, of the cells that somebody waits for. With --cells and --waiting, of a cell
-that both name. With --json, each line is an object; the first one stands for the first four lines:
+that both name. If the image has no such cell or element, standard error says which it has.
+With --json, each line is an object; the first one stands for the first four lines:
   {version, limits, header, journal, count, next}     as 'imem stat --json' has them
   {block, kind, length}                   the base is the number of block
   {cell, state, value}                    state is full or clashed

@@ -13,6 +13,7 @@ use crate::orders::line_of;
 use crate::parts::{path_of, seconds_given};
 use crate::script_words::{bad_script, run_command, serial_command};
 use crate::serve_words::serve_command;
+use crate::tips::tipped;
 use crate::words::{CommandLine, WordFault, version};
 use clap::error::ErrorKind;
 use clap::{ArgMatches, Command, Error};
@@ -56,7 +57,7 @@ fn top_command<'a>(alloc: Global) -> Command<'a>
 }
 
 /// The whole command line. A subcommand is made just before it is added, so that no other one is owned meanwhile.
-fn imem_command<'a>(alloc: Global) -> Result<Command<'a>, AllocError>
+pub(crate) fn imem_command<'a>(alloc: Global) -> Result<Command<'a>, AllocError>
     ensures app { IfOk result (λ c. app_of c ≡ imem_app) }
 {
     let empty = top_command(alloc);
@@ -84,13 +85,15 @@ fn imem_command<'a>(alloc: Global) -> Result<Command<'a>, AllocError>
 }
 
 /// The fault that clap found.
-fn fault(error: Error) -> WordFault
+fn fault(alloc: Global, words: &[&str], error: Error) -> WordFault
     ensures { kind_of error ≡ ErrorKind.OutOfMemory → result ≡ WordFault.NoMemory }
 {
     if error.kind() == ErrorKind::OutOfMemory {
-        WordFault::NoMemory
-    } else {
-        WordFault::Bad(error)
+        return WordFault::NoMemory;
+    }
+    match tipped(alloc, words, error) {
+        Ok(error) => WordFault::Bad(error),
+        Err(_) => WordFault::NoMemory,
     }
 }
 
@@ -213,7 +216,7 @@ pub fn read_words<'a>(alloc: Global, words: &'a [&'a str]) -> Result<CommandLine
     };
     let matches = match command.try_get_matches_from(words) {
         Ok(matches) => matches,
-        Err(error) => return Err(fault(error)),
+        Err(error) => return Err(fault(alloc, words, error)),
     };
     match line_of(&matches) {
         Some(line) => Ok(line),

@@ -26,7 +26,7 @@ Each request has a number, and a request that is sent again acts only once:
   room                  how many more commands there is room for
   turn                  one turn of a checkpoint
   count                 how many commands there have been
-  about                 the version of the layout, the sizes, the count and the room
+  about                 the layout's version, how many cells, elements and slots there are, the count, the room
   backup NAME           keep a copy of the image in the folder of --backups: 'backup NAME count N'
   help                  these lines, in one
   quit                  the end

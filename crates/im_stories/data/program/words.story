@@ -85,7 +85,22 @@ imem serial a.img s --new = status 2
 says --new = yes
 imem --statuses = status 2
 imem serial a.img s --planned = status 2
-says --planned = yes
+says unexpected argument '--planned' found = yes
+says tip: 'run --planned' exists = yes
+says Usage: imem serial [OPTIONS] <IMAGE> <SCRIPT> = yes
+imem serial a.img s --rows --planned = status 2
+says --rows = yes
+says tip: 'run --planned' exists = no
+-- The version is asked for in one way.
+imem version = status 2
+says unrecognized subcommand 'version' = yes
+says tip: 'imem --version' exists = yes
+says Usage: imem [COMMAND] = yes
+imem -v = status 2
+says unexpected argument '-v' found = yes
+says tip: 'imem --version' exists = yes
+imem serial a.img -v = status 2
+says tip: 'imem --version' exists = no
 imem run a.img s --planned=yes = status 2
 says --planned = yes
 -- Lines are told in one way.
