@@ -1,5 +1,6 @@
 //! What the program prints for a person on standard error.
 
+use crate::advice::{begins_as_image, is_of_call, print_advised, serves};
 use crate::descriptors::Descriptors;
 use crate::loading::LoadFault;
 use crate::opening::call_of;
@@ -12,7 +13,9 @@ use im_text::{News, PathFault, Progress, Reason, Waited};
 use im_types::{Observer, Refusal};
 use im_words::Work;
 use std::fmt::Display;
+use std::fs::File;
 use std::io::Eprint;
+use std::rt::Files;
 
 // The number of requests served between two lines of progress.
 const STRIDE: u64 = 4_096;
@@ -40,12 +43,13 @@ pub struct Console<'a, R> {
     // The second file: a script, or a new file. The first one is then the old file, or the text that is loaded.
     script: &'a str,
     terminals: Terminals,
+    serves: bool,
     // The last refusal, and whether its line waits until the disk says which call failed.
     refused: Option<Reason>,
     waits: bool,
 }
 
-impl<'a, R: Eprint + AllocGlobal> Console<'a, R> {
+impl<'a, R: Files<File = File> + Eprint + AllocGlobal> Console<'a, R> {
     /// Makes the console for the files of `work`.
     pub fn new(
         rt: &'a R,
@@ -60,6 +64,7 @@ impl<'a, R: Eprint + AllocGlobal> Console<'a, R> {
             image,
             script,
             terminals,
+            serves: serves(work),
             refused: None,
             waits: false,
         }
@@ -101,9 +106,6 @@ impl<'a, R: Eprint + AllocGlobal> Console<'a, R> {
     fn print_reason(&self, reason: Reason) {
         let path = EscapedName(self.path(reason));
         let _printed = match reason {
-            Reason::File(PathFault::InUse) | Reason::NewFile(PathFault::InUse) => {
-                eprintln!(self.rt; "imem: {path} is in use by another program")
-            }
             Reason::File(PathFault::NoFolder) | Reason::NewFile(PathFault::NoFolder) => {
                 let folder = EscapedName(folder_of(self.path(reason)));
                 eprintln!(self.rt; "imem: the folder {folder} isn't there")
@@ -129,7 +131,7 @@ impl<'a, R: Eprint + AllocGlobal> Console<'a, R> {
             Reason::Output(_) | Reason::Input(_) | Reason::NoInput | Reason::Memory => {
                 eprintln!(self.rt; "imem: {reason}")
             }
-            _ => eprintln!(self.rt; "imem: {path}: {reason}"),
+            _ => print_advised(self.rt, self.path(reason), reason, self.serves),
         };
     }
 
@@ -245,18 +247,7 @@ impl<'a, R: Eprint + AllocGlobal> Console<'a, R> {
     }
 }
 
-// Whether a reason waits for what the disk says, because a call on the disk failed.
-fn is_of_call(reason: Reason) -> bool {
-    matches!(
-        reason,
-        Reason::Image(Refusal::Device, _)
-            | Reason::New(Refusal::Device)
-            | Reason::Request(_, Refusal::Device)
-            | Reason::Request(_, Refusal::Failed)
-    )
-}
-
-impl<R: Eprint + AllocGlobal> Observer<News> for Console<'_, R> {
+impl<R: Files<File = File> + Eprint + AllocGlobal> Observer<News> for Console<'_, R> {
     fn listens(&mut self) -> bool {
         self.terminals.output
     }
@@ -274,7 +265,7 @@ impl<R: Eprint + AllocGlobal> Observer<News> for Console<'_, R> {
     }
 }
 
-impl<R: Eprint + AllocGlobal> Observer<MoveNews> for Console<'_, R> {
+impl<R: Files<File = File> + Eprint + AllocGlobal> Observer<MoveNews> for Console<'_, R> {
     fn tell(&mut self, news: MoveNews) {
         match news {
             MoveNews::Writes { written, all } => self.print_written(written, all),
@@ -283,11 +274,17 @@ impl<R: Eprint + AllocGlobal> Observer<MoveNews> for Console<'_, R> {
     }
 }
 
-impl<R: Eprint + AllocGlobal> Observer<LoadFault> for Console<'_, R> {
+impl<R: Files<File = File> + Eprint + AllocGlobal> Observer<LoadFault> for Console<'_, R> {
     fn tell(&mut self, fault: LoadFault) {
         match fault {
             LoadFault::NoInput => {
                 let _printed = eprintln!(self.rt; "imem: {fault}");
+            }
+            _ if begins_as_image(self.rt, self.image) => {
+                let path = EscapedName(self.image);
+                let _printed = eprintln!(self.rt;
+                    "imem: {path} is an image, no dump: 'imem copy {path} NEW' copies it"
+                );
             }
             _ => self.print_of_input(&fault),
         }

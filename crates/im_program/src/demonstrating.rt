@@ -16,7 +16,9 @@ use im_text::{News, Reason};
 use im_types::{Observer, Refusal};
 use im_words::{DEFAULT_CELLS, DEFAULT_ELEMENTS, DEFAULT_SLOTS};
 use std::alloc::Global;
+use std::fs::File;
 use std::io::{Eprint, Write};
+use std::rt::Files;
 
 // The script that is served then.
 const DEMONSTRATION: &str = "setup
@@ -79,7 +81,7 @@ pub fn demonstrate<W: Write, N: Observer<News>>(alloc: Global, out: &mut W, obse
 }
 
 /// The same, with a refusal told on the console.
-pub(crate) fn act_with_no_file<R: Eprint + AllocGlobal, I, W: Write>(
+pub(crate) fn act_with_no_file<R: Files<File = File> + AllocGlobal + Eprint, I, W: Write>(
     hand: AtHand<'_, R, I, Console<'_, R>>,
     out: &mut W,
 ) -> u8

@@ -4,6 +4,7 @@ ghost use Rattle.im_words.specs.Words.{task_of_job};
 ghost use Rattle.im_program.specs.Places.{IsOpenAt, file_of};
 ghost use Rattle.im_program.specs.Working.{MakesImage, WasDone};
 
+use crate::advice::tell_what_there_is;
 use crate::backups::Folder;
 use crate::console::Console;
 use crate::dumping::dump_file;
@@ -144,6 +145,7 @@ fn work_alone<
 ///   file system is to be mounted anew, and a note is left beside the image.
 /// - `K.N now REPLY` for a request that waited when the image was opened and whose entry is confirmed.
 /// - How far a long script has come, if somebody watches.
+/// - Which cells or elements the image has, if a report was asked for others alone.
 ///
 /// If standard input is a terminal, a person is asked before an image replaces a file that isn't empty.
 ///
@@ -183,5 +185,6 @@ pub fn act_alone<
     };
     let (status, disk) = work_alone(inner, job, out, start);
     settle_job(rt, job, &disk, console);
+    tell_what_there_is(rt, job, status);
     (status, disk)
 }

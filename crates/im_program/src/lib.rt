@@ -2,6 +2,7 @@
 //! to the layout in use, copies, dumps and loads them, and reports what an image means.
 #![tactic(auto)]
 
+mod advice;
 mod backups;
 mod console;
 mod copying;

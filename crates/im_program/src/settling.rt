@@ -13,7 +13,7 @@ use std::io::Eprint;
 use std::rt::Files;
 
 // Prints which call on the image's file failed, and whether a note was left. A failed sync asks for one.
-fn tell<R: AllocGlobal + Eprint>(
+fn tell<R: Files<File = File> + AllocGlobal + Eprint>(
     console: &mut Console<'_, R>,
     failure: Option<Failure>,
     noting: Noting,
@@ -24,7 +24,7 @@ fn tell<R: AllocGlobal + Eprint>(
 }
 
 // The same of a new file.
-fn tell_new<R: AllocGlobal + Eprint>(
+fn tell_new<R: Files<File = File> + AllocGlobal + Eprint>(
     console: &mut Console<'_, R>,
     failure: Option<Failure>,
     noting: Noting,
