@@ -610,6 +610,8 @@ size_t ltf_say(int answer, char *buffer, size_t room) {
         length = snprintf(buffer, room, "done");
     else if (answer == LTF_UNSYNCED)
         length = snprintf(buffer, room, "a sync failed: mount the file system anew and remove the note, or restart the machine");
+    else if (answer == -EWOULDBLOCK)
+        length = snprintf(buffer, room, "the image is in use by another program");
     else if (answer < 0)
         length = snprintf(buffer, room, "%s", strerror(-answer));
     else {

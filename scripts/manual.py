@@ -9,7 +9,8 @@ import headers
 import packaging
 from sources import TOP
 
-DOCUMENTS = "TUTORIAL SCRIPTS SERVE EMBEDDING CLUSTER CRASH MIGRATION PERFORMANCE".split()  # That are installed.
+OF_USE = "TUTORIAL SCRIPTS SERVE EMBEDDING CLUSTER CRASH MIGRATION PERFORMANCE"
+DOCUMENTS = f"{OF_USE} FORMAT DETERMINACY PROVED RELIABILITY".split()  # That are installed.
 BULLET = "\\(bu"
 NOTHING = "\\&"
 WIDEST = 71  # Columns of a line that stands as it is, on a page of 80.

@@ -2,6 +2,7 @@
 from __future__ import annotations
 
 import ctypes as c
+import errno
 import fcntl
 import io
 import os
@@ -16,6 +17,7 @@ from ._words import Tag, Waiting, Window, WindowFull, Work, passed, refusal, spe
 
 Path = Union[str, "os.PathLike[str]"]
 LIMITS = "there are 1 to 1048576 cells, 1 to 64 elements and 16 to 4096 slots"
+IN_USE = "the image is in use by another program"
 RULE = "a sync failed: mount the file system anew, or restart, before the image is opened again"
 
 
@@ -114,7 +116,7 @@ class Image(Held):
         answer = getattr(LIB, call)(os.fsencode(name), *limits, c.byref(self._file))
         self._is_closed = answer != 0
         if answer < 0:
-            raise OSError(-answer, os.strerror(-answer), name)
+            raise OSError(-answer, IN_USE if answer == -errno.EWOULDBLOCK else os.strerror(-answer), name)
         if answer == LTF_UNSYNCED:
             raise SyncFailed(0, f"{RULE} (the note is {name}.unsynced)")
         passed(answer, name, LIMITS if answer == BadLimits.number else "")

@@ -1,10 +1,12 @@
 //! Finds the library: the archive in LUNTREBIS_LIB_DIR, the archive in out/ of this checkout, that beside these crates in
 //! a release's lib/, the installed library, by pkg-config, or the one in out/unproved/, which wasn't proved.
 use std::env;
+use std::fs;
 use std::path::{Path, PathBuf};
 use std::process::{exit, Command};
 
 const ARCHIVE: &str = "libluntrebis.a";
+const NOT_PROVED: &[u8] = b", not proved"; // In what the library says of its own making.
 
 fn main() {
     println!("cargo:rerun-if-env-changed=LUNTREBIS_LIB_DIR");
@@ -18,7 +20,7 @@ fn main() {
         link_archive(&folder.canonicalize().expect("LUNTREBIS_LIB_DIR is no folder"));
     } else if link_installed() {
     } else if let Some(folder) = unproved {
-        println!("cargo:warning=luntrebis takes the library in out/unproved, which wasn't proved (`make library`)");
+        println!("cargo:rerun-if-changed={}", crates.join("../../out").display()); // `make library` may leave one.
         link_archive(&folder.canonicalize().expect("a folder"));
     } else {
         eprintln!("there is no libluntrebis.a: `make try-library` builds one with no proof in a minute or two,");
@@ -29,6 +31,10 @@ fn main() {
 
 fn link_archive(folder: &Path) {
     println!("cargo:rerun-if-changed={}", folder.join(ARCHIVE).display());
+    let holds = fs::read(folder.join(ARCHIVE)).expect("LUNTREBIS_LIB_DIR has no libluntrebis.a");
+    if holds.windows(NOT_PROVED.len()).any(|it| it == NOT_PROVED) {
+        println!("cargo:warning=luntrebis takes {}/{ARCHIVE}, which wasn't proved (`make library`)", folder.display());
+    }
     println!("cargo:rustc-link-search=native={}", folder.display());
     println!("cargo:rustc-link-lib=static=luntrebis");
 }

@@ -282,10 +282,14 @@ fn copied(error: &io::Error) -> io::Error {
     error.raw_os_error().map_or_else(|| io::Error::new(error.kind(), error.to_string()), io::Error::from_raw_os_error)
 }
 
+const IN_USE: &str = "the image is in use by another program";
+
 /// Returns an error unless the number that a call of `luntrebis_file.h` returned is 0.
 pub(crate) fn answered(answer: c_int) -> Result<()> {
     if answer < 0 {
-        return Err(Error::Io(io::Error::from_raw_os_error(-answer)));
+        let fault = io::Error::from_raw_os_error(-answer);
+        let is_in_use = fault.kind() == io::ErrorKind::WouldBlock;
+        return Err(Error::Io(if is_in_use { io::Error::new(fault.kind(), IN_USE) } else { fault }));
     }
     match u8::try_from(answer) {
         Ok(number) => passed(number),
