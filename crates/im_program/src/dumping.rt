@@ -63,7 +63,7 @@ pub fn dump_file<R: Files<File = File> + AllocGlobal, S: Start, I, W: Write, V: 
     let (rt, _held, _input, observer) = hand.parts();
     match open_image_to_read(rt, image, start) {
         Ok((mut disk, is_unsynced)) => {
-            warn(is_unsynced, observer);
+            warn(rt, image, is_unsynced, observer);
             let status = dump_on(rt.alloc(), &mut disk, out, observer);
             Ok((status, disk))
         }

@@ -14,6 +14,7 @@ mod hand;
 mod jobs;
 mod loading;
 mod looking;
+mod mounts;
 mod moving;
 mod opening;
 mod overwriting;

@@ -48,7 +48,7 @@ pub fn inspect_file<R: Files<File = File> + AllocGlobal, S: Start, I, W: Write, 
     let (rt, _held, _input, observer) = hand.parts();
     match open_image_to_read(rt, image, start) {
         Ok((disk, is_unsynced)) => {
-            warn(is_unsynced, observer);
+            warn(rt, image, is_unsynced, observer);
             Ok(look_on(rt.alloc(), disk, look, out, observer))
         }
         Err(fault) => Err(refusal_of(rt, image, fault, observer)),

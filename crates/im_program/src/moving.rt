@@ -184,7 +184,7 @@ pub(crate) fn source_at<R: Files<File = File> + AllocGlobal, T: Start, V: Observ
     }
     match open_image_to_read(rt, old, other) {
         Ok((disk, is_unsynced)) => {
-            warn(is_unsynced, observer);
+            warn(rt, old, is_unsynced, observer);
             Ok(disk)
         }
         Err(fault) => Err(refusal_of(rt, old, fault, observer)),

@@ -5,6 +5,7 @@ ghost use Rattle.im_disk.specs.File.{has_failed_sync};
 ghost use Rattle.im_files.specs.Notes.{is_unneeded};
 ghost use Rattle.im_program.specs.Places.{IsOpenAt};
 
+use crate::mounts::has_turned_read_only;
 use im_damage::Damage;
 use im_disk::{Disk, Failure, FileDisk, OpenFault, Start};
 use im_files::{FileFault, Noting, note_failed_sync, open_image, remove_image};
@@ -149,9 +150,17 @@ pub(crate) fn give_up<R: Files<File = File> + AllocGlobal, S: Start>(
     remove_image(rt, image, disk, is_made)
 }
 
-/// Warns about a file that is read although a note of this boot is beside it.
-pub(crate) fn warn<N: Observer<News>>(is_unsynced: bool, observer: &mut N) {
+/// Warns about a file that is read although what it shows may not be on the disk: a note of this boot is beside it, or
+/// the system has made its file system read-only.
+pub(crate) fn warn<R: Files<File = File> + AllocGlobal, N: Observer<News>>(
+    rt: &R,
+    path: &str,
+    is_unsynced: bool,
+    observer: &mut N,
+) {
     if is_unsynced {
         observer.tell(News::Warned(Warning::Unsynced));
+    } else if has_turned_read_only(rt, path) {
+        observer.tell(News::Warned(Warning::TurnedReadOnly));
     }
 }

@@ -22,6 +22,8 @@ pub struct Progress {
 pub enum Warning {
     /// A note of this boot says that a sync of the file failed.
     Unsynced,
+    /// The system has made the file system read-only that was mounted to be written.
+    TurnedReadOnly,
     /// A slot of the journal is older than any that can be open there.
     Older(Older),
 }
@@ -31,6 +33,10 @@ impl Display for Warning {
         match *self {
             Warning::Unsynced => f.write_str(
                 "a sync of it failed since this machine was started: what is read here may not be on the disk",
+            ),
+            Warning::TurnedReadOnly => f.write_str(
+                "the system has made its file system read-only, as it does behind an error: what is read here may not \
+                 be on the disk",
             ),
             Warning::Older(older) => write!(f, "{older}"),
         }
