@@ -6,7 +6,6 @@ to be the synced one; it has to mean the memory of the last sync, or the one wit
 disk before it is printed.
 """
 import functools
-import random
 import re
 from collections import Counter
 
@@ -131,6 +130,11 @@ class Known:
         elif kind == "D":
             for file in self.files.values():
                 file.is_named = file.is_named or file.synced is not None
+        elif kind == "N":  # The older name is taken away then.
+            old, new = raw.decode().split("\0")
+            if old[3:] in self.files:
+                self.files[new[3:]] = self.files.pop(old[3:])
+                self.files[new[3:]].is_named = False
         elif kind == "P":
             self.print(raw.decode("ascii", "replace"))
         elif (file := self.opened.get(number)) is not None:
@@ -176,19 +180,18 @@ class Known:
         return None if kept is None or answer[3] in (kept, "waiting") else f"the disk has {kept!r}"
 
 
-def reached(dice, writes, number, grain, is_scarred=False):
-    """Returns a way, and the sectors of these writes that reach the medium in it. The first two ways are none and all; others are by the dice. A
-    torn write keeps blocks of `grain` bytes whole. With `is_scarred` one of its sectors is noise, which no drive may leave."""
+def reached(dice, writes, number, grain, has_noise=False):
+    """Returns a way, and the sectors of these writes that reach the medium in it; each write is its sectors. The first two ways are none and all;
+    others are by the dice. A torn write keeps blocks of `grain` bytes whole; with `has_noise` one of its sectors is noise."""
     way = WAYS[number] if number < 2 else dice.choice(WAYS[2:])
     chosen, alone = {}, dice.randrange(len(writes)) if writes else None
-    for at, write in enumerate(writes):
-        found = disks.sectors(write)
+    for at, found in enumerate(writes):
         if way == "none" or (way == "one" and at != alone) or (way == "all but one" and at == alone) or (way == "coin" and dice.random() < 0.5):
             continue
         if way == "torn" or (way == "last torn" and at == len(writes) - 1):
-            salt = dice.getrandbits(64)
-            found = {n: raw for n, raw in found.items() if random.Random(salt ^ (n * disks.SECTOR // grain)).random() < 0.5}
-            if is_scarred and found:
+            blocks = {}
+            found = {n: raw for n, raw in found.items() if blocks.setdefault(n * disks.SECTOR // grain, dice.random() < 0.5)}
+            if has_noise and found:
                 found[dice.choice(list(found))] = dice.randbytes(disks.SECTOR)
         chosen.update(found)
     return way, chosen

@@ -14,6 +14,7 @@ import signal
 import socket
 import stat
 import subprocess
+import tempfile
 import time
 from pathlib import Path
 
@@ -23,6 +24,11 @@ MODULES = ["crc32c_generic", "crc32_generic", "xxhash_generic", "blake2b_generic
 BUSYBOX = Path("/bin/busybox")
 READY = re.compile(rb"(?:^|\n)#(\w+)\r?\n")
 CHUNK = 1 << 16
+
+
+def ends_with_us():
+    """Has a child end when this process does, in whatever way."""
+    ctypes.CDLL(None).prctl(1, signal.SIGKILL)
 
 
 class Off(Exception):
@@ -117,7 +123,7 @@ class Machine(Line):
             words += ["-drive", f"if=none,id={name},file=nbd+unix:///{name}?socket={server},format=raw,cache=writeback", "-device", f"virtio-blk-pci,drive={name}"]
         words += ["-incoming", f"exec:cat {kept}"] if kept else []
         with open(room / "qemu.err", "a") as errors:
-            self.process = subprocess.Popen(list(map(str, words)), stdin=subprocess.DEVNULL, stdout=subprocess.DEVNULL, stderr=errors)
+            self.process = subprocess.Popen(list(map(str, words)), stdin=subprocess.DEVNULL, stdout=subprocess.DEVNULL, stderr=errors, preexec_fn=ends_with_us)
         self.line = self.reach(self.place)
         if not kept:
             self.wait(300)
@@ -154,10 +160,10 @@ class Machine(Line):
         """Keeps the running machine, so that others needn't boot, and ends it."""
         self.ask("echo 3 > /proc/sys/vm/drop_caches")
         self.monitor("stop")
-        self.monitor(f'migrate "exec:cat > {path}.new"')
+        self.monitor(f'migrate "exec:cat > {self.place}.new"')
         while "completed" not in self.monitor("info migrate"):
             time.sleep(0.1)
-        os.replace(f"{path}.new", path)
+        os.replace(f"{self.place}.new", path)
         self.cut()
 
     def hear(self, seconds):
@@ -190,8 +196,7 @@ class Mounter(Line):
     def __init__(self, room, program, size):
         super().__init__()
         self.room, self.program, self.size = room, program, size
-        self.folder = Path(f"/dev/shm/power-{os.getpid()}-{id(self)}")
-        self.folder.mkdir()
+        self.folder = Path(tempfile.mkdtemp(prefix="power-", dir="/dev/shm"))
         self.files = [open(self.folder / name, "w+b") for name in ("state", "kept")]
         for file in self.files:
             file.truncate(size)
@@ -205,7 +210,8 @@ class Mounter(Line):
         words = [self.program, "mem=256M", f"initrd={self.room}/first.uml", f"ubd0={self.folder}/state", "con=null", "con0=null", "ssl=null"]
         words += ["ssl0=fd:0,fd:1", f"uml={self.folder}", "quiet"]
         with open(self.room / "uml.err", "a") as errors:
-            self.process = subprocess.Popen(list(map(str, words)), stdin=subprocess.PIPE, stdout=subprocess.PIPE, stderr=errors, start_new_session=True)
+            streams = {"stdin": subprocess.PIPE, "stdout": subprocess.PIPE, "stderr": errors}
+            self.process = subprocess.Popen(list(map(str, words)), start_new_session=True, preexec_fn=ends_with_us, **streams)
         self.heard = b""
         self.wait(120)
 
@@ -270,12 +276,21 @@ class Mounter(Line):
                 if self.c.memcmp(ctypes.c_void_p(one + at), ctypes.c_void_p(other + at), ctypes.c_size_t(length)):
                     ctypes.memmove(one + at, other + at, length)
 
-    def probe(self, system, options, names, layer):
-        """Mounts the disk with these sectors above it. Returns the status, what was said, and the files: bytes, None, or an error's number."""
+    def probe(self, system, options, names, layer, mended_by=()):
+        """Mounts the disk with these sectors above it, mended by a command first. Returns the status, what was said, and the files: bytes, None, or
+        an error's number."""
         for number, raw in layer.items():
             self.maps[0][number * disks.SECTOR : (number + 1) * disks.SECTOR] = raw
-        status, said = self.ask(f"probe {system} {options}|{' '.join(names)}", 60)
+        if mended_by:
+            subprocess.run([*mended_by, self.folder / "state"], stdin=subprocess.DEVNULL, stdout=subprocess.DEVNULL, stderr=subprocess.DEVNULL)
         found = {}
+        try:
+            status, said = self.ask(f"probe {system} {options}|{' '.join(names)}", 120)
+        except Off as off:
+            self.boot()
+            status, said = -1, f"the machine that mounts it fell: {off}"
+        if "umount failed" in said:
+            self.boot()
         if status == 0:
             raw, at = (self.folder / "out").read_bytes(), 0
             for name in names:

@@ -6,6 +6,7 @@ import random
 import images
 
 CELLS, ELEMENTS, SLOTS = 24, 3, 16
+COUNTED = 24  # What the threads of scripts/power/asks.c count up to.
 SIZES = f"--cells {CELLS} --elements {ELEMENTS} --slots {SLOTS}"
 OF_WORD = {"fetch": images.FETCH, "store": images.STORE, "take": images.TAKE, "put": images.PUT, "release": images.RELEASE, "reset": images.RESET}
 
@@ -48,7 +49,6 @@ class Asking:
         if self.memory.step(element, number, operation_of(words)):
             self.lines.append((element, number, words))
 
-
     def ask_any(self):
         """Asks for something. Where many wait, one is answered more often."""
         dice, element = self.dice, self.dice.randrange(ELEMENTS)
@@ -74,7 +74,7 @@ class Asking:
         return "".join(f"element {element}\n{words}\n" for element, _, words in asked[:upto])
 
     def dialogue(self):
-        """Returns the same requests as lines of a dialogue, with more confirmations between them."""
+        """Returns the same requests as lines of a dialogue, with more confirmations between them, and the memory behind it."""
         memory, lines = images.Memory(CELLS, ELEMENTS), []
         for element, number, words in self.lines:
             base, entries = memory.windows[element]
@@ -84,7 +84,7 @@ class Asking:
                 lines.append(f"confirm {element} {base + answered}")
             memory.step(element, number, operation_of(words))
             lines.append(f"confirm {element} {number}" if words is None else f"{element}.{number} {words}")
-        return "".join(f"{it}\n" for it in lines)
+        return "".join(f"{it}\n" for it in lines), memory
 
 
 def script_of_threads(dice):
@@ -137,10 +137,15 @@ def serial(stage, begin, asking, path="/m/a.img", more=""):
 
 def serve(stage, begin, asking):
     """Lines stand in the pipe together, so that they are served in groups."""
-    stage.put("/t/lines", asking.dialogue())
+    stage.put("/t/lines", asking.dialogue()[0])
     begin()
     stage.imem(f"format --new /m/a.img {SIZES}")
     stage.imem("serve /m/a.img", given="/t/lines")
+
+
+def groups(stage, begin, asking):
+    """The same with more lines: chains of groups, and a checkpoint behind every 16 commands."""
+    serve(stage, begin, Asking(stage.dice, 120))
 
 
 def run(stage, begin, asking):
@@ -214,7 +219,7 @@ def no_gates_sync(stage, begin, asking):
     serial(stage, begin, asking, more="NO_SYNC=gates")
 
 
-SCENES = {it.__name__.replace("_", "-"): it for it in (serial, serve, run, folders, over, moves, migrate, library)}
+SCENES = {it.__name__.replace("_", "-"): it for it in (serial, serve, run, groups, folders, over, moves, migrate, library)}
 CONTROLS = {it.__name__.replace("_", "-"): it for it in (no_sync, no_gates_sync)}
 
 

@@ -1,6 +1,6 @@
 // Preloaded into a program in a guest of scripts/power-cut. Each of its writes to a file, syncs, cuts and prints becomes a record on the
 // second disk, which the server of the first one serves: so all stand in one order. A write is noted before it is made, a sync once it has
-// answered (S a file's, D a folder's, F one that failed), a print before it is made.
+// answered (S a file's, D a folder's, F one that failed), a print before it is made. A name that a file gets is noted as OLD, a byte 0, NEW.
 // Two wrong bodies that have to be found: NO_SYNC=all leaves the file's syncs out; NO_SYNC=gates those behind a gate alone, so that a
 // command is answered before its gate is on the disk.
 // KILL_AT=N kills the program behind its N-th gate of the journal, before the sync.
@@ -113,4 +113,12 @@ int ftruncate64(int file, off64_t length) {
 
 int ftruncate(int file, off_t length) {
     return ftruncate64(file, length);
+}
+
+int link(const char *old, const char *new) {
+    char names[512];
+    size_t length = snprintf(names, sizeof names, "%s%c%s", old, 0, new);
+    int answer = syscall(SYS_link, old, new);
+    if (answer == 0 && length < sizeof names) put('N', 0, names, length, 0);
+    return answer;
 }
