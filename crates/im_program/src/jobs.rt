@@ -12,7 +12,7 @@ use crate::formatting::format_image;
 use crate::hand::AtHand;
 use crate::loading::{LoadFault, load_file};
 use crate::looking::inspect_file;
-use crate::overwriting::may_be_made;
+use crate::overwriting::{Loss, may_be_made};
 use crate::serving::serve_file;
 use crate::settling::{settle_if, settle_new};
 use crate::talking::talk_file;
@@ -60,21 +60,24 @@ fn may_format<R: Files<File = File> + AllocGlobal + Eprint, I: BufRead>(
     formatting: &Formatting,
     input: &mut I,
     console: &Console<'_, R>,
+    loss: &mut Loss,
 ) -> bool {
-    formatting.is_new || may_be_made(rt, formatting.image, input, console)
+    formatting.is_new || may_be_made(rt, formatting.image, input, console, loss)
 }
 
-// Whether the job may be done. If that is asked, the job makes an image.
+// Whether the job may be done. If that is asked, the job makes an image. If nobody can be asked, `loss` becomes what is
+// lost.
 fn may_do<R: Files<File = File> + AllocGlobal + Eprint, I: BufRead>(
     rt: &R,
     job: &Job,
     input: &mut I,
     console: &Console<'_, R>,
+    loss: &mut Loss,
 ) -> bool
     ensures { MakesImage (task_of_job job.now) ⊎ (input.new ≡ input.old) }
 {
     match *job {
-        Job::Format(formatting) => may_format(rt, &formatting, input, console),
+        Job::Format(formatting) => may_format(rt, &formatting, input, console, loss),
         _ => true,
     }
 }
@@ -101,7 +104,8 @@ fn settle_job<R: Files<File = File> + AllocGlobal + Eprint, S: Start>(
     disk: &Option<FileDisk<S>>,
     console: &mut Console<'_, R>,
 )
-    requires named { IfSome disk.now (λ it. IsOpenAt ⟦<FileDisk<S> as Disk>⟧ S.path (file_of (task_of_job job.now)) it) }
+    requires named { IfSome disk.now (λ it.
+        IsOpenAt ⟦<FileDisk<S> as Disk>⟧ S.path (file_of (task_of_job job.now)) it) }
 {
     let path = path_of(job);
     match (job, disk) {
@@ -110,6 +114,13 @@ fn settle_job<R: Files<File = File> + AllocGlobal + Eprint, S: Start>(
             console.settle(None, Noting::Unneeded);
         }
         _ => settle_if(rt, path, disk, console),
+    }
+}
+
+// Tells what a new image replaced, if it was made.
+fn tell_loss<R: AllocGlobal + Eprint>(rt: &R, job: &Job, loss: Loss, is_made: bool) {
+    if is_made {
+        loss.tell(rt, path_of(job));
     }
 }
 
@@ -124,7 +135,8 @@ fn work_alone<
     ensures status { result.0 ≤ 1 }
     ensures done { IfSome result.1 (λ disk. WasDone ⟦<FileDisk<S> as Disk>⟧ S.first (I.remaining hand.entry.input.now)
         (task_of_job job.now) (W.contents out.old) (W.contents out.new) result.0 disk) }
-    ensures named { IfSome result.1 (λ disk. IsOpenAt ⟦<FileDisk<S> as Disk>⟧ S.path (file_of (task_of_job job.now)) disk) }
+    ensures named { IfSome result.1 (λ disk.
+        IsOpenAt ⟦<FileDisk<S> as Disk>⟧ S.path (file_of (task_of_job job.now)) disk) }
     ensures none { IfNone result.1 (result.0 ≡ 1) }
 {
     let alloc = hand.rt.alloc();
@@ -147,7 +159,8 @@ fn work_alone<
 /// - How far a long script has come, if somebody watches.
 /// - Which cells or elements the image has, if a report was asked for others alone.
 ///
-/// If standard input is a terminal, a person is asked before an image replaces a file that isn't empty.
+/// If standard input is a terminal, a person is asked before an image replaces a file that isn't empty. Else, if such a
+/// file is no image, a line on standard error tells what was replaced.
 ///
 /// Refusals: `Device` for a file that isn't to be replaced; `BadLimits` for a number out of its range, and then no file
 /// is made; and the errors of [`format_file`], [`serve_file`], [`talk_file`], [`inspect_file`], [`dump_file`] and
@@ -169,11 +182,13 @@ pub fn act_alone<
     ensures status { result.0 ≤ 1 }
     ensures done { IfSome result.1 (λ disk. WasDone ⟦<FileDisk<S> as Disk>⟧ S.first (I.remaining hand.entry.input.now)
         (task_of_job job.now) (W.contents out.old) (W.contents out.new) result.0 disk) }
-    ensures named { IfSome result.1 (λ disk. IsOpenAt ⟦<FileDisk<S> as Disk>⟧ S.path (file_of (task_of_job job.now)) disk) }
+    ensures named { IfSome result.1 (λ disk.
+        IsOpenAt ⟦<FileDisk<S> as Disk>⟧ S.path (file_of (task_of_job job.now)) disk) }
     ensures none { IfNone result.1 (result.0 ≡ 1) }
 {
     let (rt, held, input, console) = hand.parts();
-    if !may_do(rt, job, input, console) {
+    let mut loss = Loss::none();
+    if !may_do(rt, job, input, console, &mut loss) {
         console.tell(News::Refused(Reason::File(PathFault::Exists)));
         return (refuse(rt.alloc(), Refusal::Device, out), None);
     }
@@ -186,5 +201,6 @@ pub fn act_alone<
     let (status, disk) = work_alone(inner, job, out, start);
     settle_job(rt, job, &disk, console);
     tell_what_there_is(rt, job, status);
+    tell_loss(rt, job, loss, disk.is_some());
     (status, disk)
 }

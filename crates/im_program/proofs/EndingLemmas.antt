@@ -1,0 +1,50 @@
+-- How the program ends.
+use Rattle.std.proofs.Common.{◌≡◌, ◌⊎◌, ◌≤◌, inl, inr, ℕ, Bool, List, refl, sym, ◌∙◌, ap, subst, arith}
+use Rattle.std.specs.Prelude.{Option, None, Some, unwrap_or}
+use Rattle.std.specs.Borrow.{Bor}
+use Rattle.im_disk.specs.declared.disk.Disk.{Ghosts as DiskGhosts}
+use Rattle.im_disk.specs.declared.file.FileDisk.{FileDisk}
+use Rattle.im_disk.specs.declared.start.Start.{Ghosts}
+use Rattle.im_filters.specs.declared.telling.Telling.{Telling}
+use Rattle.im_script.specs.Grammar.{texts}
+use Rattle.im_program.specs.Ending.{EndsAs, Ended, EndedBy, EndedOn}
+use Rattle.im_words.specs.declared.words.CommandLine.{CommandLine}
+use Rattle.im_words.specs.Words.{Task, asks_statuses, asks_task, asks_telling, task_of_work}
+
+same_task : (a b : Task) → Some a ≡ Some b → a ≡ b
+same_task a b is = ap (λ (o : Option Task). unwrap_or o a) is
+
+module _ {S T : Type 0} (start : Ghosts S) (other : Ghosts T) (d : DiskGhosts (FileDisk S start))
+    (e : DiskGhosts (FileDisk T other)) (input was is : Option (List ℕ)) (result : ℕ) where
+  -- what was read of the words was done
+  pub ended_by : (words : List (Bor (List ℕ))) (line : CommandLine) (disk : Option (FileDisk S start))
+      (old : Option (FileDisk T other)) → asks_task (texts words) ≡ Some (task_of_work line.work)
+      → line.statuses ≡ asks_statuses (texts words) → line.telling ≡ asks_telling (texts words)
+      → EndedOn start other d e line input was is result disk old
+      → EndedBy start other d e words input was is result disk old
+  ended_by words line disk old work statuses telling ended = λ taken waits task asks.
+      subst (λ (s : Bool). Ended start other d e s task (asks_telling (texts words)) input was is result disk old)
+      statuses
+      (subst (λ (l : Telling). Ended start other d e line.statuses task l input was is result disk old) telling
+      (subst (λ (t : Task). Ended start other d e line.statuses t line.telling input was is result disk old)
+      (same_task (task_of_work line.work) task (sym work ∙ asks)) ended))
+
+  refused_as : (statuses : Bool) → result ≡ 1 → EndsAs statuses 1 result
+  refused_as statuses one = record {
+    same = λ _. one;
+    few = λ _. omega (arith, one);
+    range = λ _. inl one;
+  }
+
+  -- whatever was asked was refused, and no file was opened
+  pub refused : (statuses : Bool) (task : Task) (telling : Telling) → result ≡ 1
+      → Ended start other d e statuses task telling input was is result None None
+  refused statuses task telling one = record {
+    status = 1;
+    ends = refused_as statuses one;
+    done = tt;
+    moved = tt;
+    named = tt;
+    both = tt;
+    none = inr refl;
+  }
