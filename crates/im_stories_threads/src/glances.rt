@@ -12,6 +12,14 @@ pub const CELLS: u32 = 256;
 // How often a reader looks at all cells.
 const ROUNDS: u32 = 2_000;
 
+// The last cell of a large memory, and the number of the last request that fetches it.
+const LAST: u32 = 65_535;
+
+const FETCHES: u64 = 60;
+
+// How many turns at most are made for a request. A whole checkpoint of a large memory takes fewer.
+const MOST_TURNS: u32 = 20_000;
+
 /// Returns the value that the writer stores at an address.
 pub fn value_at(a: u32) -> u64 {
     u64::from(a).saturating_add(1000)
@@ -91,37 +99,47 @@ impl<K: Name + Send + Sync, R: Host> Cast<'_, K, R> {
         }
     }
 
-    /// The last element fills the last cell of a large memory, looks there, and fetches it up to its sixtieth request.
-    /// Nobody keeps checkpoints: each time that the journal is full, the port makes a turn (20,000 calls at most).
-    pub fn look_far(&mut self) {
+    // The last element fills the last cell of a large memory, and looks there.
+    fn look_at_ends(&mut self, port: &mut Port<K>) {
         let Ok(mut glance) = self.controller.glance(self.rt, 63) else {
             return self.said.text("  no glance\n");
         };
-        let Some(mut port) = self.port(63) else {
-            return;
-        };
-        let answer = port.submit(self.rt, self.controller, 1, Op::Store(65_535, u64::MAX));
+        let answer = port.submit(self.rt, self.controller, 1, Op::Store(LAST, u64::MAX));
         if let Ok(receipt) = &answer {
             glance.learn(receipt.told());
         }
         self.tell("submit", outcome_of(&answer));
-        for a in [65_535, 0] {
+        for a in [LAST, 0] {
             match glance.glance(a) {
                 Ok(Some(value)) => writeln!(self.said, "  glance {a}: value {value}"),
                 Ok(None) => writeln!(self.said, "  glance {a}: none"),
                 Err(_) => writeln!(self.said, "  glance {a}: refused"),
             }
         }
-        let mut number = 2u64;
-        for _ in 0..20_000u32 {
-            let answer = port.submit(self.rt, self.controller, number, Op::Fetch(65_535));
-            match outcome_of(&answer) {
-                Err(Refusal::JournalFull) => drop(port.help(self.rt, self.controller)),
-                Ok(_) if number < 60 => number = number.saturating_add(1),
-                _ => break,
+    }
+
+    // Fetches the last cell. Each time that the journal is full, the port makes a turn and asks again.
+    fn fetch_last(&mut self, port: &mut Port<K>, number: u64) {
+        for _ in 0..MOST_TURNS {
+            let answer = port.submit(self.rt, self.controller, number, Op::Fetch(LAST));
+            if outcome_of(&answer) != Err(Refusal::JournalFull) {
+                return;
             }
+            let _turned = port.help(self.rt, self.controller);
         }
-        self.submit(&mut port, number, Op::Fetch(65_535));
+    }
+
+    /// The last element fills the last cell of a large memory, looks there, and fetches it up to its sixtieth request.
+    /// Nobody keeps checkpoints: the port makes the room that the journal lacks.
+    pub fn look_far(&mut self) {
+        let Some(mut port) = self.port(63) else {
+            return;
+        };
+        self.look_at_ends(&mut port);
+        for number in 2..=FETCHES {
+            self.fetch_last(&mut port, number);
+        }
+        self.submit(&mut port, FETCHES, Op::Fetch(LAST));
         self.keep(port)
     }
 }
