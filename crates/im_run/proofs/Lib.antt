@@ -1,4 +1,3 @@
-pub mod AloneLemmas
 pub mod BlocksLemmas
 pub mod CountLemmas
 pub mod DoingLemmas

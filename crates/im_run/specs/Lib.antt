@@ -1,4 +1,3 @@
-pub mod Alone
 pub mod Doing
 pub mod Once
 pub mod Orders
