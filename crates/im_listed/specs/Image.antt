@@ -10,7 +10,7 @@ use Rattle.im_groups.specs.Ahead.{ServesPrefix}
 use Rattle.im_engine.specs.State.{EngineState, MeansState, IsFirstFault}
 use Rattle.im_engine.specs.Commands.{CommandsAnswered, MeansCommands, commands_put}
 use Rattle.im_engine.specs.Run.{is_device}
-use Rattle.im_listed.specs.Listing.{FileStep, Listing, carried, LeftOnTheWay, with_no_steps}
+use Rattle.im_listed.specs.Listing.{FileStep, Listing, MayLeave, carried, LeftOnTheWay, with_no_steps}
 
 -- an engine over a caller's bytes, and whether a call of the disk failed, here or at the caller
 pub record ImageState : Type 0 where
@@ -24,6 +24,10 @@ begun_in s = record s.engine { disk = with_no_steps s.engine.disk }
 -- what the caller has to carry out after a call: nothing, if a step was lost
 abbrev pub steps_of : ImageState → List FileStep
 steps_of s = if s.lost then [] else s.engine.disk.steps
+
+-- the image works, and a crash on the way through the steps of a call may leave this file
+abbrev pub MayLeaveBetween : ImageState → ImageState → List ℕ → Type 0
+MayLeaveBetween old new file = (old.lost ≡ false) × MayLeave old.engine.disk.now (steps_of new) file
 
 -- the answer says that a call of the disk failed
 abbrev pub tells_device : {T : Type 0} → Result T Refusal → Bool

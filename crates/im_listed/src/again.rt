@@ -1,10 +1,9 @@
 //! A request that is sent again, over a crash of the caller.
-ghost use Rattle.std.specs.Prelude.{◌≡◌, false, Ok, IfOk, IfErr};
+ghost use Rattle.std.specs.Prelude.{◌≡◌, Ok, IfOk, IfErr};
 ghost use Rattle.im_types.specs.declared.operations.Entry.{Entry};
 ghost use Rattle.im_types.specs.declared.commands.Outcome.TheVariants.{Entry as Tells};
 ghost use Rattle.im_laws.specs.Requests.{after_request};
-ghost use Rattle.im_listed.specs.Listing.{MayLeave};
-ghost use Rattle.im_listed.specs.Image.{IsWant, steps_of};
+ghost use Rattle.im_listed.specs.Image.{IsWant, MayLeaveBetween};
 
 use crate::image::Image;
 use im_engine::files_mean_one_thing;
@@ -33,12 +32,10 @@ pub fn send_over_steps(
     request: Request,
     file: Vec<u8>,
 ) -> (Image, Result<Resent, Refusal>)
-    ensures once { IfOk result.1 (λ r. image.lost ≡ false
-        → MayLeave image.engine.disk.now (steps_of result.0) file.items
+    ensures once { IfOk result.1 (λ r. MayLeaveBetween image result.0 file.items
         → (entry : Entry) → r.answer ≡ Ok (Tells entry)
         → r.image.engine.memory ≡ after_request image.engine.memory request) }
-    ensures refused { IfErr result.1 (λ e. image.lost ≡ false
-        → MayLeave image.engine.disk.now (steps_of result.0) file.items → IsWant e) }
+    ensures refused { IfErr result.1 (λ e. MayLeaveBetween image result.0 file.items → IsWant e) }
 {
     files_mean_one_thing();
     number_acts_once();

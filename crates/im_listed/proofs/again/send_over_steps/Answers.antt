@@ -11,7 +11,9 @@ use Rattle.im_listed.specs.Image.{begun_in}
 use Rattle.im_listed.proofs.again.send_over_steps.Goals as goal
 
 pub returns-in-Ok-clause-once : goal.returns-in-Ok-clause-once
-returns-in-Ok-clause-once c = λ alive left entry told.
+returns-in-Ok-clause-once c = λ crash entry told.
+    let alive = crash.0 in
+    let left = crash.1 in
     let r = c.args.request in
     let old : EngineState Listing = begun_in c.args.image in
     let e : EngineState Listing = begun_in c.in-Ok.opened in
@@ -31,7 +33,9 @@ returns-in-Ok-clause-once c = λ alive left entry told.
     there
 
 pub returns-in-Err-clause-refused : goal.returns-in-Err-clause-refused
-returns-in-Err-clause-refused c = λ alive left.
+returns-in-Err-clause-refused c = λ crash.
+    let alive = crash.0 in
+    let left = crash.1 in
     let r = c.args.request in
     let old : EngineState Listing = begun_in c.args.image in
     let file = c.args.file.items in
