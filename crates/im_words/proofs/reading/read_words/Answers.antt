@@ -53,7 +53,7 @@ returns-in-Some-clause-telling c =
 
 none_some : {A : Type 0} (o : Option A) → o ≡ None → IsSome o → ⊥
 none_some {A = A} None is some = search rules
-none_some {A = A} (Some a) is some = absurd (subst (λ (o : Option A). IsNone o) (sym is) tt)
+none_some {A = A} (Some a) is some = absurd (subst (λ (o : Option A). IsNone o) (sym is) refl)
 
 pub returns-clause-taken : goal.returns-clause-taken
 returns-clause-taken c = λ taken some waits.
