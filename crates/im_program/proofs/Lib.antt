@@ -1,5 +1,4 @@
 pub mod Crosses
-pub mod EndingLemmas
 pub mod Loads
 pub mod MovedLemmas
 pub mod OkLemmas
