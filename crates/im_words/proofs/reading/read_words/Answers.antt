@@ -1,5 +1,5 @@
 use Rattle.std.proofs.Common.{◌≡◌, ◌∙◌, ap, sym, subst, rules, refl, [], true, Option, None, ⊎_elim}
-use Rattle.std.specs.Prelude.{IsNone, IsSome, Some}
+use Rattle.std.specs.Prelude.{IsSome, Some}
 use Rattle.clap.specs.Simple.{is_simple, subcommand_of}
 use Rattle.clap.specs.Words.{App, app_of, fault_of, is_simple_and_free, takes}
 use Rattle.im_script.specs.Grammar.{texts}
@@ -51,9 +51,11 @@ returns-in-Some-clause-telling c =
     let same = met.1 ∙ ap (λ (a : App). subcommand_of a (texts c.args.words.now)) app in
     c.in-Some.ensures.telling ∙ ap telling_in same
 
+no_some : (A : Type 0) → IsSome {T = A} None → ⊥
+no_some A some = search rules
+
 none_some : {A : Type 0} (o : Option A) → o ≡ None → IsSome o → ⊥
-none_some {A = A} None is some = search rules
-none_some {A = A} (Some a) is some = absurd (subst (λ (o : Option A). IsNone o) (sym is) refl)
+none_some {A = A} o is some = no_some A (subst (λ (p : Option A). IsSome p) is some)
 
 pub returns-clause-taken : goal.returns-clause-taken
 returns-clause-taken c = λ taken some waits.
