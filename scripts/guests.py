@@ -134,7 +134,7 @@ class Machine(Line):
         self.ask("blockdev --flushbufs /dev/vda")
 
     def reach(self, path):
-        end = time.time() + 60
+        end = time.time() + 300
         while time.time() < end and self.process.poll() is None:
             try:
                 reached = socket.socket(socket.AF_UNIX)
@@ -147,7 +147,7 @@ class Machine(Line):
 
     def monitor(self, words):
         with self.reach(self.monitored) as monitor:
-            monitor.settimeout(60)
+            monitor.settimeout(300)
             for sent in (None, words.encode() + b"\n"):
                 if sent:
                     monitor.sendall(sent)
