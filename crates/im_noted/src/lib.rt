@@ -13,19 +13,19 @@ use std::snapshot::Snapshot;
 /// The values that were noted. Contracts see them as a list, the newest first.
 #[cycle(noted)]
 #[derive(Drop)]
-pub struct Noted<T> {
-    past: Past<T>,
+pub struct NoteList<T> {
+    past: NoteChain<T>,
 }
 
 #[cycle(noted)]
 #[derive(Drop)]
-enum Past<T> {
+enum NoteChain<T> {
     Nothing,
     // The list before, and the value.
-    Behind(Snapshot<Noted<T>>, Snapshot<T>),
+    Behind(Snapshot<NoteList<T>>, Snapshot<T>),
 }
 
-impl<T> Model for Noted<T> {
+impl<T> Model for NoteList<T> {
     ghost use Rattle.std.specs.Prelude.{List, length};
     ghost use Rattle.std.proofs.Common.{arith};
 
@@ -40,23 +40,23 @@ impl<T> Model for Noted<T> {
     ghost size_decreases = { λ n is. Prim.grind arith };
 }
 
-impl<T> Noted<T> {
+impl<T> NoteList<T> {
     /// Makes an empty list.
-    pub fn new() -> Noted<T>
+    pub fn new() -> NoteList<T>
         ensures { result ≡ [] }
     {
-        Noted {
-            past: Past::Nothing,
+        NoteList {
+            past: NoteChain::Nothing,
         }
     }
 }
 
-impl<T: Drop> Noted<T> {
+impl<T: Drop> NoteList<T> {
     /// Notes a value.
     pub fn note(&mut self, value: &T)
         ensures { self.new ≡ value.now ∷ self.old }
     {
         let before = Snapshot::of(&*self);
-        self.past = Past::Behind(before, Snapshot::of(value));
+        self.past = NoteChain::Behind(before, Snapshot::of(value));
     }
 }

@@ -1,0 +1,3 @@
+pub mod KeptLemmas
+pub mod CarryLemmas
+pub mod RoomLemmas
