@@ -147,8 +147,9 @@ part_added m order p old new before later part same is = record {
 
 pub part_made : (m : Contents) (order : Ask) (p : Asked) → p.deeds.port.element ≡ order.element
     → p.deeds.served.first ≡ order.first → p.intents ≡ order.intents → p.deeds.served.entries.items ≡ []
-    → p.deeds.last ≡ None → IsPrefix (opening m) p.deeds.seen → p.deeds.made ≡ [] → IsPartOf m order p
-part_made m order p element first intents none last seen made = record {
+    → p.deeds.last ≡ None → IsPrefix (opening m) p.deeds.seen → p.deeds.made ≡ []
+    → p.deeds.port.told.marked ≡ 0 → IsPartOf m order p
+part_made m order p element first intents none last seen made untold = record {
   element = element;
   first = first;
   intents = intents;
@@ -158,6 +159,7 @@ part_made m order p element first intents none last seen made = record {
         (record { firsts = []; count = refl; asked = tt; found = tt });
     places = ap (map (λ (g : Glanced). (g.behind, g.address))) made;
   };
+  untold = untold;
   seen = subst (λ (l : List Glanced). AreGlanced m p.deeds.port.element p.deeds.last p.deeds.seen l) (sym made)
       (subst (λ (o : Option ℕ). AreGlanced m p.deeds.port.element o p.deeds.seen []) (sym last)
       (seen, All-nil (IsGlanced m p.deeds.port.element)));
@@ -314,13 +316,14 @@ noted_step trace ends d old new told more before later it notes seen = by_noted 
 
 -- ---- their elements
 
-pub elements_end : (m : Contents) (parts : List Asked) (ends : List End) → AreEnded m parts ends
+pub elements_end : (m : Contents) (marks : Line → Bool) (parts : List Asked) (ends : List End)
+    → AreEnded m marks parts ends
     → elements_at_end ends ≡ part_elements parts
-elements_end m [] [] it = refl
-elements_end m [] (d ∷ ends) it = absurd it
-elements_end m (p ∷ parts) [] it = absurd it
-elements_end m (p ∷ parts) (d ∷ ends) it =
-    ap₂ (λ (x : ℕ) (l : List ℕ). x ∷ l) it.0.element (elements_end m parts ends it.1)
+elements_end m marks [] [] it = refl
+elements_end m marks [] (d ∷ ends) it = absurd it
+elements_end m marks (p ∷ parts) [] it = absurd it
+elements_end m marks (p ∷ parts) (d ∷ ends) it =
+    ap₂ (λ (x : ℕ) (l : List ℕ). x ∷ l) it.0.element (elements_end m marks parts ends it.1)
 
 -- ---- orders
 
@@ -375,8 +378,9 @@ told_weaker m trace none less (order ∷ orders) told f (mine, (others, (is, (he
 )
 
 -- an order whose part has ended so
-module _ (m : Contents) (trace : List Line) (none : Type 0) (order : Ask) (p : Asked) (d : End) (mine : List Did)
-    (part : IsPartOf m order p) (ended : IsEnded m p d) (seen : IsPrefix d.deeds.port.history trace)
+module _ (m : Contents) (marks : Line → Bool) (trace : List Line) (none : Type 0) (order : Ask) (p : Asked)
+    (d : End) (mine : List Did)
+    (part : IsPartOf m order p) (ended : IsEnded m marks p d) (seen : IsPrefix d.deeds.port.history trace)
     (is : mine ≡ told_at d) where
   told_done : (done : List Intent) → IsPrefix done p.intents → (none → done ≡ p.intents)
       → AreDone d.deeds.port d.deeds.served d.deeds.made done → IsOrderTold m trace none order mine
@@ -415,23 +419,25 @@ module _ (m : Contents) (trace : List Line) (none : Type 0) (order : Ask) (p : A
       not_ok : IsOk {T = Unit {0}} (Err refusal) → ⊥
       not_ok it = cc
 
-order_told : (m : Contents) (trace : List Line) (none : Type 0) (order : Ask) (p : Asked) (d : End)
-    (mine : List Did) → IsPartOf m order p → IsEnded m p d → IsNoted trace none d mine
+order_told : (m : Contents) (marks : Line → Bool) (trace : List Line) (none : Type 0) (order : Ask) (p : Asked)
+    (d : End)
+    (mine : List Did) → IsPartOf m order p → IsEnded m marks p d → IsNoted trace none d mine
     → ((none → ⊥) × (mine ≡ [])) ⊎ (IsPrefix d.deeds.port.history trace × (mine ≡ told_at d))
     → IsOrderTold m trace none order mine
-order_told m trace none order p d mine part ended noted (inl (never, is)) =
+order_told m marks trace none order p d mine part ended noted (inl (never, is)) =
     subst (IsOrderTold m trace none order) (sym is) (none_told m trace none order never)
-order_told m trace none order p d mine part ended noted (inr (seen, is)) =
-    told_by m trace none order p d mine part ended seen is d.result refl noted.well
+order_told m marks trace none order p d mine part ended noted (inr (seen, is)) =
+    told_by m marks trace none order p d mine part ended seen is d.result refl noted.well
 
 -- all orders, whose parts have ended so
-pub all_told : (m : Contents) (trace : List Line) (made none : Type 0) (orders : List Ask) (parts : List Asked)
-    (ends : List End) (told : List Did) → (none → made) → HaveAllParts m made orders parts → AreEnded m parts ends
+pub all_told : (m : Contents) (marks : Line → Bool) (trace : List Line) (made none : Type 0) (orders : List Ask)
+    (parts : List Asked)
+    (ends : List End) (told : List Did) → (none → made) → HaveAllParts m made orders parts → AreEnded m marks parts ends
     → AreAllNoted trace none ends told → AreAllTold m trace none orders told
-all_told m trace made none [] parts [] told f have ended noted = noted
-all_told m trace made none [] parts (d ∷ ends) told f have ended noted =
-    absurd (subst (λ (l : List Asked). AreEnded m l (d ∷ ends)) have ended)
-all_told m trace made none (order ∷ orders) parts ends told f (inl (never, others)) ended noted = (
+all_told m marks trace made none [] parts [] told f have ended noted = noted
+all_told m marks trace made none [] parts (d ∷ ends) told f have ended noted =
+    absurd (subst (λ (l : List Asked). AreEnded m marks l (d ∷ ends)) have ended)
+all_told m marks trace made none (order ∷ orders) parts ends told f (inl (never, others)) ended noted = (
   [],
   (
     told,
@@ -439,37 +445,38 @@ all_told m trace made none (order ∷ orders) parts ends told f (inl (never, oth
       refl,
       (
         none_told m trace none order (λ n. never (f n)),
-        all_told m trace made none orders parts ends told f others ended noted,
+        all_told m marks trace made none orders parts ends told f others ended noted,
       ),
     ),
   ),
 )
-all_told m trace made none (order ∷ orders) parts [] told f (inr (p, (rest, (is, (part, others))))) ended noted =
-    absurd (subst (λ (l : List Asked). AreEnded m l []) is ended)
-all_told m trace made none (order ∷ orders) parts (d ∷ ends) told f (inr (p, (rest, (is, (part, others))))) ended
+all_told m marks trace made none (order ∷ orders) parts [] told f (inr (p, (rest, (is, (part, others))))) ended noted =
+    absurd (subst (λ (l : List Asked). AreEnded m marks l []) is ended)
+all_told m marks trace made none (order ∷ orders) parts (d ∷ ends) told f (inr (p, (rest, (is, (part, others))))) ended
     (mine, (more, (told_is, (here, there)))) =
-    let both : IsEnded m p d × AreEnded m rest ends =
-    subst (λ (l : List Asked). AreEnded m l (d ∷ ends)) is ended in (
+    let both : IsEnded m marks p d × AreEnded m marks rest ends =
+    subst (λ (l : List Asked). AreEnded m marks l (d ∷ ends)) is ended in (
       mine,
       (
         more,
         (
           told_is,
           (
-            order_told m trace none order p d mine part both.0 here here.noted,
-            all_told m trace made none orders rest ends more f others both.1 there,
+            order_told m marks trace none order p d mine part both.0 here here.noted,
+            all_told m marks trace made none orders rest ends more f others both.1 there,
           ),
         ),
       ),
     )
 
 -- the same, whether the parts were served or not
-pub all_told_by : {T E : Type 0} (items : T → List End) (r : Result T E) (m : Contents) (trace : List Line)
-    (made none : Type 0) (orders : List Ask) (parts : List Asked) (told : List Did)
-    → HaveAllParts m made orders parts → IfOk r (λ all. AreEnded m parts (items all))
+pub all_told_by : {T E : Type 0} (items : T → List End) (r : Result T E) (m : Contents)
+    (marks : Line → Bool) (trace : List Line) (made none : Type 0) (orders : List Ask) (parts : List Asked)
+    (told : List Did)
+    → HaveAllParts m made orders parts → IfOk r (λ all. AreEnded m marks parts (items all))
     → IfOk r (λ all. (none → made) × AreAllNoted trace none (items all) told)
     → OnErr r ((none → ⊥) × (told ≡ [])) → AreAllTold m trace none orders told
-all_told_by items (Ok all) m trace made none orders parts told have ended noted never =
-    all_told m trace made none orders parts (items all) told noted.0 have ended noted.1
-all_told_by items (Err e) m trace made none orders parts told have ended noted never =
+all_told_by items (Ok all) m marks trace made none orders parts told have ended noted never =
+    all_told m marks trace made none orders parts (items all) told noted.0 have ended noted.1
+all_told_by items (Err e) m marks trace made none orders parts told have ended noted never =
     none_of_all m trace none orders told never.1 never.0

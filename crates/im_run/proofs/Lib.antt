@@ -1,3 +1,4 @@
+pub mod AloneLemmas
 pub mod BlocksLemmas
 pub mod CountLemmas
 pub mod DoingLemmas

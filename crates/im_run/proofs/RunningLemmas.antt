@@ -224,6 +224,7 @@ ended_weaker disk planned whole orders begun engine trace did none later well it
   plan = it.plan;
   served = it.served;
   told = told_weaker begun.memory trace none later orders did well it.told;
+  alone = λ is. it.alone (well is);
   all_served = λ is. it.all_served (well is);
   as_planned = λ by. ⊎_elim
       (λ ran. inl (record {
@@ -330,6 +331,7 @@ module _ {D : Type 0} (now : D → Moment) (past : D → List Moment) (failures 
       orders = t.orders;
       of_script = t.of_script;
       all = t.all;
+      alone = t.alone;
       whole = t.whole;
       is_whole = t.is_whole;
       all_served = t.all_served;
@@ -390,6 +392,7 @@ module _ {D : Type 0} (disk : Ghosts D) where
               (subst (λ (m : Contents). AreOrders once m (settled_when once start.memory) bases (script_heard script)
               orders) begun of_script);
           all = subst (λ (m : Contents). AreAllTold m trace (status ≡ 0) orders ended.did) begun ended.ended.told;
+          alone = ended.ended.alone;
           whole = whole;
           is_whole = subst (λ (b : List ℕ). IsOfAll once b (script_heard script) whole) named is_whole;
           all_served = λ zero. subst (λ (m : Contents). HasServedWhole m.windows whole) told_is (ended.ended.all_served zero);

@@ -16,6 +16,7 @@ use Rattle.im_serving.specs.declared.intent.Intent.TheVariants.{Request, Glance}
 use Rattle.im_serving.specs.declared.glances.Glanced.{Glanced}
 use Rattle.im_serving.specs.Elements.{Asked, End}
 use Rattle.im_serving.specs.Serving.{AreDone, AreGlanced, HasAnswers, IsGlanced, ops_of, requests, sites}
+use Rattle.im_run.specs.Alone.{AreCallsOf}
 use Rattle.im_run.specs.declared.served.Did.{Did}
 use Rattle.im_run.specs.declared.served.Did.TheVariants as did
 use Rattle.im_run.specs.Orders.{AreOrders, ArePartsThere, Ask, IsOfAll, SetsUp, bases_made, script_heard, settled_when}
@@ -62,7 +63,8 @@ AreAllTold m trace none (order ∷ orders) told =
 -- trace; so all these commands were acknowledged, and those are in doubt. This is told of the parts, and it is all
 -- that they ask for if nothing was refused. If the script is done once, all requests of its parts are known, the
 -- settled ones too, and each was served if nothing was refused. If the run was planned, it ended as its plan says:
--- that of all those requests, if they are known.
+-- that of all those requests, if they are known. If nothing was refused, nobody was served who didn't ask: each line of
+-- the trace is of a request of a part, under its number, or of its element's confirmation or collect.
 pub record HasToldScript (once planned : Bool) (start : Contents) (text : List ℕ) (setup acknowledged doubt : List
     Command) (trace : List Line) (none : Type 0) (told : List Did) : Type 0 where
   pub made : SetsUp once start text setup []
@@ -72,6 +74,7 @@ pub record HasToldScript (once planned : Bool) (start : Contents) (text : List �
   pub of_script : AreOrders once (after start setup) (settled_when once start) (bases_made once start text setup)
       (script_heard text) orders
   pub all : AreAllTold (after start setup) trace none orders told
+  pub alone : none → AreCallsOf orders trace
   pub whole : Option (List Ask)
   pub is_whole : IsOfAll once (bases_made once start text setup) (script_heard text) whole
   pub all_served : none → HasServedWhole (after start acknowledged).windows whole
@@ -102,12 +105,13 @@ told_among element number behind (entry ∷ entries) made = glances_told element
 abbrev pub told_at : End → List Did
 told_at d = told_among d.deeds.port.element d.deeds.served.first 0 d.deeds.served.entries.items d.deeds.made
 
--- a part that was made for an order: nothing was done of it yet
+-- a part that was made for an order: nothing was done of it yet, and its port was told no line
 pub record IsPartOf (m : Contents) (order : Ask) (p : Asked) : Type 0 where
   pub element : p.deeds.port.element ≡ order.element
   pub first : p.deeds.served.first ≡ order.first
   pub intents : p.intents ≡ order.intents
   pub fresh : AreDone p.deeds.port p.deeds.served p.deeds.made []
+  pub untold : p.deeds.port.told.marked ≡ 0
   pub seen : AreGlanced m p.deeds.port.element p.deeds.last p.deeds.seen p.deeds.made
 
 -- the elements of these parts

@@ -1,3 +1,4 @@
+pub mod Alone
 pub mod Doing
 pub mod Once
 pub mod Orders

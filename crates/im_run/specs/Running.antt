@@ -28,6 +28,7 @@ use Rattle.im_text.specs.declared.reasons.Reason.TheVariants.{Image, Request}
 use Rattle.im_text.specs.declared.replies.Waited.{Waited}
 use Rattle.im_text.specs.Printing.{Begins, IsLast, Prints, PrintsMore, replies, told_line}
 use Rattle.im_text.specs.Texts.{line_feed, texts_below}
+use Rattle.im_run.specs.Alone.{AreCallsOf}
 use Rattle.im_run.specs.declared.sheet.Order.{Order}
 use Rattle.im_run.specs.declared.run.TheConstants.{STALLED}
 use Rattle.im_run.specs.declared.served.Did.{Did}
@@ -107,14 +108,15 @@ pub record ServedOn {D : Type 0} (now : D → Moment) (past : D → List Moment)
   pub kept : HasKept now past failures b m plan (accepted_in m trace) engine
 
 -- Servers of these orders began on an engine and ended on that one, with this trace, and this was done. It is all that
--- the orders ask for if nothing was refused; and each request of the script was served then, if all are known. A plan
--- is of all of them, if they are known.
+-- the orders ask for if nothing was refused; and each request of the script was served then, if all are known. Nobody
+-- else was served then. A plan is of all of them, if they are known.
 pub record ServersEnded {D : Type 0} (disk : Ghosts D) (planned : Bool) (whole : Option (List Ask)) (orders : List Ask)
     (begun engine : EngineState D) (trace : List Line) (did : List Did) (none : Type 0) : Type 0 where
   pub plan : Option (List Requests)
   pub served : ServedOn disk.now disk.past disk.failures (begun_by disk.now disk.past disk.failures begun) begun.memory
       plan trace engine
   pub told : AreAllTold begun.memory trace none orders did
+  pub alone : none → AreCallsOf orders trace
   pub all_served : none → HasServedWhole engine.memory.windows whole
   pub as_planned : planned ≡ true → EndsOnPlan begun.memory whole orders trace served.kept.doubt engine.memory none
 

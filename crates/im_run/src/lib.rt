@@ -18,6 +18,7 @@ mod opening;
 mod orders;
 mod parts;
 mod planned;
+mod port_notes;
 mod run;
 mod served;
 mod sheet;

@@ -224,6 +224,8 @@ pub(crate) fn run_server<
 /// - `run`, the script: of each element, from the least, a prefix of its lines is told, in their order; all if the
 ///   status is 0. Its requests have the numbers from its next one on. A request's entry is its answer in the trace, or
 ///   what was found later under its number. What a glance tells was seen by its element's reader.
+/// - `run`, nobody else: with status 0 each line that the servers left in the trace is of a request of the script's
+///   parts, under its number, or of a confirmation or a collect of an element that has a part.
 /// - `planned`: if it is planned, the same by the plan of all requests of the script's parts, which fits the memory
 ///   after the setup. An entry kept for a request has its result by the plan, or it waits. With status 0 all were
 ///   served, and that memory and the plan alone say what is kept. If there is no plan that fits, none is served.

@@ -1,19 +1,20 @@
 //! Serves all elements through one controller.
-ghost use Rattle.std.specs.Prelude.{◌≡◌, ◌∷◌, [], ℕ, List, IfOk, IsOk, None, OnErr, false, map, true};
+ghost use Rattle.std.specs.Prelude.{◌≡◌, ◌∷◌, [], ℕ, List, IfOk, None, OnErr, map, true};
 ghost use Rattle.im_types.specs.Trace.{IsLegal, end_of};
 ghost use Rattle.im_types.specs.declared.commands.Line.{Line};
 ghost use Rattle.im_controller.specs.Kept.{IsOriginOf};
 ghost use Rattle.im_controller.specs.Planned.{EndsBy};
-ghost use Rattle.im_run.specs.Doing.{AddsLines, AreAllNoted, AreAllTold, HaveSeen, NotesEnd, elements_at_end};
+ghost use Rattle.im_run.specs.Alone.{AreQuiet, AreQuietAtEnd, AreUnmarked, NoneMarked};
+ghost use Rattle.im_run.specs.Doing.{AreAllNoted, AreAllTold, HaveSeen, elements_at_end};
 ghost use Rattle.im_run.specs.Orders.{ask_of};
 ghost use Rattle.im_run.specs.Running.{ServedOn};
 
 use crate::calls::Calls;
 use crate::context::RunContext;
-use crate::deeds::told_at;
 use crate::parts::{Parts, first_refusal, make_parts};
+use crate::port_notes::PortNotes;
 use crate::sheet::Order;
-use im_controller::{Controller, Finished, Name, Opening, Port, finish};
+use im_controller::{Controller, Finished, Name, Opening, finish};
 use im_disk::Disk;
 use im_engine::Engine;
 use im_serving::{Done, Gate, Host, Standing, Teller, serve_elements};
@@ -43,95 +44,6 @@ pub(crate) struct ServedRun<D: Disk> {
     pub refused: Option<(u16, Refusal)>,
 }
 
-// What is noted while the elements' ports come back.
-#[derive(Drop)]
-struct PortNotes<K: Name> {
-    alloc: Global,
-    ports: Vec<Port<K>>,
-    did: Vec<Did>,
-    refused: Option<(u16, Refusal)>,
-}
-
-impl<K: Name> PortNotes<K> {
-    // Starts with nothing noted, but for a refusal.
-    fn new(alloc: Global, refused: Option<(u16, Refusal)>) -> PortNotes<K>
-        ensures did { result.did.items ≡ [] }
-        ensures refused { result.refused ≡ refused }
-    {
-        PortNotes {
-            alloc,
-            ports: Vec::new(alloc),
-            did: Vec::new(alloc),
-            refused,
-        }
-    }
-
-    // Notes an element's refusal. Elements come from the least.
-    fn refuse(&mut self, element: u16, refusal: Refusal)
-        ensures refused { self.new.refused ≡ None → ⊥ }
-        ensures did { self.new.did.items ≡ self.old.did.items }
-        ensures ports { self.new.ports.items ≡ self.old.ports.items }
-    {
-        self.refused = first_refusal(self.refused, element, refusal);
-    }
-
-    // Keeps an element's port, and adds what is told of the element. If there is no room for it, nothing is told of it,
-    // and the element is refused.
-    fn add(&mut self, element: u16, port: Port<K>, told: Vec<Did>)
-        ensures ports { (trace : List Line) → HaveSeen trace self.new.ports.items
-            → HaveSeen trace self.old.ports.items }
-        ensures none { self.new.refused ≡ None → self.old.refused ≡ None }
-        ensures added { AddsLines port told.items self.new.ports.items self.old.did.items self.new.did.items
-            self.new.refused }
-    {
-        if self.ports.push(port).is_err() {
-            self.refuse(element, Refusal::NoMemory);
-            return;
-        }
-        match self.did.extend_from_slice(told.as_slice()) {
-            Ok(()) => {}
-            Err(_) => self.refuse(element, Refusal::NoMemory),
-        }
-    }
-
-    // Notes how an element ended.
-    fn end(&mut self, element: u16, done: Result<(), Refusal>)
-        ensures did { self.new.did.items ≡ self.old.did.items }
-        ensures ports { self.new.ports.items ≡ self.old.ports.items }
-        ensures none { self.new.refused ≡ None → self.old.refused ≡ None }
-        ensures well { self.new.refused ≡ None → IsOk done }
-    {
-        match done {
-            Ok(()) => {}
-            Err(refusal) => self.refuse(element, refusal),
-        }
-    }
-
-    // Notes what became of an element.
-    fn take(&mut self, element: u16, done: Done<K>)
-        requires { element ≡ done.deeds.port.element }
-        ensures { NotesEnd done self.old.ports.items self.new.ports.items self.old.did.items self.new.did.items
-            self.old.refused self.new.refused }
-    {
-        let Done {
-            port,
-            served,
-            glances,
-            done: ended,
-        } = done;
-        match told_at(self.alloc, element, &served, glances.made.as_slice()) {
-            Ok(told) => {
-                self.add(element, port, told);
-                self.end(element, ended);
-            }
-            Err(_) => {
-                self.refuse(element, Refusal::NoMemory);
-                self.end(element, ended);
-            }
-        }
-    }
-}
-
 // Returns the first of these elements, and the others.
 fn next_element(elements: &[u16]) -> (u16, &[u16])
     ensures { (first : ℕ) (others : List ℕ) → elements.now ≡ first ∷ others
@@ -150,6 +62,7 @@ fn note_ends<K: Name>(notes: PortNotes<K>, elements: &[u16], all: Vec<Done<K>>) 
     ensures none { result.refused ≡ None → notes.refused ≡ None }
     ensures noted { (trace : List Line) → HaveSeen trace result.ports.items
         → AreAllNoted trace (result.refused ≡ None) all.items result.did.items }
+    ensures quiet { AreQuiet notes.ports.items → AreQuietAtEnd all.items → AreQuiet result.ports.items }
 {
     let mut notes = notes;
     let mut rest = elements;
@@ -184,6 +97,7 @@ fn note_all<K: Name>(
         × ((trace : List Line) → HaveSeen trace result.ports.items
         → AreAllNoted trace (result.refused ≡ None) all.items result.did.items)) }
     ensures none { OnErr served ((result.refused ≡ None → ⊥) × (result.did.items ≡ [])) }
+    ensures quiet { IfOk served (λ all. AreQuietAtEnd all.items → AreQuiet result.ports.items) }
 {
     let notes = PortNotes::new(alloc, unmade);
     match served {
@@ -206,6 +120,8 @@ fn serve_parts<
 ) -> PortNotes<K>
     ensures told { (trace : List Line) → HaveSeen trace result.ports.items → AreAllTold K.origin.memory trace
         (result.refused ≡ None) (map ask_of orders.items) result.did.items }
+    ensures alone { AreUnmarked K.origin.marks (map ask_of orders.items) → result.refused ≡ None
+        → AreQuiet result.ports.items }
 {
     let rt = context.rt;
     let alloc = context.alloc;
@@ -249,6 +165,8 @@ fn refused_at_end(
 /// What is told is, for each order in its turn, a prefix of what it asks for, and all of it if nothing was refused.
 /// Each request has its own number. Its entry is its answer in the trace, or what was found later under that number.
 /// Under a plan, the memory at the end is as the plan says.
+///
+/// If nothing was refused, the trace has no line but those of calls that these orders' servers may make.
 pub(crate) fn serve_orders<
     D: Disk + Drop + Send,
     K: Name + Send + Sync,
@@ -257,8 +175,8 @@ pub(crate) fn serve_orders<
     R: Host,
 >(context: &RunContext<'_, G, V, R>, opening: Opening<D>, orders: Vec<Order>) -> ServedRun<D>
     requires origin { IsOriginOf D.Disk opening K.origin }
-    ensures legal { IsLegal K.origin.memory result.trace.items }
-    ensures end { end_of K.origin.memory result.trace.items ≡ result.engine.memory }
+    ensures legal { IsLegal K.origin.memory result.trace.items
+        × (end_of K.origin.memory result.trace.items ≡ result.engine.memory) }
     ensures recorded { result.trace.recorded ≡ opening.book.recorded }
     ensures planned { EndsBy K.origin.memory K.origin.plan result.trace.items result.engine.memory }
     ensures kept { D.honest result.engine.disk → K.origin.begun.failed ≡ false
@@ -267,6 +185,7 @@ pub(crate) fn serve_orders<
     ensures honest { D.honest result.engine.disk → K.origin.honest }
     ensures told { AreAllTold K.origin.memory result.trace.items (result.refused ≡ None) (map ask_of orders.items)
         result.did.items }
+    ensures alone { NoneMarked K.origin.marks (map ask_of orders.items) (result.refused ≡ None) result.trace.items }
 {
     let controller = opening.named::<K>();
     let PortNotes {

@@ -3,14 +3,17 @@ use Rattle.std.proofs.Common.{◌≡◌, ◌∙◌, ◌⊎◌, inl, inr, Bool, t
 use Rattle.std.proofs.Common.{subst, length}
 use Rattle.std.specs.Prelude.{Result, Ok, Err, OnOk, MatchResult}
 use mathlib.Core.List.{IsPrefix}
+use Rattle.im_types.specs.declared.commands.Line.{Line}
 use Rattle.im_types.specs.Contents.{Contents}
 use Rattle.im_types.specs.declared.refusals.Refusal.TheVariants.{NoMemory}
 use Rattle.im_pipes.specs.Ends.{PipeEnd, PipeId}
 use Rattle.im_serving.specs.declared.intent.Intent.{Intent}
-use Rattle.im_serving.specs.Serving.{AreDone, AreGlanced, HasBegun}
+use Rattle.im_serving.specs.Calls.{IsOwnCall, MakesOnly}
+use Rattle.im_serving.specs.Serving.{AreDone, AreGlanced, HasBegun, ops_of}
 use Rattle.im_serving.specs.Elements.{Deeds, Asked, End, ServesIntents, IsEnded, AreEnded, IsUnserved, HasStopped}
 use Rattle.im_serving.specs.Elements.{HasSent}
 use Rattle.im_trace.proofs.ChainLemmas.{prefix-trans}
+use Rattle.im_serving.proofs.CallsLemmas.{makes_more, ops_longer}
 use Rattle.im_serving.proofs.GlanceLemmas.{begun_more}
 
 from_none : {T E : Type 0} (r : Result T E) (P : List Intent → Type 0) (Q : Type 0) (before : List Intent) → before
@@ -19,7 +22,8 @@ from_none (Ok x) P Q before none it = λ p. it (subst P (sym none) p)
 from_none (Err e) P Q before none it = tt
 
 -- a server did what came out of a pipe of which nothing had come before
-pub has_stopped : (m : Contents) (p : Deeds) (d : End) (before : List Intent) (outlet : PipeEnd Intent) → before ≡ []
+pub has_stopped : (m : Contents) (marks : Line → Bool) (p : Deeds) (d : End) (before : List Intent)
+    (outlet : PipeEnd Intent) → before ≡ []
     → d.deeds.port.element ≡ p.port.element → d.deeds.served.first ≡ p.served.first
     → (AreDone p.port p.served p.made before → HasBegun d.deeds.port d.deeds.served d.deeds.made outlet.items)
     → OnOk d.result (AreDone p.port p.served p.made before
@@ -27,8 +31,11 @@ pub has_stopped : (m : Contents) (p : Deeds) (d : End) (before : List Intent) (o
     → OnOk d.result (outlet.ended ≡ true)
     → (AreGlanced m p.port.element p.last p.seen p.made
     → AreGlanced m p.port.element d.deeds.last d.deeds.seen d.deeds.made)
-    → HasStopped m p d outlet
-has_stopped m p d before outlet none element first begun done ended seen = (
+    → (AreDone p.port p.served p.made before
+    → MakesOnly marks (IsOwnCall p.port.element p.served.first d.deeds.served.untold (ops_of outlet.items)) p.port
+    d.deeds.port)
+    → HasStopped m marks p d outlet
+has_stopped m marks p d before outlet none element first begun done ended seen alone = (
   record {
     element = element;
     first = first;
@@ -37,15 +44,27 @@ has_stopped m p d before outlet none element first begun done ended seen = (
     done = from_none d.result (AreDone p.port p.served p.made)
         (AreDone d.deeds.port d.deeds.served d.deeds.made outlet.items) before none done;
     seen = seen;
+    alone = λ (start : AreDone p.port p.served p.made []). alone
+        (subst (AreDone p.port p.served p.made) (sym none) start);
   },
   ended,
 )
 
+-- a server that is to ask for more
+alone_more : (marks : Line → Bool) (p : Deeds) (d : End) (xs ys : List Intent) → IsPrefix xs ys
+    → (AreDone p.port p.served p.made []
+    → MakesOnly marks (IsOwnCall p.port.element p.served.first d.deeds.served.untold (ops_of xs)) p.port d.deeds.port)
+    → AreDone p.port p.served p.made []
+    → MakesOnly marks (IsOwnCall p.port.element p.served.first d.deeds.served.untold (ops_of ys)) p.port d.deeds.port
+alone_more marks p d xs ys within it start = makes_more marks p.port.element p.served.first d.deeds.served.untold
+    d.deeds.served.untold (ops_of xs) (ops_of ys) p.port d.deeds.port (omega arith) (ops_longer xs ys within) (it start)
+
 -- it was refused, so a beginning is enough
-refused_less : (m : Contents) (p : Deeds) (d e : End) (xs ys : List Intent) → e ≡ record d { result = Err NoMemory }
-    → IsPrefix xs ys → ServesIntents m p d.deeds d.result xs → ServesIntents m p e.deeds e.result ys
-refused_less m p d e xs ys same within it =
-    subst (λ (x : End). ServesIntents m p x.deeds x.result ys) (sym same) (record {
+refused_less : (m : Contents) (marks : Line → Bool) (p : Deeds) (d e : End) (xs ys : List Intent)
+    → e ≡ record d { result = Err NoMemory }
+    → IsPrefix xs ys → ServesIntents m marks p d.deeds d.result xs → ServesIntents m marks p e.deeds e.result ys
+refused_less m marks p d e xs ys same within it =
+    subst (λ (x : End). ServesIntents m marks p x.deeds x.result ys) (sym same) (record {
       element = it.element;
       first = it.first;
       begun = λ (start : AreDone p.port p.served p.made []). begun_more d.deeds.port d.deeds.served d.deeds.made xs ys
@@ -53,6 +72,7 @@ refused_less m p d e xs ys same within it =
           (it.begun start);
       done = tt;
       seen = it.seen;
+      alone = alone_more marks p d xs ys within it.alone;
     })
 
 whole_done : {T E : Type 0} (r : Result T E) (P : List Intent → Type 0) (Q : Type 0) (xs ys : List Intent) (b : Bool)
@@ -61,13 +81,14 @@ whole_done (Ok x) P Q xs ys b it ended whole = λ q. subst P (whole ended) (it q
 whole_done (Err e) P Q xs ys b it ended whole = tt
 
 -- its threads have ended
-pub settled : (m : Contents) (p : Deeds) (d e : End) (outlet : PipeEnd Intent) (sent intents : List Intent)
-    (all : Bool) → HasStopped m p d outlet → IsPrefix outlet.items sent
+pub settled : (m : Contents) (marks : Line → Bool) (p : Deeds) (d e : End) (outlet : PipeEnd Intent)
+    (sent intents : List Intent)
+    (all : Bool) → HasStopped m marks p d outlet → IsPrefix outlet.items sent
     → (outlet.ended ≡ true → outlet.items ≡ sent) → IsPrefix sent intents → (all ≡ true → sent ≡ intents)
     → ((all ≡ true) × (e ≡ d)) ⊎ ((all ≡ false) × (e ≡ record d { result = Err NoMemory }))
-    → ServesIntents m p e.deeds e.result intents
-settled m p d e outlet sent intents all it begins whole within sends (inl (wanted, same)) = subst
-    (λ (x : End). ServesIntents m p x.deeds x.result intents) (sym same) (record {
+    → ServesIntents m marks p e.deeds e.result intents
+settled m marks p d e outlet sent intents all it begins whole within sends (inl (wanted, same)) = subst
+    (λ (x : End). ServesIntents m marks p x.deeds x.result intents) (sym same) (record {
       element = it.0.element;
       first = it.0.first;
       begun = λ (start : AreDone p.port p.served p.made []). begun_more d.deeds.port d.deeds.served d.deeds.made
@@ -77,18 +98,21 @@ settled m p d e outlet sent intents all it begins whole within sends (inl (wante
           (AreDone p.port p.served p.made []) outlet.items intents outlet.ended it.0.done it.1
           (λ ended. whole ended ∙ sends wanted);
       seen = it.0.seen;
+      alone = alone_more marks p d outlet.items intents (prefix-trans outlet.items sent intents begins within)
+          it.0.alone;
     })
-settled m p d e outlet sent intents all it begins whole within sends (inr (_, refused)) =
-    refused_less m p d e outlet.items intents refused (prefix-trans outlet.items sent intents begins within) it.0
+settled m marks p d e outlet sent intents all it begins whole within sends (inr (_, refused)) =
+    refused_less m marks p d e outlet.items intents refused (prefix-trans outlet.items sent intents begins within) it.0
 
 -- nothing was sent
-pub unserved : (m : Contents) (p : Deeds) (d e : End) (outlet : PipeEnd Intent) (sent : List Intent) (all : Bool)
-    → HasStopped m p d outlet → IsPrefix outlet.items sent → sent ≡ [] → all ≡ false
-    → ((all ≡ true) × (e ≡ d)) ⊎ ((all ≡ false) × (e ≡ record d { result = Err NoMemory })) → IsUnserved m p e
-unserved m p d e outlet sent all it begins none not (inl (wanted, same)) = let is : false ≡ true = sym not
+pub unserved : (m : Contents) (marks : Line → Bool) (p : Deeds) (d e : End) (outlet : PipeEnd Intent)
+    (sent : List Intent) (all : Bool)
+    → HasStopped m marks p d outlet → IsPrefix outlet.items sent → sent ≡ [] → all ≡ false
+    → ((all ≡ true) × (e ≡ d)) ⊎ ((all ≡ false) × (e ≡ record d { result = Err NoMemory })) → IsUnserved m marks p e
+unserved m marks p d e outlet sent all it begins none not (inl (wanted, same)) = let is : false ≡ true = sym not
     ∙ wanted in absurd (cc)
-unserved m p d e outlet sent all it begins none not (inr (_, refused)) = (
-  refused_less m p d e outlet.items [] refused (subst (IsPrefix outlet.items) none begins) it.0,
+unserved m marks p d e outlet sent all it begins none not (inr (_, refused)) = (
+  refused_less m marks p d e outlet.items [] refused (subst (IsPrefix outlet.items) none begins) it.0,
   ap
       (λ (x : End). x.result) refused,
 )
@@ -97,9 +121,10 @@ never : {T E : Type 0} (r : Result T E) (refusal : E) (P : Type 0) → r ≡ Err
 never {T} {E} r refusal P is = subst (λ (x : Result T E). OnOk x P) (sym is) tt
 
 -- whatever the part asks for
-pub unserved_part : (m : Contents) (p : Deeds) (d : End) (intents : List Intent) → IsUnserved m p d
-    → ServesIntents m p d.deeds d.result intents
-unserved_part m p d intents it = record {
+pub unserved_part : (m : Contents) (marks : Line → Bool) (p : Deeds) (d : End) (intents : List Intent)
+    → IsUnserved m marks p d
+    → ServesIntents m marks p d.deeds d.result intents
+unserved_part m marks p d intents it = record {
   element = it.0.element;
   first = it.0.first;
   begun = λ (start : AreDone p.port p.served p.made []). begun_more d.deeds.port d.deeds.served d.deeds.made []
@@ -107,18 +132,21 @@ unserved_part m p d intents it = record {
       (it.0.begun start);
   done = never d.result NoMemory _ it.1;
   seen = it.0.seen;
+  alone = alone_more marks p d [] intents (intents, refl) it.0.alone;
 }
 
 -- there was no memory for a pipe
-pub given_up : (m : Contents) (p : Deeds) (d : End) → d ≡ record { deeds = p; result = Err NoMemory }
-    → IsUnserved m p d
-given_up m p d is = subst (IsUnserved m p) (sym is) (
+pub given_up : (m : Contents) (marks : Line → Bool) (p : Deeds) (d : End)
+    → d ≡ record { deeds = p; result = Err NoMemory }
+    → IsUnserved m marks p d
+given_up m marks p d is = subst (IsUnserved m marks p) (sym is) (
   record {
     element = refl;
     first = refl;
     begun = λ (start : AreDone p.port p.served p.made []). ([], ([], refl), start);
     done = tt;
     seen = λ seen. seen;
+    alone = λ start quiet. refl;
   },
   refl,
 )
@@ -136,16 +164,19 @@ sent_by {H} {S} (Err s) pipe intents into of finished all sent known told = subs
 
 -- ---- one after another
 
-pub ended_more : (m : Contents) (parts : List Asked) (ends : List End) (p : Asked) (d : End) → AreEnded m parts ends
-    → IsEnded m p d → AreEnded m (parts ++ p ∷ []) (ends ++ d ∷ [])
-ended_more m [] [] p d all it = (it, tt)
-ended_more m [] (e ∷ ends) p d all it = absurd all
-ended_more m (q ∷ parts) [] p d all it = absurd all
-ended_more m (q ∷ parts) (e ∷ ends) p d all it = (all.0, ended_more m parts ends p d all.1 it)
+pub ended_more : (m : Contents) (marks : Line → Bool) (parts : List Asked) (ends : List End) (p : Asked) (d : End)
+    → AreEnded m marks parts ends
+    → IsEnded m marks p d → AreEnded m marks (parts ++ p ∷ []) (ends ++ d ∷ [])
+ended_more m marks [] [] p d all it = (it, tt)
+ended_more m marks [] (e ∷ ends) p d all it = absurd all
+ended_more m marks (q ∷ parts) [] p d all it = absurd all
+ended_more m marks (q ∷ parts) (e ∷ ends) p d all it = (all.0, ended_more m marks parts ends p d all.1 it)
 
-pub ended_length : (m : Contents) (parts : List Asked) (ends : List End) → AreEnded m parts ends → length ends
+pub ended_length : (m : Contents) (marks : Line → Bool) (parts : List Asked) (ends : List End)
+    → AreEnded m marks parts ends → length ends
     ≡ length parts
-ended_length m [] [] all = refl
-ended_length m [] (e ∷ ends) all = absurd all
-ended_length m (q ∷ parts) [] all = absurd all
-ended_length m (q ∷ parts) (e ∷ ends) all = let same = ended_length m parts ends all.1 in omega (arith, same)
+ended_length m marks [] [] all = refl
+ended_length m marks [] (e ∷ ends) all = absurd all
+ended_length m marks (q ∷ parts) [] all = absurd all
+ended_length m marks (q ∷ parts) (e ∷ ends) all = let same = ended_length m marks parts ends all.1 in omega
+    (arith, same)

@@ -75,6 +75,10 @@ confirmed_as old new first base more all number f b =
     let it : number < old.untold = all number (omega (arith, f, first)) (omega (arith, b, base)) in
     omega (arith, it, more)
 
+pub untold_grows : (trace more : List Line) (element : ℕ) (old new : ServedNumbers)
+    (was is : Option (List EarlierAnswer)) → TellsEarlier trace more element old new was is → old.untold ≤ new.untold
+untold_grows trace more element old new was is t = let count = t.count in omega (arith, count)
+
 pub tells_none : (trace : List Line) (element : ℕ) (s : ServedNumbers) (was : Option (List EarlierAnswer))
     → TellsEarlier trace trace element s s was was
 tells_none trace element s was = record {

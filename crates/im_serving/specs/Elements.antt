@@ -2,6 +2,7 @@
 use Rattle.std.specs.Prelude.{◌≡◌, ◌≤◌, ℕ, ◌+◌, Bool, true, List, [], ◌∷◌, Option, Result, Err, OnOk, length}
 use mathlib.Core.List.{IsPrefix}
 use Rattle.im_types.specs.declared.changes.Change.{Change}
+use Rattle.im_types.specs.declared.commands.Line.{Line}
 use Rattle.im_types.specs.declared.refusals.Refusal.{Refusal}
 use Rattle.im_types.specs.declared.refusals.Refusal.TheVariants.{NoMemory}
 use Rattle.im_types.specs.Contents.{Contents}
@@ -11,7 +12,8 @@ use Rattle.im_serving.specs.declared.numbers.ServedNumbers.{ServedNumbers}
 use Rattle.im_serving.specs.declared.intent.Intent.{Intent}
 use Rattle.im_serving.specs.declared.glances.Glanced.{Glanced}
 use Rattle.im_serving.specs.declared.glances.Glances.{Glances}
-use Rattle.im_serving.specs.Serving.{AreDone, AreGlanced, HasBegun}
+use Rattle.im_serving.specs.Calls.{MakesOwn}
+use Rattle.im_serving.specs.Serving.{AreDone, AreGlanced, HasBegun, ops_of}
 
 -- what was done for an element: its port with what it has seen of the trace, its numbers and entries, the number of the
 -- last request that was answered, what the element has seen, and its glances
@@ -50,9 +52,10 @@ pub record End : Type 0 where
 
 -- A server came from the first deeds to the second, while it received what a pipe gave out. If nothing was refused, it
 -- received the end mark, and did all that it received, in order; else it did a prefix of it. For each thing done there
--- is an entry or a glance more, and for what was refused at most one. Each glance tells what the element had seen.
-pub record ServesOn (m : Contents) (p q : Deeds) (result : Result (Unit {0}) Refusal) (was is : PipeEnd Intent) :
-    Type 0 where
+-- is an entry or a glance more, and for what was refused at most one. Each glance tells what the element had seen. Its
+-- port made only calls of a server that is to ask for what was received.
+pub record ServesOn (m : Contents) (marks : Line → Bool) (p q : Deeds) (result : Result (Unit {0}) Refusal)
+    (was is : PipeEnd Intent) : Type 0 where
   pub element : q.port.element ≡ p.port.element
   pub first : q.served.first ≡ p.served.first
   pub pipe : is.pipe ≡ was.pipe
@@ -64,36 +67,41 @@ pub record ServesOn (m : Contents) (p q : Deeds) (result : Result (Unit {0}) Ref
   pub few : length q.served.entries.items + length q.made + length was.items
       ≤ length p.served.entries.items + length p.made + length is.items
   pub seen : AreGlanced m p.port.element p.last p.seen p.made → AreGlanced m p.port.element q.last q.seen q.made
+  pub alone : AreDone p.port p.served p.made was.items
+      → MakesOwn marks p.served q.served (ops_of is.items) p.port q.port
 
 -- A server came from the first deeds to the second, given what was asked for. It did all of it, in order, if nothing
--- was refused, and else a prefix of it. Each glance tells what the element had seen. What was done is counted from the
--- start, so nothing was done before.
-pub record ServesIntents (m : Contents) (p q : Deeds) (result : Result (Unit {0}) Refusal)
+-- was refused, and else a prefix of it. Each glance tells what the element had seen. Its port made only calls of a
+-- server that is to ask for that. What was done is counted from the start, so nothing was done before.
+pub record ServesIntents (m : Contents) (marks : Line → Bool) (p q : Deeds) (result : Result (Unit {0}) Refusal)
     (intents : List Intent) : Type 0 where
   pub element : q.port.element ≡ p.port.element
   pub first : q.served.first ≡ p.served.first
   pub begun : AreDone p.port p.served p.made [] → HasBegun q.port q.served q.made intents
   pub done : OnOk result (AreDone p.port p.served p.made [] → AreDone q.port q.served q.made intents)
   pub seen : AreGlanced m p.port.element p.last p.seen p.made → AreGlanced m p.port.element q.last q.seen q.made
+  pub alone : AreDone p.port p.served p.made []
+      → MakesOwn marks p.served q.served (ops_of intents) p.port q.port
 
 -- a part has ended so, given what it asks for
-abbrev pub IsEnded : Contents → Asked → End → Type 0
-IsEnded m p d = ServesIntents m p.deeds d.deeds d.result p.intents
+abbrev pub IsEnded : Contents → (Line → Bool) → Asked → End → Type 0
+IsEnded m marks p d = ServesIntents m marks p.deeds d.deeds d.result p.intents
 
 -- the same of each of these, in order
-abbrev pub AreEnded : Contents → List Asked → List End → Type 0
-AreEnded m [] [] = Unit {0}
-AreEnded m [] (d ∷ ends) = ⊥
-AreEnded m (p ∷ parts) [] = ⊥
-AreEnded m (p ∷ parts) (d ∷ ends) = IsEnded m p d × AreEnded m parts ends
+abbrev pub AreEnded : Contents → (Line → Bool) → List Asked → List End → Type 0
+AreEnded m marks [] [] = Unit {0}
+AreEnded m marks [] (d ∷ ends) = ⊥
+AreEnded m marks (p ∷ parts) [] = ⊥
+AreEnded m marks (p ∷ parts) (d ∷ ends) = IsEnded m marks p d × AreEnded m marks parts ends
 
 -- nothing was done, for want of memory or of a thread
-abbrev pub IsUnserved : Contents → Deeds → End → Type 0
-IsUnserved m p d = ServesIntents m p d.deeds d.result [] × (d.result ≡ Err NoMemory)
+abbrev pub IsUnserved : Contents → (Line → Bool) → Deeds → End → Type 0
+IsUnserved m marks p d = ServesIntents m marks p d.deeds d.result [] × (d.result ≡ Err NoMemory)
 
 -- a server did what it received; if nothing was refused, it received the end mark
-abbrev pub HasStopped : Contents → Deeds → End → PipeEnd Intent → Type 0
-HasStopped m p d outlet = ServesIntents m p d.deeds d.result outlet.items × OnOk d.result (outlet.ended ≡ true)
+abbrev pub HasStopped : Contents → (Line → Bool) → Deeds → End → PipeEnd Intent → Type 0
+HasStopped m marks p d outlet =
+    ServesIntents m marks p d.deeds d.result outlet.items × OnOk d.result (outlet.ended ≡ true)
 
 -- what was sent into a pipe is a prefix of what is asked for, and all of it if nothing was handed back
 abbrev pub HasSent : PipeId Intent → List Intent → PipeEnd Intent → Bool → Type 0

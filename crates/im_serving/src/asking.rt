@@ -3,8 +3,9 @@ ghost use Rattle.std.specs.Prelude.{◌≡◌, ◌∷◌, [], Ok, IfOk};
 ghost use mathlib.Core.List.{IsPrefix};
 ghost use Rattle.im_types.specs.Trace.{IsLegal};
 ghost use Rattle.im_types.specs.declared.commands.Call.TheVariants.{Command as Commands};
-ghost use Rattle.im_types.specs.declared.commands.Command.TheVariants.{Request as Asks};
+ghost use Rattle.im_types.specs.declared.commands.Command.TheVariants.{Request as Asks, Confirm};
 ghost use Rattle.im_controller.specs.Lines.{EndsIn, GoesOnTo, line_of};
+ghost use Rattle.im_serving.specs.Calls.{MakesOnly};
 ghost use Rattle.im_serving.specs.Elements.{StayGlanced};
 ghost use Rattle.im_serving.specs.Serving.{IsAskedIn, asked_line};
 ghost use Rattle.im_serving.specs.Told.{IsToldBelow};
@@ -64,6 +65,8 @@ fn submit<D: Disk, K: Name, R: Wait>(
     ensures order { IfOk result (λ r. GoesOnTo port.old.history
         (line_of (Commands r.command) (Ok r.outcome) ∷ []) port.new.history) }
     ensures longer { IsPrefix port.old.history port.new.history }
+    ensures alone { MakesOnly K.origin.marks (λ call. call
+        ≡ Commands (Asks (record { element = port.old.element; number = number; op = op }))) port.old port.new }
 {
     for _ in rt.forever() {
         match port.submit(rt, controller, number, op) {
@@ -90,6 +93,8 @@ pub(crate) fn ask<D: Disk, K: Name, G: Gate, T: Teller, R: Wait>(
     ensures order { IfOk result (λ entry. GoesOnTo port.old.history
         (asked_line port.old.element number op entry ∷ []) port.new.history) }
     ensures longer { IsPrefix port.old.history port.new.history }
+    ensures alone { MakesOnly K.origin.marks (λ call. call
+        ≡ Commands (Asks (record { element = port.old.element; number = number; op = op }))) port.old port.new }
     ensures seen { StayGlanced K.origin.memory port.old.element glances.old glances.new }
     ensures made { glances.new.made ≡ glances.old.made }
 {
@@ -117,6 +122,8 @@ pub(crate) fn confirm<D: Disk, K: Name, R: Wait>(
     requires told { IsToldBelow upto served.now }
     ensures element { port.new.element ≡ port.old.element }
     ensures longer { IsPrefix port.old.history port.new.history }
+    ensures alone { MakesOnly K.origin.marks (λ call. call ≡ Commands (Confirm port.old.element upto)) port.old
+        port.new }
 {
     for _ in rt.forever() {
         match port.confirm(rt, controller, upto) {

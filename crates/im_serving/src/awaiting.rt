@@ -1,5 +1,6 @@
 //! What a server waits for: an answer, a place in its window, and all that it still keeps.
-ghost use Rattle.std.specs.Prelude.{◌≡◌};
+ghost use Rattle.std.specs.Prelude.{◌≡◌, []};
+ghost use Rattle.im_serving.specs.Calls.{MakesOwn};
 ghost use Rattle.im_serving.specs.Elements.{StayGlanced};
 ghost use Rattle.im_serving.specs.Serving.{Looked};
 ghost use Rattle.im_serving.specs.Told.{AreSameNumbers, TellsEarlier};
@@ -28,6 +29,7 @@ fn await_one<D: Disk, K: Name, R: Wait>(
     ensures same { AreSameNumbers served.old served.new }
     ensures looked { Looked port.old.history port.new.history port.old.element served.old.first
         served.old.entries.items served.new.entries.items }
+    ensures alone { MakesOwn K.origin.marks served.old served.new [] port.old port.new }
 {
     if served.is_told(number) {
         return Ok(());
@@ -51,6 +53,7 @@ fn await_oldest<D: Disk, K: Name, G, T: Teller, R: Wait>(
     ensures first { served.new.first ≡ served.old.first }
     ensures looked { Looked port.old.history port.new.history port.old.element served.old.first
         served.old.entries.items served.new.entries.items }
+    ensures alone { MakesOwn K.origin.marks served.old served.new [] port.old port.new }
     ensures told { TellsEarlier port.old.history port.new.history port.old.element served.old served.new
         (T.told context.old.teller) (T.told context.new.teller) }
 {
@@ -78,6 +81,7 @@ fn is_answered<D: Disk, K: Name, G, T: Teller, R: Wait>(
     ensures first { served.new.first ≡ served.old.first }
     ensures looked { Looked port.old.history port.new.history port.old.element served.old.first
         served.old.entries.items served.new.entries.items }
+    ensures alone { MakesOwn K.origin.marks served.old served.new [] port.old port.new }
     ensures told { TellsEarlier port.old.history port.new.history port.old.element served.old served.new
         (T.told context.old.teller) (T.told context.new.teller) }
 {
@@ -105,6 +109,7 @@ fn first_waiting<D: Disk, K: Name, G, T: Teller, R: Wait>(
     ensures first { served.new.first ≡ served.old.first }
     ensures looked { Looked port.old.history port.new.history port.old.element served.old.first
         served.old.entries.items served.new.entries.items }
+    ensures alone { MakesOwn K.origin.marks served.old served.new [] port.old port.new }
     ensures told { TellsEarlier port.old.history port.new.history port.old.element served.old served.new
         (T.told context.old.teller) (T.told context.new.teller) }
 {
@@ -135,6 +140,7 @@ pub(crate) fn make_place<D: Disk, K: Name, G, T: Teller, R: Wait>(
     ensures first { served.new.first ≡ served.old.first }
     ensures looked { Looked port.old.history port.new.history port.old.element served.old.first
         served.old.entries.items served.new.entries.items }
+    ensures alone { MakesOwn K.origin.marks served.old served.new [] port.old port.new }
     ensures told { TellsEarlier port.old.history port.new.history port.old.element served.old served.new
         (T.told context.old.teller) (T.told context.new.teller) }
     ensures seen { StayGlanced K.origin.memory port.old.element glances.old glances.new }
@@ -170,6 +176,7 @@ pub(crate) fn await_rest<D: Disk, K: Name, R: Wait>(
     ensures same { AreSameNumbers served.old served.new }
     ensures looked { Looked port.old.history port.new.history port.old.element served.old.first
         served.old.entries.items served.new.entries.items }
+    ensures alone { MakesOwn K.origin.marks served.old served.new [] port.old port.new }
 {
     for number in served.base.max(served.first)..served.next() {
         match await_one(rt, controller, port, served, number) {

@@ -72,7 +72,7 @@ fn serve_within<
 ) -> Vec<Done<K>>
     requires all { (length crew.parts.items ≤ vec_capacity crew.all) × (crew.all.items ≡ []) }
     requires done { (length crew.parts.items ≤ vec_capacity crew.done) × (crew.done.items ≡ []) }
-    ensures { AreEnded K.origin.memory crew.parts.items result.items }
+    ensures { AreEnded K.origin.memory K.origin.marks crew.parts.items result.items }
 {
     let Crew { parts, all, done } = crew;
     let keeper = keep(context.rt, scope, context.controller, context.teller);
@@ -112,7 +112,7 @@ pub fn serve_elements<
     watcher: V,
     parts: Vec<Part<K>>,
 ) -> Result<Vec<Done<K>>, AllocError>
-    ensures ends { IfOk result (λ all. AreEnded K.origin.memory parts.items all.items) }
+    ensures ends { IfOk result (λ all. AreEnded K.origin.memory K.origin.marks parts.items all.items) }
 {
     let all = Vec::with_capacity(alloc, parts.len())?;
     let done = Vec::with_capacity(alloc, parts.len())?;
@@ -123,7 +123,7 @@ pub fn serve_elements<
         move |scope| -> Vec<Done<K>>
             requires all { (length crew.parts.items ≤ vec_capacity crew.all) × (crew.all.items ≡ []) }
             requires done { (length crew.parts.items ≤ vec_capacity crew.done) × (crew.done.items ≡ []) }
-            ensures { AreEnded K.origin.memory crew.parts.items result.items }
+            ensures { AreEnded K.origin.memory K.origin.marks crew.parts.items result.items }
         {
             let context = Context {
                 rt,

@@ -57,7 +57,7 @@ fn end_sending<R: Threads>(rt: &R, sender: Result<PromisedHandle<Sent, Sends>, S
 
 // Waits for the end of an element.
 fn end<K: Name, R: Threads>(rt: &R, running: Running<K>) -> Done<K>
-    ensures { IsEnded K.origin.memory running result }
+    ensures { IsEnded K.origin.memory K.origin.marks running result }
 {
     let Running { part: _, state } = running;
     match state {
@@ -78,7 +78,7 @@ pub(crate) fn end_all<K: Name, R: Threads>(
 ) -> Vec<Done<K>>
     requires room { length all.items ≤ vec_capacity done }
     requires empty { done.items ≡ [] }
-    ensures { AreEnded K.origin.memory all.items result.items }
+    ensures { AreEnded K.origin.memory K.origin.marks all.items result.items }
 {
     let mut done = done;
     for running in all {

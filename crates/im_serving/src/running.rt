@@ -28,7 +28,7 @@ impl<K: Name> Promise<Stopped<K>> for Serves<K> {
     ghost use Rattle.im_serving.specs.Elements.{HasStopped};
 
     ghost kept_by = { λ p r. (r.outlet.pipe ≡ p.outlet.value.pipe)
-        × HasStopped K.origin.memory p.server.value r.done r.outlet };
+        × HasStopped K.origin.memory K.origin.marks p.server.value r.done r.outlet };
 }
 
 /// What a sender's thread promises, given its end of the pipe and these intents.
@@ -72,5 +72,5 @@ impl<K: Name> Model for Running<K> {
         (λ s. (s.promise.inlet.value.pipe ≡ pair.server.promise.outlet.value.pipe)
         × (s.promise.intents.value.items ≡ r.part.value.intents))
         (λ s. HasSent pair.server.promise.outlet.value.pipe r.part.value.intents s.finished s.all))
-        (λ done. IsEnded K.origin.memory r.part.value done) };
+        (λ done. IsEnded K.origin.memory K.origin.marks r.part.value done) };
 }

@@ -1,8 +1,9 @@
 //! The thread that serves what an element asks for.
 ghost use Rattle.std.specs.Prelude.{◌≡◌, ◌≤◌, ◌+◌, ◌++◌, ◌∷◌, [], List, false, length, OnOk, OnErr};
 ghost use mathlib.Core.List.{IsPrefix};
+ghost use Rattle.im_serving.specs.Calls.{MakesNext, MakesOwn};
 ghost use Rattle.im_serving.specs.Elements.{ServesOn, StayGlanced, deeds_of};
-ghost use Rattle.im_serving.specs.Serving.{AreDone, HasAsked, Looked};
+ghost use Rattle.im_serving.specs.Serving.{AreDone, HasAsked, Looked, ops_of};
 ghost use Rattle.im_serving.specs.Told.{TellsEarlier};
 
 use crate::asking::ask;
@@ -27,7 +28,8 @@ fn serve_one<D: Disk, K: Name, G: Gate, T: Teller, R: Wait>(
     glances: &mut Glances<K>,
     op: Op,
 ) -> Result<(), Refusal>
-    ensures element { (port.new.element ≡ port.old.element) × (served.new.first ≡ served.old.first) }
+    ensures same { (port.new.element ≡ port.old.element) × (served.new.first ≡ served.old.first)
+        × (glances.new.made ≡ glances.old.made) }
     ensures asked { OnOk result (HasAsked port.old.history port.new.history port.old.element served.old.first op
         served.old.entries.items served.new.entries.items) }
     ensures count { OnOk result (length served.new.entries.items ≡ length served.old.entries.items + 1) }
@@ -35,9 +37,9 @@ fn serve_one<D: Disk, K: Name, G: Gate, T: Teller, R: Wait>(
     ensures kept { OnErr result (Looked port.old.history port.new.history port.old.element served.old.first
         served.old.entries.items served.new.entries.items) }
     ensures seen { StayGlanced K.origin.memory port.old.element glances.old glances.new }
-    ensures made { glances.new.made ≡ glances.old.made }
     ensures told { TellsEarlier port.old.history port.new.history port.old.element served.old served.new
         (T.told context.old.teller) (T.told context.new.teller) }
+    ensures alone { MakesNext K.origin.marks served.old served.new op port.old port.new }
 {
     match make_place(context, port, served, glances) {
         Ok(()) => {}
@@ -81,6 +83,8 @@ fn serve_intent<D: Disk, K: Name, G: Gate, T: Teller, R: Wait>(
     ensures seen { StayGlanced K.origin.memory port.old.element glances.old glances.new }
     ensures told { TellsEarlier port.old.history port.new.history port.old.element served.old served.new
         (T.told context.old.teller) (T.told context.new.teller) }
+    ensures alone { (before : List Intent) → AreDone port.old served.old glances.old.made.items before
+        → MakesOwn K.origin.marks served.old served.new (ops_of (before ++ intent ∷ [])) port.old port.new }
 {
     match intent {
         Intent::Request(op) => serve_one(context, port, served, glances, op),
@@ -97,7 +101,7 @@ fn serve_all<D: Disk, K: Name, G: Gate, T: Teller, R: Wait>(
     outlet: &mut Outlet<Intent>,
 ) -> Result<(), Refusal>
     requires { outlet.old.ended ≡ false }
-    ensures done { ServesOn K.origin.memory (deeds_of port.old served.old glances.old)
+    ensures done { ServesOn K.origin.memory K.origin.marks (deeds_of port.old served.old glances.old)
         (deeds_of port.new served.new glances.new) result outlet.old outlet.new }
     ensures open { OnErr result (outlet.new.ended ≡ false) }
     ensures told { TellsEarlier port.old.history port.new.history port.old.element served.old served.new
@@ -145,7 +149,7 @@ fn serve_to_end<D: Disk, K: Name, G: Gate, T: Teller, R: Wait>(
     outlet: &mut Outlet<Intent>,
 ) -> Result<(), Refusal>
     requires { outlet.old.ended ≡ false }
-    ensures done { ServesOn K.origin.memory (deeds_of port.old served.old glances.old)
+    ensures done { ServesOn K.origin.memory K.origin.marks (deeds_of port.old served.old glances.old)
         (deeds_of port.new served.new glances.new) result outlet.old outlet.new }
     ensures told { TellsEarlier port.old.history port.new.history port.old.element served.old served.new
         (T.told context.old.teller) (T.told context.new.teller) }
@@ -172,6 +176,8 @@ fn serve_to_end<D: Disk, K: Name, G: Gate, T: Teller, R: Wait>(
 /// none was when the server began.
 ///
 /// It leaves at most four lines in the trace for each request, and one for each entry that was kept before the first.
+/// Whatever is marked, its port is told marked lines of its own calls alone: the operations that it received, under their
+/// numbers, collects, and confirmations.
 ///
 /// A glance waits for nobody. Its value comes after all that was shown when the element's last request was answered,
 /// and maybe after more.
@@ -192,7 +198,7 @@ pub fn serve_element<D: Disk, K: Name, G: Gate, T: Teller, R: Wait>(
     outlet: &mut Outlet<Intent>,
 ) -> Result<(), Refusal>
     requires { outlet.old.ended ≡ false }
-    ensures done { ServesOn K.origin.memory (deeds_of port.old served.old glances.old)
+    ensures done { ServesOn K.origin.memory K.origin.marks (deeds_of port.old served.old glances.old)
         (deeds_of port.new served.new glances.new) result outlet.old outlet.new }
     ensures told { TellsEarlier port.old.history port.new.history port.old.element served.old served.new
         (T.told context.old.teller) (T.told context.new.teller) }

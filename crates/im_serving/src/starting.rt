@@ -52,7 +52,7 @@ fn serve_part<D: Disk, K: Name, G: Gate, T: Teller + Copy, R: Wait>(
     requires open { outlet.ended ≡ false }
     requires empty { outlet.items ≡ [] }
     ensures same { result.outlet.pipe ≡ outlet.pipe }
-    ensures stopped { HasStopped K.origin.memory server result.done result.outlet }
+    ensures stopped { HasStopped K.origin.memory K.origin.marks server result.done result.outlet }
 {
     let ServerStart {
         mut port,
@@ -114,7 +114,7 @@ fn give_up<D: Disk, K: Name, R: Wait>(
     controller: &Controller<D, K>,
     server: ServerStart<K>,
 ) -> Done<K>
-    ensures { IsUnserved K.origin.memory server result }
+    ensures { IsUnserved K.origin.memory K.origin.marks server result }
 {
     let ServerStart {
         mut port,
@@ -182,7 +182,7 @@ fn begin_serving<
     requires { AreNewEnds inlet outlet }
     ensures ok { IfOk result (λ r. (r.0.promise.server.value ≡ server)
         × (r.0.promise.outlet.value.pipe ≡ inlet.pipe) × (r.1 ≡ inlet)) }
-    ensures err { IfErr result (λ done. IsUnserved K.origin.memory server done) }
+    ensures err { IfErr result (λ done. IsUnserved K.origin.memory K.origin.marks server done) }
 {
     let rt = context.rt;
     let controller = context.controller;

@@ -76,6 +76,7 @@ returns-in-Err-clause-ended g c = λ honest alive.
         served = served;
         told = none_of_all c.args.server.engine.memory trace (k.result.0 ≡ 0) (map ask_of c.args.work.orders.items)
             n.result.did.items n.ensures.none never;
+        alone = λ zero. absurd (never zero);
         all_served = λ zero. absurd (never zero);
         as_planned = λ planned. inr (record {
           unserved = c.new.ensures.items;

@@ -3,6 +3,7 @@ use Rattle.std.specs.Prelude.{IfSome, IsOk, None}
 use Rattle.im_types.specs.Contents.{Contents}
 use Rattle.im_run.specs.Orders.{ask_of, asks_in}
 use Rattle.im_run.specs.Planned.{AreServed, plan_of, planned_orders}
+use Rattle.im_run.proofs.AloneLemmas.{none_strange, own_unmarked}
 use Rattle.im_run.proofs.DoingLemmas.{told_weaker}
 use Rattle.im_run.proofs.PlannedLemmas.{ends_on_plan, plan_doubts, plan_ends, whole_served}
 use Rattle.im_run.proofs.run.serve_opening.Goals as goal
@@ -28,6 +29,8 @@ returns-clause-ended g c = λ honest.
         plan = opening.plan;
         served = served;
         told = told;
+        alone = λ well. none_strange orders trace
+            (s.ensures.alone (own_unmarked orders) (c.reason_of.ensures.none (c.with_whole-done.ensures.done well)));
         all_served = λ well. whole_served end.windows whole (all well);
         as_planned = λ planned. ends_on_plan m trace whole orders s.result.did.items served.kept.doubt end none
             served.legal served.ends told all (c.requires.fits planned)

@@ -1,7 +1,9 @@
 -- Where the controller begins.
-use Rattle.std.specs.Prelude.{false}
+use Rattle.std.specs.Prelude.{map}
 use Rattle.im_controller.specs.Kept.{origin_of}
+use Rattle.im_run.specs.Alone.{is_strange}
+use Rattle.im_run.specs.Orders.{ask_of}
 use Rattle.im_run.proofs.run.serve_opening.Given as goal
 
 abbrev pub ghosts-serve_orders : goal.ghosts-serve_orders
-ghosts-serve_orders g a = record { origin = origin_of g.D.Disk (λ _. false) a.opening }
+ghosts-serve_orders g a = record { origin = origin_of g.D.Disk (is_strange (map ask_of a.orders.items)) a.opening }

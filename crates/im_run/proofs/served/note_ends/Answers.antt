@@ -1,5 +1,6 @@
 use Rattle.std.proofs.Common.{◌∙◌, ◌++◌, ◌∷◌, [], ap, sym}
 use Rattle.im_run.specs.Doing.{elements_at_end}
+use Rattle.im_run.proofs.AloneLemmas.{quiet_next}
 use Rattle.im_run.proofs.DoingLemmas.{noted_step, one_more}
 use Rattle.im_run.proofs.served.note_ends.Goals as goal
 
@@ -18,7 +19,7 @@ loop-done-preserved g c =
     let now = c.take.new.self in
     let next = c.next_element-element.ensures d.deeds.port.element (elements_at_end left)
     (sym it.1.0 ∙ ap elements_at_end c.in-Some.ensures.steps.0) in (
-      λ none. it.0 (c.take.ensures.none none),
+      λ none. it.0 (c.take.ensures.noted.none none),
       (
         sym next.1,
         (
@@ -26,8 +27,13 @@ loop-done-preserved g c =
           (
             one_more it.1.1.0 c.loop-done.done-iterator.rest.items c.args.all.items left d it.1.1.1.0
                 c.in-Some.ensures.steps.0,
-            λ trace seen. noted_step trace it.1.1.0 d was.ports.items now.ports.items was.did.items now.did.items
-                was.refused now.refused (it.1.1.1.1 trace) c.take.ensures seen,
+            (
+              λ trace seen. noted_step trace it.1.1.0 d was.ports.items now.ports.items was.did.items now.did.items
+                  was.refused now.refused (it.1.1.1.1.0 trace) c.take.ensures.noted seen,
+              λ start quiet. c.take.ensures.quiet
+                  (quiet_next it.1.1.0 c.loop-done.done-iterator.rest.items c.args.all.items left d it.1.1.1.0
+                  c.in-Some.ensures.steps.0 quiet) (it.1.1.1.1.1 start quiet),
+            ),
           ),
         ),
       ),

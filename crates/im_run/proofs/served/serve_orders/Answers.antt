@@ -1,8 +1,9 @@
 use Rattle.std.proofs.Common.{◌≡◌, map, subst, sym}
-use Rattle.std.specs.Prelude.{None}
+use Rattle.std.specs.Prelude.{None, count_by}
 use Rattle.im_trace.specs.Ends.{RecordingState}
 use Rattle.im_run.specs.Doing.{AreAllTold}
 use Rattle.im_run.specs.Orders.{ask_of}
+use Rattle.im_run.proofs.AloneLemmas.{none_marked}
 use Rattle.im_run.proofs.DoingLemmas.{told_weaker}
 use Rattle.im_run.proofs.served.serve_orders.Goals as goal
 
@@ -16,3 +17,13 @@ returns-clause-told g c =
     (subst (λ (t : RecordingState). AreAllTold g.K.Name.origin.memory t.items (notes.result.refused ≡ None)
     (map ask_of c.args.orders.items) notes.result.did.items) (sym c.of.ensures)
     (notes.ensures.told end.result.trace.items end.ensures.came.seen))
+
+pub returns-clause-alone : goal.returns-clause-alone
+returns-clause-alone g c = λ free none.
+    let marks = g.K.Name.origin.marks in
+    let notes = c.serve_parts-ports in
+    let end = c.finish-engine in
+    subst (λ (t : RecordingState). count_by marks t.items ≡ 0) (sym c.of.ensures)
+    (none_marked marks end.result.trace.items notes.result.ports.items end.result.came end.result.claimed
+    (c.refused_at_end.ensures.came none) (c.refused_at_end.ensures.claimed none) end.ensures.came.counted
+    (notes.ensures.alone free (c.refused_at_end.ensures.refused none)))

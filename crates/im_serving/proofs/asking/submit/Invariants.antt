@@ -1,8 +1,13 @@
 use Rattle.std.proofs.Common.{◌≡◌}
 use mathlib.Core.List.{IsPrefix}
+use Rattle.im_types.specs.declared.commands.Call.TheVariants.{Command as Commands}
+use Rattle.im_types.specs.declared.commands.Command.TheVariants.{Request as Asks}
+use Rattle.im_serving.specs.Calls.{MakesOnly}
 use Rattle.im_serving.proofs.asking.submit.Given as goal
 
 abbrev pub invariant-loop : goal.invariant-loop
 invariant-loop g l =
     (goal.iterator-loop g).can_next l.iterator' × (goal.iterator-loop g).is_finite l.iterator'
     × (l.port.element ≡ l.fn.port.element) × IsPrefix l.fn.port.history l.port.history
+    × MakesOnly g.K.Name.origin.marks (λ call. call
+    ≡ Commands (Asks (record { element = l.fn.port.element; number = l.fn.number; op = l.fn.op }))) l.fn.port l.port

@@ -1,5 +1,7 @@
+use Rattle.std.proofs.Common.{refl}
 use Rattle.im_serving.proofs.AnswerLemmas.{looked_found, looked_none, looked_same, sees_found, sees_longer}
 use Rattle.im_serving.proofs.ToldLemmas.{same_none, tells_as, tells_next, tells_none}
+use Rattle.im_serving.proofs.CallsLemmas.{own_look}
 use Rattle.im_serving.proofs.awaiting.await_oldest.Goals as goal
 
 pub returns-then-is_told-clause-looked : goal.returns-then-is_told-clause-looked
@@ -35,3 +37,18 @@ returns-in-Err-clause-told g c =
     tells_as was.history was.history c.await_answer.new.self.history was.element c.args.served.now c.args.served.now
     c.args.served.now _ _ (sees_longer _ _ _ _ c.await_answer.result c.await_answer.ensures.order)
     (same_none c.args.served.now) (tells_none was.history was.element c.args.served.now _)
+
+pub returns-then-is_told-clause-alone : goal.returns-then-is_told-clause-alone
+returns-then-is_told-clause-alone g c = λ quiet. refl
+
+pub returns-in-Ok-clause-alone : goal.returns-in-Ok-clause-alone
+returns-in-Ok-clause-alone g c =
+    own_look g.K.Name.origin.marks c.args.served.now.first c.learn.new.served.untold c.args.served.now.base _
+    c.args.port.now
+    c.await_answer.new.self c.await_answer.ensures.counts
+
+pub returns-in-Err-clause-alone : goal.returns-in-Err-clause-alone
+returns-in-Err-clause-alone g c =
+    own_look g.K.Name.origin.marks c.args.served.now.first c.args.served.now.untold c.args.served.now.base _
+    c.args.port.now
+    c.await_answer.new.self c.await_answer.ensures.counts

@@ -1,4 +1,5 @@
-use Rattle.std.proofs.Common.{◌≡◌}
+use Rattle.std.proofs.Common.{◌≡◌, []}
+use Rattle.im_serving.specs.Calls.{IsOwnCall, MakesOnly}
 use Rattle.im_serving.specs.Serving.{Looked}
 use Rattle.im_serving.specs.Told.{TellsEarlier}
 use Rattle.im_serving.proofs.awaiting.first_waiting.Given as goal
@@ -10,3 +11,5 @@ invariant-loop-number g l =
     l.served.entries.items
     × TellsEarlier l.fn.port.history l.port.history l.fn.port.element l.fn.served l.served
     (g.T.Teller.told l.fn.context.teller) (g.T.Teller.told l.context.teller)
+    × MakesOnly g.K.Name.origin.marks (IsOwnCall l.fn.port.element l.fn.served.first l.served.untold []) l.fn.port
+    l.port

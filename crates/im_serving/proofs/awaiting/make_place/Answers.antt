@@ -1,5 +1,6 @@
-use Rattle.std.proofs.Common.{rules}
+use Rattle.std.proofs.Common.{rules, [], arith, refl}
 use Rattle.im_serving.proofs.AnswerLemmas.{looked_none, looked_on}
+use Rattle.im_serving.proofs.CallsLemmas.{own_confirm, own_then}
 use Rattle.im_serving.proofs.GlanceLemmas.{glanced_more}
 use Rattle.im_serving.proofs.ToldLemmas.{same_none, tells_as, tells_confirmed, tells_none}
 use Rattle.im_serving.proofs.awaiting.make_place.Goals as goal
@@ -43,3 +44,24 @@ returns-in-Err-confirm-clause-told g c =
 
 pub returns-then-saturating_sub-lt-WINDOW-clause-told : goal.returns-then-saturating_sub-lt-WINDOW-clause-told
 returns-then-saturating_sub-lt-WINDOW-clause-told g c = tells_none _ _ _ _
+
+pub returns-in-Ok-confirm-clause-alone : goal.returns-in-Ok-confirm-clause-alone
+returns-in-Ok-confirm-clause-alone g c =
+    let f = c.first_waiting in
+    own_then g.K.Name.origin.marks c.args.port.now.element f.new.port.element c.args.served.now.first
+    f.new.served.first f.new.served.untold f.new.served.untold [] [] [] c.args.port.now f.new.port c.confirm.new.port
+    f.ensures.element f.ensures.first (omega arith) ([], refl) ([], refl) f.ensures.alone
+    (own_confirm g.K.Name.origin.marks f.new.port.element f.new.served.first f.new.served.untold
+    c.confirmable-upto.result f.new.port c.confirm.new.port refl c.confirmable-upto.ensures c.confirm.ensures.alone)
+
+pub returns-in-Err-confirm-clause-alone : goal.returns-in-Err-confirm-clause-alone
+returns-in-Err-confirm-clause-alone g c =
+    let f = c.first_waiting in
+    own_then g.K.Name.origin.marks c.args.port.now.element f.new.port.element c.args.served.now.first
+    f.new.served.first f.new.served.untold f.new.served.untold [] [] [] c.args.port.now f.new.port c.confirm.new.port
+    f.ensures.element f.ensures.first (omega arith) ([], refl) ([], refl) f.ensures.alone
+    (own_confirm g.K.Name.origin.marks f.new.port.element f.new.served.first f.new.served.untold
+    c.confirmable-upto.result f.new.port c.confirm.new.port refl c.confirmable-upto.ensures c.confirm.ensures.alone)
+
+pub returns-then-saturating_sub-lt-WINDOW-clause-alone : goal.returns-then-saturating_sub-lt-WINDOW-clause-alone
+returns-then-saturating_sub-lt-WINDOW-clause-alone g c = λ quiet. refl

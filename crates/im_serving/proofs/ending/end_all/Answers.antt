@@ -24,7 +24,8 @@ push_reserved-requires g c =
     let fits : length c.args.all.items ≤ c.loop-running.done.cap = subst (λ (n : ℕ). length c.args.all.items ≤ n)
     (sym it.1) c.requires.room in
     let many : length c.loop-running.done.items
-    ≡ length it.0.0 = ended_length g.K.Name.origin.memory it.0.0 c.loop-running.done.items it.0.1.1 in
+    ≡ length it.0.0 = ended_length g.K.Name.origin.memory g.K.Name.origin.marks it.0.0 c.loop-running.done.items
+    it.0.1.1 in
     let same : c.loop-running.done.len ≡ length it.0.0 = omega (arith, many, c.loop-running.done.ok) in
     has_room it.0.0 c.loop-running.running-iterator.rest.items c.args.all.items c.next.new.self.rest.items
     c.in-Some.running c.loop-running.done.len c.loop-running.done.cap it.0.1.0 c.in-Some.ensures.steps.0 same fits
@@ -32,7 +33,8 @@ push_reserved-requires g c =
 pub loop-running-preserved : goal.loop-running-preserved
 loop-running-preserved g c =
     let it = c.loop-running.invariant in
-    let more = ended_more g.K.Name.origin.memory it.0.0 c.loop-running.done.items c.in-Some.running c.end.result
+    let more = ended_more g.K.Name.origin.memory g.K.Name.origin.marks it.0.0 c.loop-running.done.items
+    c.in-Some.running c.end.result
     it.0.1.1
     c.end.ensures in (
       (
@@ -40,7 +42,8 @@ loop-running-preserved g c =
         (
           one_more it.0.0 c.loop-running.running-iterator.rest.items c.args.all.items c.next.new.self.rest.items
               c.in-Some.running it.0.1.0 c.in-Some.ensures.steps.0,
-          subst (λ (ends : List End). AreEnded g.K.Name.origin.memory (it.0.0 ++ c.in-Some.running ∷ []) ends)
+          subst (λ (ends : List End). AreEnded g.K.Name.origin.memory g.K.Name.origin.marks
+              (it.0.0 ++ c.in-Some.running ∷ []) ends)
               (sym c.push_reserved.ensures.items) more,
         ),
       ),

@@ -7,4 +7,5 @@ abbrev pub invariant-loop-running : goal.invariant-loop-running
 invariant-loop-running g l =
     ((before : List Asked)
     × ((before ++ l.running-iterator.rest.items ≡ l.fn.all.items)
-    × AreEnded g.K.Name.origin.memory before l.done.items)) × (vec_capacity l.done ≡ vec_capacity l.fn.done)
+    × AreEnded g.K.Name.origin.memory g.K.Name.origin.marks before l.done.items)) ×
+    (vec_capacity l.done ≡ vec_capacity l.fn.done)

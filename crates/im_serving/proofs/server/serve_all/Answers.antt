@@ -1,8 +1,9 @@
 use Rattle.std.proofs.Common.{rules, ◌≡◌, ◌∙◌, ◌++◌, ◌∷◌, [], subst, sym}
 use Rattle.im_serving.specs.Serving.{AreDone}
+use Rattle.im_serving.proofs.CallsLemmas.{alone_as, alone_then}
 use Rattle.im_serving.proofs.GlanceLemmas.{begun_all, begun_then, counted_same, counted_then, done_then, few_by, few_then}
 use Rattle.im_serving.proofs.GlanceLemmas.{glanced_then}
-use Rattle.im_serving.proofs.ToldLemmas.{tells_then}
+use Rattle.im_serving.proofs.ToldLemmas.{tells_then, untold_grows}
 use Rattle.im_serving.proofs.server.serve_all.Goals as goal
 
 pub loop-preserved : goal.loop-preserved
@@ -28,6 +29,11 @@ loop-preserved g c = (
   tells_then c.args.port.now.history c.loop.port.history c.serve_intent.new.port.history c.args.port.now.element
       c.loop.port.element c.args.served.now c.loop.served c.serve_intent.new.served _ _ _ c.loop.invariant.2
       c.loop.invariant.9 c.serve_intent.ensures.told,
+  λ start. alone_then g.K.Name.origin.marks c.args.port.now.element c.loop.port.element c.args.served.now.first
+      c.loop.served.first c.loop.served.untold c.serve_intent.new.served.untold c.loop.outlet.items
+      c.receive.new.self.items c.in-Item.intent c.args.port.now c.loop.port c.serve_intent.new.port c.loop.invariant.2
+      c.loop.invariant.3 (untold_grows _ _ _ _ _ _ _ c.serve_intent.ensures.told) (search rules)
+      (c.loop.invariant.10 start) (c.serve_intent.ensures.alone c.loop.outlet.items (c.loop.invariant.6 start)),
 )
 
 pub returns-in-Err-clause-done : goal.returns-in-Err-clause-done
@@ -50,6 +56,11 @@ returns-in-Err-clause-done g c =
           l.glances.last s.new.glances.last c.args.glances.now.glance l.glances.glance s.new.glances.glance
           c.args.glances.now.made.items l.glances.made.items s.new.glances.made.items l.invariant.2 l.invariant.8
           s.ensures.seen;
+      alone = λ start. alone_then g.K.Name.origin.marks c.args.port.now.element l.port.element
+          c.args.served.now.first l.served.first l.served.untold s.new.served.untold l.outlet.items
+          c.receive.new.self.items c.in-Item.intent c.args.port.now l.port s.new.port l.invariant.2 l.invariant.3
+          (untold_grows _ _ _ _ _ _ _ s.ensures.told) items (l.invariant.10 start)
+          (s.ensures.alone l.outlet.items (l.invariant.6 start));
     }
 
 pub returns-in-End-clause-done : goal.returns-in-End-clause-done
@@ -68,6 +79,8 @@ returns-in-End-clause-done g c =
       count = count;
       few = few_by _ _ count;
       seen = l.invariant.8;
+      alone = λ start. alone_as g.K.Name.origin.marks c.args.port.now.element c.args.served.now.first l.served.untold
+          l.outlet.items c.receive.new.self.items c.args.port.now l.port items (l.invariant.10 start);
     }
 
 pub returns-in-Gone-clause-done : goal.returns-in-Gone-clause-done
@@ -86,6 +99,8 @@ returns-in-Gone-clause-done g c =
       count = tt;
       few = few_by _ _ count;
       seen = l.invariant.8;
+      alone = λ start. alone_as g.K.Name.origin.marks c.args.port.now.element c.args.served.now.first l.served.untold
+          l.outlet.items c.receive.new.self.items c.args.port.now l.port items (l.invariant.10 start);
     }
 
 pub returns-in-Err-clause-told : goal.returns-in-Err-clause-told

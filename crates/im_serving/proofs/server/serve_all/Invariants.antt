@@ -1,5 +1,6 @@
 use Rattle.std.proofs.Common.{◌≡◌, ◌+◌, false, length}
-use Rattle.im_serving.specs.Serving.{AreDone, AreGlanced}
+use Rattle.im_serving.specs.Calls.{IsOwnCall, MakesOnly}
+use Rattle.im_serving.specs.Serving.{AreDone, AreGlanced, ops_of}
 use Rattle.im_serving.specs.Told.{TellsEarlier}
 use Rattle.im_serving.proofs.server.serve_all.Given as goal
 
@@ -16,3 +17,6 @@ invariant-loop g l =
     → AreGlanced g.K.Name.origin.memory l.fn.port.element l.glances.last l.glances.glance l.glances.made.items)
     × TellsEarlier l.fn.port.history l.port.history l.fn.port.element l.fn.served l.served
     (g.T.Teller.told l.fn.context.teller) (g.T.Teller.told l.context.teller)
+    × (AreDone l.fn.port l.fn.served l.fn.glances.made.items l.fn.outlet.items
+    → MakesOnly g.K.Name.origin.marks (IsOwnCall l.fn.port.element l.fn.served.first l.served.untold
+    (ops_of l.outlet.items)) l.fn.port l.port)

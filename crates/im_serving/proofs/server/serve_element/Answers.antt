@@ -8,7 +8,7 @@ pub returns : goal.returns
 returns g c =
     let s = c.serve_to_end-done in
     record {
-      done = subst (λ (p : PortState). ServesOn g.K.Name.origin.memory
+      done = subst (λ (p : PortState). ServesOn g.K.Name.origin.memory g.K.Name.origin.marks
           (deeds_of c.args.port.now c.args.served.now c.args.glances.now) (deeds_of p s.new.served s.new.glances)
           s.result c.args.outlet.now s.new.outlet) (sym c.retire.ensures.same) s.ensures.done;
       told = subst (λ (p : PortState). TellsEarlier c.args.port.now.history p.history c.args.port.now.element

@@ -1,5 +1,7 @@
-use Rattle.std.proofs.Common.{rules, refl, arith}
-use Rattle.im_serving.proofs.AnswerLemmas.{asked_as, looked_count, looked_few, looked_on}
+use Rattle.std.proofs.Common.{rules, ◌≡◌, ℕ, [], append-nil, arith, refl, subst, sym}
+use Rattle.std.specs.Prelude.{Some, slice_get}
+use Rattle.im_serving.proofs.AnswerLemmas.{asked_as, found_length, looked_count, looked_few, looked_on}
+use Rattle.im_serving.proofs.CallsLemmas.{makes_more, own_ask, own_then}
 use Rattle.im_serving.proofs.GlanceLemmas.{glanced_then}
 use Rattle.im_serving.proofs.ToldLemmas.{tells_as, tells_kept}
 use Rattle.im_serving.proofs.server.serve_one.Goals as goal
@@ -103,3 +105,47 @@ returns-in_err-number-clause-told g c =
     let m = c.make_place in
     tells_kept c.args.port.now.history m.new.port.history c.args.port.now.element c.args.served.now m.new.served _ _ _
     (record { element = refl; first = refl; base = refl; untold = refl }) m.ensures.told
+
+pub returns-in-Ok-answer-clause-alone : goal.returns-in-Ok-answer-clause-alone
+returns-in-Ok-answer-clause-alone g c = λ ops here.
+    let m = c.make_place in
+    let same = found_length m.new.port.history c.args.port.now.element c.args.served.now.first
+    c.args.served.now.entries.items m.new.served.entries.items m.ensures.looked.found in
+    own_then g.K.Name.origin.marks c.args.port.now.element m.new.port.element c.args.served.now.first
+    m.new.served.first m.new.served.untold m.new.served.untold [] ops ops c.args.port.now m.new.port
+    c.ask-answer.new.port m.ensures.element m.ensures.first (omega arith) (ops, refl) ([], append-nil ops)
+    m.ensures.alone
+    (own_ask g.K.Name.origin.marks m.new.port.element m.new.served.first m.new.served.untold _ _ c.args.op ops
+    m.new.port c.ask-answer.new.port refl (search rules)
+    (subst (λ (n : ℕ). slice_get ops n ≡ Some c.args.op) (sym same) here) c.ask-answer.ensures.alone)
+
+pub returns-in-Err-answer-clause-alone : goal.returns-in-Err-answer-clause-alone
+returns-in-Err-answer-clause-alone g c = λ ops here.
+    let m = c.make_place in
+    let same = found_length m.new.port.history c.args.port.now.element c.args.served.now.first
+    c.args.served.now.entries.items m.new.served.entries.items m.ensures.looked.found in
+    own_then g.K.Name.origin.marks c.args.port.now.element m.new.port.element c.args.served.now.first
+    m.new.served.first m.new.served.untold m.new.served.untold [] ops ops c.args.port.now m.new.port
+    c.ask-answer.new.port m.ensures.element m.ensures.first (omega arith) (ops, refl) ([], append-nil ops)
+    m.ensures.alone
+    (own_ask g.K.Name.origin.marks m.new.port.element m.new.served.first m.new.served.untold _ _ c.args.op ops
+    m.new.port c.ask-answer.new.port refl (search rules)
+    (subst (λ (n : ℕ). slice_get ops n ≡ Some c.args.op) (sym same) here) c.ask-answer.ensures.alone)
+
+pub returns-in-Err-clause-alone : goal.returns-in-Err-clause-alone
+returns-in-Err-clause-alone g c = λ ops here.
+    let m = c.make_place in
+    makes_more g.K.Name.origin.marks c.args.port.now.element c.args.served.now.first m.new.served.untold
+    m.new.served.untold [] ops c.args.port.now m.new.port (omega arith) (ops, refl) m.ensures.alone
+
+pub returns-then-is_err-clause-alone : goal.returns-then-is_err-clause-alone
+returns-then-is_err-clause-alone g c = λ ops here.
+    let m = c.make_place in
+    makes_more g.K.Name.origin.marks c.args.port.now.element c.args.served.now.first m.new.served.untold
+    m.new.served.untold [] ops c.args.port.now m.new.port (omega arith) (ops, refl) m.ensures.alone
+
+pub returns-in_err-number-clause-alone : goal.returns-in_err-number-clause-alone
+returns-in_err-number-clause-alone g c = λ ops here.
+    let m = c.make_place in
+    makes_more g.K.Name.origin.marks c.args.port.now.element c.args.served.now.first m.new.served.untold
+    m.new.served.untold [] ops c.args.port.now m.new.port (omega arith) (ops, refl) m.ensures.alone

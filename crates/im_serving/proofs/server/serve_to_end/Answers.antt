@@ -1,5 +1,7 @@
-use Rattle.std.proofs.Common.{◌∙◌, [], append-nil, refl}
+use Rattle.std.proofs.Common.{◌∙◌, [], append-nil, arith, refl}
+use Rattle.im_serving.specs.Serving.{ops_of}
 use Rattle.im_serving.proofs.AnswerLemmas.{found_length}
+use Rattle.im_serving.proofs.CallsLemmas.{at_most, makes_more, ops_longer, own_then}
 use Rattle.im_serving.proofs.GlanceLemmas.{always, begun_more, done_on, few_more, still_counted, still_few}
 use Rattle.im_serving.proofs.ToldLemmas.{tells_as}
 use Rattle.im_serving.proofs.server.serve_to_end.Goals as goal
@@ -28,6 +30,10 @@ returns-in-Ok g c =
         count = always a.result (still_counted _ _ _ _ _ same it.count);
         few = still_few _ _ _ _ _ same it.few;
         seen = it.seen;
+        alone = λ d. own_then g.K.Name.origin.marks c.args.port.now.element s.port.element c.args.served.now.first
+            s.served.first s.served.untold a.new.served.untold (ops_of s.outlet.items) [] (ops_of s.outlet.items)
+            c.args.port.now s.port a.new.port it.element it.first (at_most _ _ a.ensures.same.untold)
+            ([], append-nil (ops_of s.outlet.items)) (ops_of s.outlet.items, refl) (it.alone d) a.ensures.alone;
       };
       told = tells_as c.args.port.now.history s.port.history a.new.port.history c.args.port.now.element
           c.args.served.now s.served a.new.served _ _ a.ensures.looked.longer a.ensures.same
@@ -51,6 +57,9 @@ returns-in-Err g c =
         count = tt;
         few = few_more _ _ _ _ it.few d.ensures.more;
         seen = it.seen;
+        alone = λ start. makes_more g.K.Name.origin.marks c.args.port.now.element c.args.served.now.first
+            s.served.untold s.served.untold (ops_of s.outlet.items) (ops_of d.new.outlet.items) c.args.port.now s.port
+            (omega arith) (ops_longer s.outlet.items d.new.outlet.items d.ensures.begins) (it.alone start);
       };
       told = c.serve_all.ensures.told;
     }

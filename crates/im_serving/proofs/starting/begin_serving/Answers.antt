@@ -21,7 +21,7 @@ spawn_with-requires-send-T g c = let s = Stopped-row-send (param 2 g.row.K) g.K.
 pub returns-in-Err-clause-err : goal.returns-in-Err-clause-err
 returns-in-Err-clause-err g c =
     let stopped = c.spawn_with-in-Err.result in
-    unserved g.K.Name.origin.memory c.args.server stopped.done c.settle.result stopped.outlet
+    unserved g.K.Name.origin.memory g.K.Name.origin.marks c.args.server stopped.done c.settle.result stopped.outlet
     c.send_none-sent.result.finished.items c.send_none-sent.result.all (search rules) c.settle.ensures.begins
     (search rules)
     c.send_none-sent.ensures.all c.settle.ensures.done

@@ -5,7 +5,7 @@ use Rattle.im_serving.proofs.ElementLemmas.{given_up}
 use Rattle.im_serving.proofs.starting.give_up.Goals as goal
 
 pub returns : goal.returns
-returns g c = given_up g.K.Name.origin.memory c.args.server (record {
+returns g c = given_up g.K.Name.origin.memory g.K.Name.origin.marks c.args.server (record {
   deeds = record {
     port = c.retire.new.self;
     served = c.server.inside.served;

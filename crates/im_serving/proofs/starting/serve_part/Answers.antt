@@ -24,8 +24,8 @@ returns-clause-stopped g c =
       made =
           new.glances.made.items;
     } in
-    subst (λ (p : Deeds). HasStopped g.K.Name.origin.memory p
+    subst (λ (p : Deeds). HasStopped g.K.Name.origin.memory g.K.Name.origin.marks p
     (record { deeds = left; result = c.serve_element-done.result }) new.outlet) c.server.view_is
-    (has_stopped g.K.Name.origin.memory start
+    (has_stopped g.K.Name.origin.memory g.K.Name.origin.marks start
     (record { deeds = left; result = c.serve_element-done.result }) c.args.outlet.items new.outlet c.requires.empty
-    said.element said.first said.begun said.done said.ended said.seen)
+    said.element said.first said.begun said.done said.ended said.seen said.alone)
