@@ -83,6 +83,10 @@ receipt_line start seen more command answer receipt p is asked s =
     (goes_from start seen (line_of (Commands command) (Ok receipt.outcome) ∷ []) more p
     (subst (λ (a : Result ReceiptState Refusal). SeesReceipt seen command a more) is s).0)
 
+pub receipt_longer : (start seen more : List Line) (command : Command) (answer : Result ReceiptState Refusal)
+    → IsPrefix start seen → SeesReceipt seen command answer more → IsPrefix start more
+receipt_longer start seen more command answer p s = prefix-trans start seen more p (goes_longer seen _ more s.0)
+
 pub asked_by : (seen more : List Line) (element number : ℕ) (op : Op) (entry : Entry) (command : Command)
     (outcome : Outcome)
     → command ≡ Asks (record { element = element; number = number; op = op }) → outcome ≡ Tells entry

@@ -83,6 +83,14 @@ makes_after marks call answer a b c same before counts = makes_then marks (λ x.
     (subst (λ (e : ℕ). MakesOnly marks (λ x. x ≡ call e) b c) same
     (makes_one marks (call b.element) answer b c counts))
 
+-- and a turn after it, which makes none
+pub makes_again : (marks : Line → Bool) (call : ℕ → Call) (answer : Result Outcome Refusal) (a b c d : PortState)
+    → d ≡ c → b.element ≡ a.element → MakesOnly marks (λ x. x ≡ call a.element) a b
+    → c.told ≡ counts_after marks b.told (left_lines (call b.element) answer)
+    → MakesOnly marks (λ x. x ≡ call a.element) a d
+makes_again marks call answer a b c d turned same before counts =
+    makes_as marks (λ x. x ≡ call a.element) a c d turned (makes_after marks call answer a b c same before counts)
+
 -- ---- a server's own calls
 
 pub at_most : (a b : ℕ) → a ≡ b → b ≤ a

@@ -28,8 +28,7 @@ fn serve_one<D: Disk, K: Name, G: Gate, T: Teller, R: Wait>(
     glances: &mut Glances<K>,
     op: Op,
 ) -> Result<(), Refusal>
-    ensures same { (port.new.element ≡ port.old.element) × (served.new.first ≡ served.old.first)
-        × (glances.new.made ≡ glances.old.made) }
+    ensures element { (port.new.element ≡ port.old.element) × (served.new.first ≡ served.old.first) }
     ensures asked { OnOk result (HasAsked port.old.history port.new.history port.old.element served.old.first op
         served.old.entries.items served.new.entries.items) }
     ensures count { OnOk result (length served.new.entries.items ≡ length served.old.entries.items + 1) }
@@ -37,6 +36,7 @@ fn serve_one<D: Disk, K: Name, G: Gate, T: Teller, R: Wait>(
     ensures kept { OnErr result (Looked port.old.history port.new.history port.old.element served.old.first
         served.old.entries.items served.new.entries.items) }
     ensures seen { StayGlanced K.origin.memory port.old.element glances.old glances.new }
+    ensures made { glances.new.made ≡ glances.old.made }
     ensures told { TellsEarlier port.old.history port.new.history port.old.element served.old served.new
         (T.told context.old.teller) (T.told context.new.teller) }
     ensures alone { MakesNext K.origin.marks served.old served.new op port.old port.new }

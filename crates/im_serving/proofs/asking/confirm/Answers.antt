@@ -1,7 +1,12 @@
-use Rattle.std.proofs.Common.{rules}
+use Rattle.std.proofs.Common.{◌≡◌, ℕ, rules, subst, sym}
+use mathlib.Core.List.{IsPrefix}
+use Rattle.im_types.specs.declared.commands.Call.{Call}
 use Rattle.im_types.specs.declared.commands.Call.TheVariants.{Command as Commands}
 use Rattle.im_types.specs.declared.commands.Command.TheVariants.{Confirm}
-use Rattle.im_serving.proofs.CallsLemmas.{makes_after, makes_as}
+use Rattle.im_controller.specs.Log.{plain}
+use Rattle.im_controller.specs.State.{PortState}
+use Rattle.im_serving.proofs.AnswerLemmas.{receipt_longer}
+use Rattle.im_serving.proofs.CallsLemmas.{makes_after, makes_again}
 use Rattle.im_serving.proofs.asking.confirm.Goals as goal
 
 pub loop-preserved : goal.loop-preserved
@@ -10,19 +15,21 @@ loop-preserved g c =
       search rules,
       search rules,
       search rules,
-      search rules,
-      makes_as g.K.Name.origin.marks _ c.args.port.now s.new.self c.help.new.port c.help.ensures.same
-          (makes_after g.K.Name.origin.marks (λ e. Commands (Confirm e c.args.upto))
-          _ c.args.port.now c.loop.port s.new.self c.loop.invariant.2 c.loop.invariant.4 s.ensures.counts),
+      subst (λ (p : PortState). IsPrefix c.args.port.now.history p.history) (sym c.help.ensures.same)
+          (receipt_longer c.args.port.now.history c.loop.port.history s.new.self.history _ s.result c.loop.invariant.3
+          s.ensures.order),
+      makes_again g.K.Name.origin.marks (λ (e : ℕ). Commands (Confirm e c.args.upto)) (plain s.result)
+          c.args.port.now c.loop.port s.new.self c.help.new.port c.help.ensures.same c.loop.invariant.2
+          c.loop.invariant.4 s.ensures.counts,
     )
 
 pub returns-in-Ok-clause-alone : goal.returns-in-Ok-clause-alone
 returns-in-Ok-clause-alone g c =
-    makes_after g.K.Name.origin.marks (λ e. Commands (Confirm e c.args.upto)) _
+    makes_after g.K.Name.origin.marks (λ (e : ℕ). Commands (Confirm e c.args.upto)) (plain c.confirm.result)
     c.args.port.now c.loop.port c.confirm.new.self c.loop.invariant.2 c.loop.invariant.4 c.confirm.ensures.counts
 
 pub returns-in-Err-help-clause-alone : goal.returns-in-Err-help-clause-alone
 returns-in-Err-help-clause-alone g c =
-    makes_as g.K.Name.origin.marks _ c.args.port.now c.confirm.new.self c.help.new.port c.help.ensures.same
-    (makes_after g.K.Name.origin.marks (λ e. Commands (Confirm e c.args.upto))
-    _ c.args.port.now c.loop.port c.confirm.new.self c.loop.invariant.2 c.loop.invariant.4 c.confirm.ensures.counts)
+    makes_again g.K.Name.origin.marks (λ (e : ℕ). Commands (Confirm e c.args.upto)) (plain c.confirm.result)
+    c.args.port.now c.loop.port c.confirm.new.self c.help.new.port c.help.ensures.same c.loop.invariant.2
+    c.loop.invariant.4 c.confirm.ensures.counts

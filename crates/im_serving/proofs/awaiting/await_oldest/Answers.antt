@@ -1,4 +1,6 @@
 use Rattle.std.proofs.Common.{refl}
+use Rattle.im_types.specs.Trace.{told}
+use Rattle.im_controller.specs.Waits.{found_entry}
 use Rattle.im_serving.proofs.AnswerLemmas.{looked_found, looked_none, looked_same, sees_found, sees_longer}
 use Rattle.im_serving.proofs.ToldLemmas.{same_none, tells_as, tells_next, tells_none}
 use Rattle.im_serving.proofs.CallsLemmas.{own_look}
@@ -43,12 +45,12 @@ returns-then-is_told-clause-alone g c = λ quiet. refl
 
 pub returns-in-Ok-clause-alone : goal.returns-in-Ok-clause-alone
 returns-in-Ok-clause-alone g c =
-    own_look g.K.Name.origin.marks c.args.served.now.first c.learn.new.served.untold c.args.served.now.base _
+    own_look g.K.Name.origin.marks c.args.served.now.first c.learn.new.served.untold c.args.served.now.base (told (found_entry c.await_answer.result))
     c.args.port.now
     c.await_answer.new.self c.await_answer.ensures.counts
 
 pub returns-in-Err-clause-alone : goal.returns-in-Err-clause-alone
 returns-in-Err-clause-alone g c =
-    own_look g.K.Name.origin.marks c.args.served.now.first c.args.served.now.untold c.args.served.now.base _
+    own_look g.K.Name.origin.marks c.args.served.now.first c.args.served.now.untold c.args.served.now.base (told (found_entry c.await_answer.result))
     c.args.port.now
     c.await_answer.new.self c.await_answer.ensures.counts
