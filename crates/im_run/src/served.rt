@@ -175,14 +175,13 @@ pub(crate) fn serve_orders<
     R: Host,
 >(context: &RunContext<'_, G, V, R>, opening: Opening<D>, orders: Vec<Order>) -> ServedRun<D>
     requires origin { IsOriginOf D.Disk opening K.origin }
-    ensures legal { IsLegal K.origin.memory result.trace.items
-        × (end_of K.origin.memory result.trace.items ≡ result.engine.memory) }
+    ensures legal { IsLegal K.origin.memory result.trace.items }
+    ensures end { end_of K.origin.memory result.trace.items ≡ result.engine.memory }
     ensures recorded { result.trace.recorded ≡ opening.book.recorded }
     ensures planned { EndsBy K.origin.memory K.origin.plan result.trace.items result.engine.memory }
-    ensures kept { D.honest result.engine.disk → K.origin.begun.failed ≡ false
+    ensures kept { D.honest result.engine.disk → K.origin.honest × (K.origin.begun.failed ≡ false
         → ServedOn D.now D.past D.failures K.origin.begun K.origin.memory K.origin.plan result.trace.items
-        result.engine }
-    ensures honest { D.honest result.engine.disk → K.origin.honest }
+        result.engine) }
     ensures told { AreAllTold K.origin.memory result.trace.items (result.refused ≡ None) (map ask_of orders.items)
         result.did.items }
     ensures alone { NoneMarked K.origin.marks (map ask_of orders.items) (result.refused ≡ None) result.trace.items }

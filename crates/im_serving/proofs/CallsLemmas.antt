@@ -18,6 +18,7 @@ use Rattle.im_serving.specs.declared.intent.Intent.{Intent}
 use Rattle.im_serving.specs.declared.intent.Intent.TheVariants.{Request, Glance}
 use Rattle.im_serving.specs.Serving.{ops_of, requests}
 use Rattle.im_serving.specs.Calls.{IsOwnCall, MakesOnly}
+use Rattle.im_serving.proofs.GlanceLemmas.{ops_more}
 
 -- ---- one of a list's first elements
 
@@ -163,11 +164,6 @@ ops_count [] = refl
 ops_count (Request op ∷ xs) = ap suc (ops_count xs)
 ops_count (Glance a ∷ xs) = ops_count xs
 
-ops_last : (xs : List Intent) (op : Op) → ops_of (xs ++ Request op ∷ []) ≡ ops_of xs ++ op ∷ []
-ops_last [] op = refl
-ops_last (Request first ∷ xs) op = ap (λ (l : List Op). first ∷ l) (ops_last xs op)
-ops_last (Glance a ∷ xs) op = ops_last xs op
-
 ops_both : (xs ys : List Intent) → ops_of (xs ++ ys) ≡ ops_of xs ++ ops_of ys
 ops_both [] ys = refl
 ops_both (Request op ∷ xs) ys = ap (λ (l : List Op). op ∷ l) (ops_both xs ys)
@@ -178,7 +174,7 @@ ops_longer xs ys p = (ops_of p.0, sym (ops_both xs p.0) ∙ ap ops_of p.1)
 
 pub next_op : (xs : List Intent) (op : Op) (entries : List Entry) → length entries ≡ requests xs
     → slice_get (ops_of (xs ++ Request op ∷ [])) (length entries) ≡ Some op
-next_op xs op entries count = subst (λ (l : List Op). slice_get l (length entries) ≡ Some op) (sym (ops_last xs op))
+next_op xs op entries count = subst (λ (l : List Op). slice_get l (length entries) ≡ Some op) (sym (ops_more xs op))
     (get_last (ops_of xs) op (length entries) (count ∙ sym (ops_count xs)))
 
 -- what came out of the pipe was served

@@ -120,7 +120,7 @@ sites_more n k [] address is = let same : n ≡ k = omega (arith, is) in ap (λ 
 sites_more n k (Request op ∷ xs) address is = sites_more (suc n) k xs address (omega (arith, is))
 sites_more n k (Glance a ∷ xs) address is = ap (λ l. (n, a) ∷ l) (sites_more n k xs address is)
 
-ops_more : (xs : List Intent) (op : Op) → ops_of (xs ++ Request op ∷ []) ≡ ops_of xs ++ op ∷ []
+pub ops_more : (xs : List Intent) (op : Op) → ops_of (xs ++ Request op ∷ []) ≡ ops_of xs ++ op ∷ []
 ops_more [] op = refl
 ops_more (Request first ∷ xs) op = ap (λ l. first ∷ l) (ops_more xs op)
 ops_more (Glance a ∷ xs) op = ops_more xs op

@@ -28,7 +28,8 @@ fn serve_one<D: Disk, K: Name, G: Gate, T: Teller, R: Wait>(
     glances: &mut Glances<K>,
     op: Op,
 ) -> Result<(), Refusal>
-    ensures element { (port.new.element ≡ port.old.element) × (served.new.first ≡ served.old.first) }
+    ensures same { (port.new.element ≡ port.old.element) × (served.new.first ≡ served.old.first)
+        × (glances.new.made.items ≡ glances.old.made.items) }
     ensures asked { OnOk result (HasAsked port.old.history port.new.history port.old.element served.old.first op
         served.old.entries.items served.new.entries.items) }
     ensures count { OnOk result (length served.new.entries.items ≡ length served.old.entries.items + 1) }
@@ -36,7 +37,6 @@ fn serve_one<D: Disk, K: Name, G: Gate, T: Teller, R: Wait>(
     ensures kept { OnErr result (Looked port.old.history port.new.history port.old.element served.old.first
         served.old.entries.items served.new.entries.items) }
     ensures seen { StayGlanced K.origin.memory port.old.element glances.old glances.new }
-    ensures made { glances.new.made ≡ glances.old.made }
     ensures told { TellsEarlier port.old.history port.new.history port.old.element served.old served.new
         (T.told context.old.teller) (T.told context.new.teller) }
     ensures alone { MakesNext K.origin.marks served.old served.new op port.old port.new }
@@ -176,8 +176,8 @@ fn serve_to_end<D: Disk, K: Name, G: Gate, T: Teller, R: Wait>(
 /// none was when the server began.
 ///
 /// It leaves at most four lines in the trace for each request, and one for each entry that was kept before the first.
-/// Whatever is marked, its port is told marked lines of its own calls alone: the operations that it received, under their
-/// numbers, collects, and confirmations.
+/// Whatever is marked, its port is told marked lines of its own calls alone: the operations that it received, under
+/// their numbers, collects, and confirmations.
 ///
 /// A glance waits for nobody. Its value comes after all that was shown when the element's last request was answered,
 /// and maybe after more.

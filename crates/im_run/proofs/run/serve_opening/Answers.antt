@@ -24,8 +24,8 @@ returns-clause-ended g c = λ honest.
     let all : none → IfSome whole (λ w. AreServed end.windows w.orders.items) =
     λ well. subst (λ (n : Contents). IfSome whole (λ w. AreServed n.windows w.orders.items)) c.memory.ensures
     (c.with_whole-done.ensures.served well) in (
-      s.ensures.honest honest,
-      λ alive. let served = s.ensures.kept honest alive in record {
+      (s.ensures.kept honest).0,
+      λ alive. let served = (s.ensures.kept honest).1 alive in record {
         plan = opening.plan;
         served = served;
         told = told;

@@ -23,18 +23,21 @@ loop-preserved g c =
       subst (λ (p : PortState). IsPrefix c.args.port.now.history p.history) (sym c.help.ensures.same)
           (receipt_longer c.args.port.now.history c.loop.port.history s.new.self.history _ s.result c.loop.invariant.3
           s.ensures.order),
-      makes_again g.K.Name.origin.marks (λ (e : ℕ). Commands (Asks (record { element = e; number = c.args.number; op = c.args.op }))) (plain s.result)
-          c.args.port.now c.loop.port s.new.self c.help.new.port c.help.ensures.same c.loop.invariant.2
+      makes_again g.K.Name.origin.marks
+          (λ (e : ℕ). Commands (Asks (record { element = e; number = c.args.number; op = c.args.op })))
+          (plain s.result) c.args.port.now c.loop.port s.new.self c.help.new.port c.help.ensures.same c.loop.invariant.2
           c.loop.invariant.4 s.ensures.counts,
     )
 
 pub returns-in-Ok-clause-alone : goal.returns-in-Ok-clause-alone
 returns-in-Ok-clause-alone g c =
-    makes_after g.K.Name.origin.marks (λ (e : ℕ). Commands (Asks (record { element = e; number = c.args.number; op = c.args.op }))) (plain c.submit.result)
-    c.args.port.now c.loop.port c.submit.new.self c.loop.invariant.2 c.loop.invariant.4 c.submit.ensures.counts
+    makes_after g.K.Name.origin.marks
+    (λ (e : ℕ). Commands (Asks (record { element = e; number = c.args.number; op = c.args.op })))
+    (plain c.submit.result) c.args.port.now c.loop.port c.submit.new.self c.loop.invariant.2 c.loop.invariant.4 c.submit.ensures.counts
 
 pub returns-in-Err-help-clause-alone : goal.returns-in-Err-help-clause-alone
 returns-in-Err-help-clause-alone g c =
-    makes_again g.K.Name.origin.marks (λ (e : ℕ). Commands (Asks (record { element = e; number = c.args.number; op = c.args.op }))) (plain c.submit.result)
-    c.args.port.now c.loop.port c.submit.new.self c.help.new.port c.help.ensures.same c.loop.invariant.2
+    makes_again g.K.Name.origin.marks
+    (λ (e : ℕ). Commands (Asks (record { element = e; number = c.args.number; op = c.args.op })))
+    (plain c.submit.result) c.args.port.now c.loop.port c.submit.new.self c.help.new.port c.help.ensures.same c.loop.invariant.2
     c.loop.invariant.4 c.submit.ensures.counts

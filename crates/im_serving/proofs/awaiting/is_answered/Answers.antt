@@ -45,10 +45,10 @@ returns-then-is_told-clause-alone g c = λ quiet. refl
 
 pub returns-in-Ok-clause-alone : goal.returns-in-Ok-clause-alone
 returns-in-Ok-clause-alone g c =
-    own_look g.K.Name.origin.marks c.args.served.now.first c.learn.new.served.untold c.args.number (told (found_entry c.collect.result)) c.args.port.now
-    c.collect.new.self c.collect.ensures.counts
+    own_look g.K.Name.origin.marks c.args.served.now.first c.learn.new.served.untold c.args.number
+    (told (found_entry c.collect.result)) c.args.port.now c.collect.new.self c.collect.ensures.counts
 
 pub returns-in-Err-clause-alone : goal.returns-in-Err-clause-alone
 returns-in-Err-clause-alone g c =
-    own_look g.K.Name.origin.marks c.args.served.now.first c.args.served.now.untold c.args.number (told (found_entry c.collect.result)) c.args.port.now
-    c.collect.new.self c.collect.ensures.counts
+    own_look g.K.Name.origin.marks c.args.served.now.first c.args.served.now.untold c.args.number
+    (told (found_entry c.collect.result)) c.args.port.now c.collect.new.self c.collect.ensures.counts

@@ -8,13 +8,13 @@ pub returns-in-Request-clause-done : goal.returns-in-Request-clause-done
 returns-in-Request-clause-done g c =
     let s = c.serve_one in
     done_request s.result c.args.port.now s.new.port c.args.served.now s.new.served _ _ _ c.args.intent
-    c.in-Request.is s.ensures.element.0 s.ensures.element.1 s.ensures.asked (search rules)
+    c.in-Request.is s.ensures.same.0 s.ensures.same.1 s.ensures.asked s.ensures.same.2
 
 pub returns-in-Request-clause-kept : goal.returns-in-Request-clause-kept
 returns-in-Request-clause-kept g c =
     let s = c.serve_one in
-    done_refused s.result c.args.port.now s.new.port c.args.served.now s.new.served _ _ s.ensures.element.0
-    s.ensures.element.1 s.ensures.kept (search rules)
+    done_refused s.result c.args.port.now s.new.port c.args.served.now s.new.served _ _ s.ensures.same.0
+    s.ensures.same.1 s.ensures.kept s.ensures.same.2
 
 pub returns-in-Glance-clause-done : goal.returns-in-Glance-clause-done
 returns-in-Glance-clause-done g c =
