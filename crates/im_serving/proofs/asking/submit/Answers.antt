@@ -33,11 +33,12 @@ pub returns-in-Ok-clause-alone : goal.returns-in-Ok-clause-alone
 returns-in-Ok-clause-alone g c =
     makes_after g.K.Name.origin.marks
     (λ (e : ℕ). Commands (Asks (record { element = e; number = c.args.number; op = c.args.op })))
-    (plain c.submit.result) c.args.port.now c.loop.port c.submit.new.self c.loop.invariant.2 c.loop.invariant.4 c.submit.ensures.counts
+    (plain c.submit.result) c.args.port.now c.loop.port c.submit.new.self c.loop.invariant.2 c.loop.invariant.4
+    c.submit.ensures.counts
 
 pub returns-in-Err-help-clause-alone : goal.returns-in-Err-help-clause-alone
 returns-in-Err-help-clause-alone g c =
     makes_again g.K.Name.origin.marks
     (λ (e : ℕ). Commands (Asks (record { element = e; number = c.args.number; op = c.args.op })))
-    (plain c.submit.result) c.args.port.now c.loop.port c.submit.new.self c.help.new.port c.help.ensures.same c.loop.invariant.2
-    c.loop.invariant.4 c.submit.ensures.counts
+    (plain c.submit.result) c.args.port.now c.loop.port c.submit.new.self c.help.new.port c.help.ensures.same
+    c.loop.invariant.2 c.loop.invariant.4 c.submit.ensures.counts
