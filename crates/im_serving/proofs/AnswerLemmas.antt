@@ -1,7 +1,7 @@
 -- The answers to an element's requests, in what its port has seen of the trace. (Own.)
 use Rattle.std.proofs.Common.{◌≡◌, ◌∙◌, ◌⊎◌, inl, inr, ℕ, zero, suc, ◌+◌, ◌≤◌, List, [], ◌∷◌, ◌++◌, arith, refl, sym, ap, subst, length}
 use Rattle.std.proofs.Common.{append-nil, append_assoc, length-append, slice_set}
-use Rattle.std.specs.Prelude.{Result, Ok, Err}
+use Rattle.std.specs.Prelude.{Result, Ok}
 use mathlib.Core.List.{IsPrefix}
 use Rattle.im_types.specs.declared.operations.Op.{Op}
 use Rattle.im_types.specs.declared.operations.Entry.{Entry}

@@ -1,6 +1,5 @@
-use Rattle.std.proofs.Common.{◌≡◌, ℕ, rules, subst, sym}
+use Rattle.std.proofs.Common.{ℕ, rules, subst, sym}
 use mathlib.Core.List.{IsPrefix}
-use Rattle.im_types.specs.declared.commands.Call.{Call}
 use Rattle.im_types.specs.declared.commands.Call.TheVariants.{Command as Commands}
 use Rattle.im_types.specs.declared.commands.Command.TheVariants.{Confirm}
 use Rattle.im_controller.specs.Log.{plain}
