@@ -152,11 +152,6 @@ own_unmarked orders call answer is = is_not (is_call_of_one orders call) is
 
 -- ---- while ports come back
 
-pub quiet_more : (ports : List PortState) (p : PortState) → AreQuiet ports → p.told.marked ≡ 0
-    → AreQuiet (ports ++ p ∷ [])
-quiet_more [] p quiet is = (is, tt)
-quiet_more (q ∷ ports) p quiet is = (quiet.0, quiet_more ports p quiet.1 is)
-
 quiet_at : (before left : List End) (d : End) → AreQuietAtEnd (before ++ d ∷ left) → d.deeds.port.told.marked ≡ 0
 quiet_at [] left d quiet = quiet.0
 quiet_at (e ∷ before) left d quiet = quiet_at before left d quiet.1

@@ -283,17 +283,6 @@ end_added d old mid new told some more lines before between later ports none add
       same_told ∙ same ∙ ap (λ (l : List Did). told ++ l) is,
     )
 
--- an end was refused
-pub end_refused : (d : End) (old new : List PortState) (told more : List Did)
-    (before between later : Option (ℕ × Refusal)) → (between ≡ None → ⊥) → more ≡ told → new ≡ old
-    → (later ≡ None → between ≡ None) → (later ≡ None → IsOk d.result) → NotesEnd d old new told more before later
-end_refused d old new told more before between later never same_told same_ports onto well = record {
-  ports = λ trace it. subst (HaveSeen trace) same_ports it;
-  none = λ n. absurd (never (onto n));
-  well = well;
-  noted = inl (λ n. never (onto n), same_told);
-}
-
 -- one end more
 pub noted_step : (trace : List Line) (ends : List End) (d : End) (old new : List PortState) (told more : List Did)
     (before later : Option (ℕ × Refusal)) → (HaveSeen trace old → AreAllNoted trace (before ≡ None) ends told)

@@ -3,7 +3,7 @@ use Rattle.im_run.specs.declared.served.Did.{Did}
 use Rattle.im_run.specs.Doing.{HaveSeen}
 use Rattle.im_run.proofs.DoingLemmas.{ports_front, ports_last}
 use Rattle.im_run.proofs.OrdersLemmas.{grown}
-use Rattle.im_run.proofs.served.PortNotes.add.Goals as goal
+use Rattle.im_run.proofs.port_notes.PortNotes.add.Goals as goal
 
 pub returns-in-Ok-clause-ports : goal.returns-in-Ok-clause-ports
 returns-in-Ok-clause-ports g c = ports_front c.args.self.now.ports.items c.push.new.self.items c.args.port

@@ -2,11 +2,11 @@ use Rattle.std.proofs.Common.{◌≡◌, ◌∙◌, ℕ, List, ap, subst, sym}
 use Rattle.im_serving.specs.declared.glances.Glanced.{Glanced}
 use Rattle.im_serving.specs.Elements.{End}
 use Rattle.im_run.specs.Doing.{NotesEnd, told_among}
-use Rattle.im_run.proofs.DoingLemmas.{end_added, end_refused}
-use Rattle.im_run.proofs.served.PortNotes.take.Goals as goal
+use Rattle.im_run.proofs.DoingLemmas.{end_added}
+use Rattle.im_run.proofs.port_notes.PortNotes.take.Goals as goal
 
-pub returns-in-Ok : goal.returns-in-Ok
-returns-in-Ok g c =
+pub returns-in-Ok-clause-noted : goal.returns-in-Ok-clause-noted
+returns-in-Ok-clause-noted g c =
     let p = c.done.inside in
     let d : End = record {
       deeds = record {
@@ -33,26 +33,3 @@ returns-in-Ok g c =
     (end_added d was.ports.items a.ports.items now.ports.items was.did.items a.did.items now.did.items
     c.in-Ok.told.items was.refused a.refused now.refused c.add.ensures.ports c.add.ensures.none c.add.ensures.added
     lines e.ensures.did e.ensures.ports e.ensures.none e.ensures.well)
-
-pub returns-in-Err : goal.returns-in-Err
-returns-in-Err g c =
-    let p = c.done.inside in
-    let d : End = record {
-      deeds = record {
-        port = p.port;
-        served = p.served;
-        last = p.glances.last;
-        seen = p.glances.glance;
-        made = p.glances.made.items;
-      };
-      result = p.done;
-    } in
-    let was = c.args.self.now in
-    let r = c.refuse in
-    let e = c.end-in-Err in
-    let now = e.new.self in
-    subst (λ (x : End). NotesEnd x was.ports.items now.ports.items was.did.items now.did.items was.refused now.refused)
-    c.done.view_is
-    (end_refused d was.ports.items now.ports.items was.did.items now.did.items was.refused r.new.self.refused
-    now.refused r.ensures.refused (e.ensures.did ∙ r.ensures.did) (e.ensures.ports ∙ r.ensures.ports) e.ensures.none
-    e.ensures.well)
