@@ -27,7 +27,7 @@
     heard = 0 :: non_neg_integer(),                 % lines
     text = <<>> :: binary(),                        % what isn't a whole line yet, or has no room yet
     passes_over = false :: boolean(),               % the rest of a line that is too long
-    is_hearing = false :: boolean(),                % the socket was asked for more
+    is_hearing = false :: boolean(),                % the socket was asked for more, or will be in a moment
     ends = false :: boolean(),                      % no line follows
     lines = queue:new() :: queue:queue(line()),     % that aren't answered to the client
     waits = #{} :: #{{imem_lines:element(), non_neg_integer()} => []},
@@ -55,12 +55,13 @@ handle_cast({go, Socket}, S = #state{socket = undefined}) -> {noreply, S#state{s
 handle_cast(_, S) -> {noreply, S}.
 
 -spec handle_continue(begin_with, #state{}) -> {noreply, #state{}} | {stop, normal, #state{}}.
-handle_continue(begin_with, S = #state{socket = Given, listener = #{role := Role, elements := Elements}}) ->
+handle_continue(begin_with, S = #state{socket = Given, listener = #{role := Role, elements := Elements, bytes := Bytes}}) ->
     case shaken(Given) of
         {ok, Socket} ->
             imem_counts:add({clients, Role}),
             Rights = #{role => Role, elements => own(Elements, Socket)},
-            {noreply, hearing(watching(S#state{socket = Socket, rights = Rights}))};
+            Begun = S#state{socket = Socket, rights = Rights, room = Bytes, second = now_ms()},
+            {noreply, hearing(watching(Begun))};
         {error, Why} ->
             ?LOG_NOTICE(#{what => "a client isn't let in", why => Why}, ?DOMAIN),
             {stop, normal, S}
@@ -103,7 +104,7 @@ handle_info({imem_told, _, Answers}, S) ->
     said(Told, After);
 handle_info({'DOWN', Monitor, process, _, Why}, S = #state{monitor = Monitor}) -> away(Why, S#state{monitor = undefined});
 handle_info(look_again, S = #state{monitor = undefined}) -> {noreply, watching(S)};
-handle_info(go_on, S) -> {noreply, hearing(S)};
+handle_info(go_on, S) -> {noreply, hearing(budgeted(0, S#state{is_hearing = false}))};
 handle_info(timeout, S) -> {stop, normal, S};       % It was never given its socket.
 handle_info(_, S) -> {noreply, S}.
 
@@ -221,7 +222,7 @@ hearing(S = #state{room = Room, socket = {Transport, Socket}, lines = Lines, lis
         false -> S;
         true when Room < 0 ->
             _ = erlang:send_after(max(1, -1000 * Room div Bytes), self(), go_on),
-            S#state{room = 0, second = now_ms()};
+            S#state{is_hearing = true};
         true ->
             _ = case Transport of gen_tcp -> inet:setopts(Socket, [{active, once}]); ssl -> ssl:setopts(Socket, [{active, once}]) end,
             S#state{is_hearing = true}

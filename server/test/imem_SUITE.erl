@@ -107,10 +107,10 @@ a_value_goes_to_whoever_asked_last(Config) ->
     ?assertEqual([<<"count 3">>], asked(One, ["count"])).
 
 a_killed_program_is_not_noticed(Config) ->
-    Image = start("killed", "slow 1", [], Config),
+    Image = start("killed", "slow 5", [], Config),
     One = connect("killed"),
     [_, _] = asked(One, ["0.1 alloc m 2", "0.2 put 0 0"]),
-    Killer = spawn_link(fun Kill() -> timer:sleep(150), kill_program(Image), Kill() end),
+    Killer = spawn_link(fun Kill() -> timer:sleep(500), kill_program(Image), Kill() end),
     Add = fun(N, Value) ->
         [E1, E2] = [["1.", integer_to_list(N + At)] || At <- [0, 1]],
         Told = [iolist_to_binary([E1, " value ", integer_to_list(Value)])],
@@ -235,7 +235,7 @@ metrics_and_health(Config) ->
 elements_count_exactly(Config) ->
     Cluster = #{number => 5, program => {imem_counting, {self(), 8, 6}}, elements => [{E, [node()]} || E <- [1, 2, 3]]},
     Image = start("elements", "", [{cluster, Cluster}, {repeats_waiting, 300}, {send, {imem_counting, send}}], Config),
-    Killer = spawn_link(fun Kill() -> timer:sleep(300), kill_program(Image), Kill() end),
+    Killer = spawn_link(fun Kill() -> timer:sleep(500), kill_program(Image), Kill() end),
     [receive {ended, E} -> ok after 60000 -> ct:fail({not_done, E}) end || E <- [1, 2, 3]],
     unlink(Killer),
     exit(Killer, kill),
