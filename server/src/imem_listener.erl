@@ -19,7 +19,9 @@ init({{Above, #{at := At} = Listener}, _}) ->
             ?LOG_NOTICE(#{what => "a socket is open", at => At, role => maps:get(role, Listener)}, ?DOMAIN),
             Acceptor = proc_lib:spawn_link(fun() -> accept(Socket, Listener, imem_listener_sup:clients(Above)) end),
             {ok, #state{listener = Listener, socket = Socket, acceptor = Acceptor}};
-        {error, Why} -> {stop, {shutdown, {no_socket, At, Why}}}
+        {error, Why} ->
+            ?LOG_ERROR(#{what => "a socket can't be opened", at => At, why => Why}, ?DOMAIN),
+            {stop, {shutdown, {no_socket, At, Why}}}
     end.
 
 -spec handle_call(term(), gen_server:from(), #state{}) -> {reply, unknown, #state{}}.

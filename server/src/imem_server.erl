@@ -8,17 +8,15 @@
 
 -spec start() -> ok.
 start() ->
-    case application:ensure_all_started(imem_server, permanent) of
-        {ok, _} -> ok;
-        {error, {imem_server, {{bad_config, Words}, _}}} -> halted(["sys.config: ", Words], 2);
-        {error, {imem_server, {{shutdown, Why}, _}}} -> halted(io_lib:format("~0tp", [Why]), 1);
-        {error, Why} -> halted(io_lib:format("~0tp", [Why]), 1)
+    _ = application:load(imem_server),
+    case imem_config:checked(application:get_all_env(imem_server)) of
+        {ok, _} ->
+            {ok, _} = application:ensure_all_started(imem_server, permanent),
+            ok;
+        {error, Words} ->
+            io:format(standard_error, "imem-server: sys.config: ~ts~n", [Words]),
+            halt(2)
     end.
-
--spec halted(iodata(), byte()) -> no_return().
-halted(Words, Status) ->
-    io:format(standard_error, "imem-server: ~ts~n", [Words]),
-    halt(Status).
 
 %% A module that can't be opened for good is left away. A node that has nothing else to do ends.
 -spec is_over(imem_config:config()) -> ok.
