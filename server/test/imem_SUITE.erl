@@ -52,6 +52,9 @@ start(Name, Does, More, Config) ->
     {ok, _} = application:ensure_all_started(imem_server),
     Image.
 
+%% A node that has an element goes on, though no module of it can be opened.
+still() -> #{number => 1, program => {imem_still, none}, elements => [{1, [node()]}]}.
+
 connect(Name) ->
     {ok, Socket} = gen_tcp:connect({local, socket(Name)}, 0, [binary, {packet, line}, {active, false}, {buffer, 70000}]),
     Socket.
@@ -145,7 +148,7 @@ a_program_that_hangs_as_it_opens_is_killed(Config) ->
     ?assertEqual([<<"count 0">>], asked(One, ["count"])).
 
 a_program_that_answers_twice_stops_its_module(Config) ->
-    start("twice", "twice", [], Config),
+    start("twice", "twice", [{cluster, still()}], Config),
     One = connect("twice"),
     say(One, ["count", "count"]),
     until(fun() -> imem_module_sup:is_over(0) end),
@@ -158,7 +161,7 @@ gone(Socket) ->
     end.
 
 an_image_refused_for_good_stays_away(Config) ->
-    start("refused", "ends 5", [{cluster, #{number => 1, program => {imem_still, none}, elements => [{1, [node()]}]}}], Config),
+    start("refused", "ends 5", [{cluster, still()}], Config),
     One = connect("refused"),
     ?assertEqual([<<"refused 13 NoHeader">>], lists:sublist(hear(One, 1), 1)),
     until(fun() -> imem_module_sup:is_over(0) end),
