@@ -21,6 +21,7 @@
 
 -define(MOST_PIPED, 64).    % lines in the pipe: some groups, so that the program never waits for the next
 -define(PAUSE, 1000).       % milliseconds before a program that ended by itself is started again
+-define(SHORT_PAUSE, 100).  % the same of one that was killed as it opened its image
 -define(TICK, 1000).
 
 %% A line in a queue or in the pipe. Of a check, `key` is the answer that there has to be.
@@ -131,7 +132,7 @@ handle_info({Port, {data, Data}}, S = #state{port = Port, buffer = Buffer}) ->
     catch throw:{wrong, Why} -> over(Why, S)
     end;
 handle_info({Port, {exit_status, Status}}, S = #state{port = Port}) -> ended(Status, S);
-handle_info({'EXIT', Port, Reason}, S = #state{port = Port, phase = Phase}) when Phase =/= ended -> {stop, {port_ended, Reason}, S};
+handle_info({'EXIT', Port, Reason}, S = #state{port = Port, phase = Phase}) when Phase =/= ended -> ended(Reason, S);
 handle_info({'DOWN', _, process, From, _}, S) -> {noreply, forgotten(From, S)};
 handle_info(pipe_has_room, S = #state{unsent = Unsent}) -> {noreply, fill(written(Unsent, S#state{unsent = []}))};
 handle_info(tick, S) ->
@@ -272,17 +273,18 @@ is_enough(_, _) -> false.
 
 %% ---- The end
 
-%% By status 5 the image is refused for good, and by 2 the command line is bad: starting again is of no use. Any other
-%% end in an opening is waited out: the image is in use (4), or its disk failed.
+%% By status 5 the image is refused for good, and by 2 the command line is bad: starting again is of no use. A program that
+%% was killed is started again at once, or nearly so if it was opening the image. One that ended by itself is waited out:
+%% the image is in use (4), or its disk failed.
 ended(Status, S = #state{refused = Refused}) when Status =:= 2; Status =:= 5 ->
     over({refused, Status, Refused}, S#state{phase = ended});
 ended(Status, S = #state{number = K, refused = Refused, phase = Phase}) ->
     Why = {program_ended, Status, Refused},
     ?LOG_WARNING(#{what => "a program ended", module => K, status => Status, refused => Refused}, ?DOMAIN),
-    case Phase =:= open andalso Status > 128 of
-        true -> {stop, Why, S#state{phase = ended}};
-        false ->
-            _ = erlang:send_after(?PAUSE, self(), {ended, Why}),
+    case not is_integer(Status) orelse Status > 128 of      % Of a pipe that broke first there is no status.
+        true when Phase =:= open -> {stop, Why, S#state{phase = ended}};
+        IsKilled ->
+            _ = erlang:send_after(case IsKilled of true -> ?SHORT_PAUSE; false -> ?PAUSE end, self(), {ended, Why}),
             {noreply, S#state{phase = ended}}
     end.
 

@@ -10,7 +10,8 @@ from typing import Optional
 from ._dialogue import Dialogue, Served, served_by
 from ._words import refusal
 
-PAUSE, MOST_PAUSE = 0.05, 1.0  # Seconds between two tries to connect, at first and at most.
+PAUSE, MOST_PAUSE = 0.05, 0.25  # Seconds between two tries to connect, at first and at most.
+FIRST = 5.0  # Seconds for which the first connection is tried: the server may be starting.
 FORM = "unix:PATH, tcp:HOST:PORT or tls:HOST:PORT"
 
 
@@ -27,8 +28,8 @@ class Connection(Dialogue):
         self.tls = tls or ssl.create_default_context() if self.kind == "tls" else None
 
     async def _open(self) -> None:
-        """Connects. What stands in its way at the first time is raised at once."""
-        until, pause = time.monotonic() + (self.patience if self.starts else 0), PAUSE
+        """Connects, as soon as there is a server."""
+        until, pause = time.monotonic() + (self.patience if self.starts else min(FIRST, self.patience)), PAUSE
         while True:
             try:
                 if self.path:
