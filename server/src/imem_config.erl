@@ -56,16 +56,16 @@
 checked(Environment) ->
     try
         Given = maps:from_list([It || {Key, _} = It <- Environment, Key =/= included_applications]),
-        {ok, taken(Given, "imem_server", [
+        {ok, with_listeners(taken(Given, "imem_server", [
             {imem, "/usr/bin/imem", fun program/2},
             {modules, required, fun modules/2},
-            {listeners, [], fun listeners/2},
+            {listeners, none, fun listeners/2},
             {metrics, none, fun metrics/2},
             {cluster, none, fun cluster/2},
             {answers_within, 30000, fun positive/2},
             {repeats_waiting, 10000, fun positive/2},
             {send, {?MODULE, send}, fun sender/2}
-        ])}
+        ]))}
     catch
         throw:{bad, Words} -> {error, lists:flatten(Words)}
     end.
@@ -189,6 +189,24 @@ a_module(Given, Where) ->
     end.
 
 %% ---- Listeners
+
+%% Without listeners there is one of the modules that aren't a cluster's: RUNDIR/imem.sock.
+with_listeners(#{listeners := none, cluster := none} = Config) ->
+    Socket = filename:join(rundir(["RUNTIME_DIRECTORY", "XDG_RUNTIME_DIR"]), "imem.sock"),
+    Config#{listeners := listeners([#{at => {unix, Socket}}], "listeners")};
+with_listeners(#{listeners := none} = Config) -> Config#{listeners := []};
+with_listeners(#{listeners := Listeners, modules := Modules} = Config) ->
+    case [K || #{module := K} <- Listeners, not is_map_key(K, Modules)] of
+        [] -> Config;
+        [K | _] -> bad(["imem_server, listeners: there is no module ", integer_to_list(K)])
+    end.
+
+rundir([]) -> "/run/imem";
+rundir([Name | Names]) ->
+    case os:getenv(Name) of
+        [_ | _] = Folder -> Folder;
+        _ -> rundir(Names)
+    end.
 
 listeners(Given, Where) when is_list(Given) ->
     [listener(It, [Where, ", number ", integer_to_list(At)]) || {At, It} <- lists:zip(lists:seq(1, length(Given)), Given)];

@@ -20,6 +20,8 @@ all() -> [
     clients_have_a_bound,
     a_socket_has_its_mode_and_replaces_an_old_one,
     what_a_client_sent_before_its_end_is_answered,
+    a_socket_is_of_one_module,
+    a_user_has_elements,
     metrics_and_health,
     elements_count_exactly
 ].
@@ -217,6 +219,24 @@ what_a_client_sent_before_its_end_is_answered(Config) ->
     ok = gen_tcp:shutdown(One, write),
     ?assertEqual([<<"0.1 base 0">>, <<"0.2 stored">>, <<"count 2">>], hear(One, 3)),
     ?assertEqual({error, closed}, gen_tcp:recv(One, 0, 5000)).
+
+a_socket_is_of_one_module(Config) ->
+    Other = image("other", Config),
+    ok = file:write_file(Other, <<>>),
+    start("one", "", [
+        {modules, [#{image => image("one", Config)}, #{module => 1, image => Other}]},
+        {listeners, [#{at => {unix, socket("one")}}, #{at => {unix, socket("two")}, module => 1}]}
+    ], Config),
+    ?assertEqual([<<"0.1 base 0">>, <<"count 1">>], asked(connect("one"), ["0.1 alloc m 1", "count"])),
+    ?assertEqual([<<"count 0">>], asked(connect("two"), ["count"])).
+
+a_user_has_elements(Config) ->
+    {User, _} = string:to_integer(os:cmd("id -u")),
+    Bound = #{at => {unix, socket("user")}, elements => {by_user, #{User => [3]}}},
+    Unknown = #{at => {unix, socket("unknown")}, elements => {by_user, #{User + 1 => [3]}}},
+    start("user", "", [{listeners, [Bound, Unknown]}], Config),
+    ?assertEqual([<<"3 window 1 1">>, <<"error 2: element 4 isn't one of this client's">>], asked(connect("user"), ["window 3", "window 4"])),
+    ?assertEqual([<<"error 1: element 3 isn't one of this client's">>, <<"count 0">>], asked(connect("unknown"), ["window 3", "count"])).
 
 metrics_and_health(Config) ->
     Port = 20000 + rand:uniform(20000),

@@ -9,7 +9,7 @@ with(Key, Value) -> imem_config:checked(lists:keystore(Key, 1, ?WELL, {Key, Valu
 what_is_left_out_has_a_value_test() ->
     {ok, Config} = imem_config:checked(?WELL),
     Node = node(),
-    ?assertMatch(#{listeners := [], metrics := none, cluster := none, answers_within := 30000}, Config),
+    ?assertMatch(#{listeners := [#{at := {unix, _}, role := full}], metrics := none, cluster := none, answers_within := 30000}, Config),
     ?assertMatch(#{modules := #{0 := #{image := "/srv/a.img", backups := none, node := Node}}}, Config),
     {ok, #{listeners := [Listener]}} = with(listeners, [#{at => {unix, "/run/imem.sock"}}]),
     ?assertMatch(#{role := full, module := 0, elements := all, clients := 512, mode := 8#660}, Listener).
@@ -28,6 +28,7 @@ faults_are_said_in_words_test_() ->
         {with(listeners, [#{at => {tls, {10, 0, 0, 1}, 70}}]), "imem_server, listeners, number 1, tls: there is no certfile"},
         {with(listeners, [#{at => {unix, "a"}, rolle => full}]),
             "imem_server, listeners, number 1: rolle is none of at, role, module, elements, clients, lines, bytes, patience, mode, tls"},
+        {with(listeners, [#{at => {unix, "a"}, module => 3}]), "imem_server, listeners: there is no module 3"},
         {with(metrics, 80), "imem_server, metrics: 80, where none or {IP, PORT} is expected"},
         {with(cluster, #{number => 7}), "imem_server, cluster, program isn't given"},
         {with(cluster, #{number => 7, program => {no_such, 1}, elements => []}), "imem_server, cluster, program: there is no module no_such"},
