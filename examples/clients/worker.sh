@@ -1,5 +1,5 @@
 #!/bin/bash
-# Works off a queue behind a server, as `worker.py` does, in bash with no other program. Bash opens sockets of TCP alone.
+# Works off a queue behind a server, as `worker.py` does, in bash with nothing else. Bash opens sockets of TCP alone.
 #
 # usage: worker.sh PORT ELEMENT JOBS      PORT is on this machine, and ELEMENT is this worker's alone
 port=$1 element=$2 jobs=$3
@@ -29,7 +29,7 @@ request() {
     number=$((number + 1))
 }
 
-for line in "0.1 alloc m 2" "0.2 alloc i $jobs" "0.3 put $next 0" "0.4 put $sum 0"; do ask "$line"; done   # As each does.
+for line in "0.1 alloc m 2" "0.2 alloc i $jobs" "0.3 put $next 0" "0.4 put $sum 0"; do ask "$line"; done # As each does.
 ask "window $element"
 number=${reply% *} # The first that isn't confirmed: from there on it is asked again.
 while true; do

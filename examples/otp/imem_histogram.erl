@@ -9,7 +9,7 @@
 -spec block(arguments()) -> {m, pos_integer()}.
 block({Counters, _, _}) -> {m, Counters}.
 
--spec rounds(imem_lines:element(), pos_integer(), arguments()) -> [{[imem_program:request()], [imem_program:request()]}].
+-spec rounds(imem_lines:element(), pos_integer(), arguments()) -> imem_program:rounds().
 rounds(E, Many, {Counters, Rounds, Words}) ->
     Fill = [{[], [{put, A} || A <- Part]} || Part <- parts(lists:seq(E - 1, Counters - 1, Many))],
     Counted = fun(R) -> lists:usort([(E + 7 * R + 11 * X) rem Counters || X <- lists:seq(0, Words - 1)]) end,

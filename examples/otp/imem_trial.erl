@@ -9,7 +9,7 @@
 -spec block(arguments()) -> {i | m, pos_integer()}.
 block(#{program := {Module, Arguments}}) -> Module:block(Arguments).
 
--spec rounds(imem_lines:element(), pos_integer(), arguments()) -> [{[imem_program:request()], [imem_program:request()]}].
+-spec rounds(imem_lines:element(), pos_integer(), arguments()) -> imem_program:rounds().
 rounds(E, Many, #{program := {Module, Arguments}}) -> Module:rounds(E, Many, Arguments).
 
 -spec written(arguments(), none | non_neg_integer(), none | non_neg_integer()) -> non_neg_integer().

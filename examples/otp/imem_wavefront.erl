@@ -8,7 +8,7 @@
 -spec block(arguments()) -> {i, pos_integer()}.
 block({Length}) -> {i, Length * Length}.
 
--spec rounds(imem_lines:element(), pos_integer(), arguments()) -> [{[imem_program:request()], [imem_program:request()]}].
+-spec rounds(imem_lines:element(), pos_integer(), arguments()) -> imem_program:rounds().
 rounds(E, Many, {Length}) ->
     Columns = lists:seq(0, Length - 1),
     [{[{fetch, (Row - 1) * Length + X} || Row > 0, X <- Columns], [{store, Row * Length + X} || X <- Columns]}

@@ -1,8 +1,9 @@
 %% A client of a socket: hears lines, looks at each, asks its module, and says the answers in the order of the lines.
 %%
-%% It holds as many lines as its listener allows, and hears no more until some are answered; nor while its client doesn't
-%% read, nor faster than so many bytes a second. A client that doesn't read for too long is let go. If the module is
-%% away, what isn't answered is asked again once it is back, and what waits is looked at: its client doesn't notice.
+%% It holds as many lines as its listener allows, and hears no more until some are answered; nor while its client
+%% doesn't read, nor faster than so many bytes a second. A client that doesn't read for too long is let go. If the
+%% module is away, what isn't answered is asked again once it is back, and what waits is looked at: its client doesn't
+%% notice.
 -module(imem_client).
 -behaviour(gen_server).
 -export([start_link/2, go/2]).
@@ -51,11 +52,13 @@ init({Listener, Config}) -> {ok, #state{listener = Listener, config = Config}, ?
 handle_call(_, _, S) -> {reply, unknown, S}.
 
 -spec handle_cast(term(), #state{}) -> {noreply, #state{}, {continue, begin_with}} | {noreply, #state{}}.
-handle_cast({go, Socket}, S = #state{socket = undefined}) -> {noreply, S#state{socket = Socket}, {continue, begin_with}};
+handle_cast({go, Socket}, S = #state{socket = undefined}) ->
+    {noreply, S#state{socket = Socket}, {continue, begin_with}};
 handle_cast(_, S) -> {noreply, S}.
 
 -spec handle_continue(begin_with, #state{}) -> {noreply, #state{}} | {stop, normal, #state{}}.
-handle_continue(begin_with, S = #state{socket = Given, listener = #{role := Role, elements := Elements, bytes := Bytes}}) ->
+handle_continue(begin_with, S = #state{socket = Given, listener = Listener}) ->
+    #{role := Role, elements := Elements, bytes := Bytes} = Listener,
     case shaken(Given) of
         {ok, Socket} ->
             imem_counts:add({clients, Role}),
@@ -98,11 +101,13 @@ handle_info({Tag, Raw, Data}, S = #state{socket = {_, Raw}}) when Tag =:= tcp; T
     came(budgeted(byte_size(Data), taken(S#state{text = <<(S#state.text)/binary, Data/binary>>, is_hearing = false})));
 handle_info({Tag, Raw}, S = #state{socket = {_, Raw}}) when Tag =:= tcp_closed; Tag =:= ssl_closed ->
     came(taken(S#state{ends = true}));
-handle_info({Tag, Raw, _}, S = #state{socket = {_, Raw}}) when Tag =:= tcp_error; Tag =:= ssl_error -> {stop, normal, S};
+handle_info({Tag, Raw, _}, S = #state{socket = {_, Raw}}) when Tag =:= tcp_error; Tag =:= ssl_error ->
+    {stop, normal, S};
 handle_info({imem_told, _, Answers}, S) ->
     {Told, After} = lists:foldl(fun told/2, {[], S}, Answers),
     said(Told, After);
-handle_info({'DOWN', Monitor, process, _, Why}, S = #state{monitor = Monitor}) -> away(Why, S#state{monitor = undefined});
+handle_info({'DOWN', Monitor, process, _, Why}, S = #state{monitor = Monitor}) ->
+    away(Why, S#state{monitor = undefined});
 handle_info(look_again, S = #state{monitor = undefined}) -> {noreply, watching(S)};
 handle_info(go_on, S) -> {noreply, hearing(budgeted(0, S#state{is_hearing = false}))};
 handle_info(timeout, S) -> {stop, normal, S};       % It was never given its socket.
@@ -117,7 +122,8 @@ terminate(_, _) -> ok.
 %% ---- Lines
 
 %% Takes the whole lines of the text, as long as there is room for them.
-taken(S = #state{lines = Lines, text = Text, listener = #{lines := Most}}) -> taken(queue:len(Lines), Most, Text, [], S).
+taken(S = #state{lines = Lines, text = Text, listener = #{lines := Most}}) ->
+    taken(queue:len(Lines), Most, Text, [], S).
 
 taken(Held, Most, Text, Asked, S) when Held >= Most -> asking(Asked, S#state{text = Text});
 taken(Held, Most, Text, Asked, S = #state{passes_over = PassesOver, heard = Heard}) ->
@@ -130,10 +136,12 @@ taken(Held, Most, Text, Asked, S = #state{passes_over = PassesOver, heard = Hear
         [Part] -> asking(Asked, S#state{text = Part})
     end.
 
-line(Line, Held, Most, Rest, Asked, S = #state{heard = Number, lines = Lines, rights = Rights}) ->
-    case imem_lines:look(Line, Rights) of
+line(Text, Held, Most, Rest, Asked, S = #state{heard = Number, lines = Lines, rights = Rights}) ->
+    case imem_lines:look(Text, Rights) of
         quit -> asking(Asked, S#state{text = <<>>, ends = true});
-        {ask, It} -> taken(Held + 1, Most, Rest, [{Number, It} | Asked], S#state{lines = queue:in({Number, It}, Lines)});
+        {ask, It} ->
+            Line = {Number, It},
+            taken(Held + 1, Most, Rest, [Line | Asked], S#state{lines = queue:in(Line, Lines)});
         {error, Why} ->
             imem_counts:add({wrong_lines, maps:get(role, Rights)}),
             Told = {told, error_line(Number, Why)},
@@ -154,18 +162,22 @@ ask(Lines, #state{config = Config, listener = #{module := K}}) -> imem_module:as
 %% ---- Answers
 
 %% Adds what an answer lets be said, the last first.
-told({{now, E, N}, Answer}, {Told, S = #state{waits = Waits}}) -> {[[Answer, $\n] | Told], S#state{waits = maps:remove({E, N}, Waits)}};
+told({{now, E, N}, Answer}, {Told, S = #state{waits = Waits}}) ->
+    {[[Answer, $\n] | Told], S#state{waits = maps:remove({E, N}, Waits)}};
 told({{again, E, N}, Answer}, {Told, S = #state{waits = Waits}}) when is_map_key({E, N}, Waits) ->
     [Who, Reply] = binary:split(Answer, <<" ">>),
+    After = S#state{waits = maps:remove({E, N}, Waits)},
     case Reply of
         <<"waiting">> -> {Told, S};
-        <<"refused ", _/binary>> -> {Told, S#state{waits = maps:remove({E, N}, Waits)}};     % It was confirmed by another.
-        _ -> {[[Who, " now ", Reply, $\n] | Told], S#state{waits = maps:remove({E, N}, Waits)}}
+        <<"refused ", _/binary>> -> {Told, After};      % It was confirmed by another.
+        _ -> {[[Who, " now ", Reply, $\n] | Told], After}
     end;
 told({{again, _, _}, _}, Sum) -> Sum;
 told({Number, Answer}, {Told, S = #state{lines = Lines}}) ->
     case queue:peek(Lines) of
-        {value, {Number, Asked}} -> answers([spelled(Number, Answer), $\n], {Told, waiting(Asked, Answer, S#state{lines = queue:drop(Lines)})});
+        {value, {Number, Asked}} ->
+            After = waiting(Asked, Answer, S#state{lines = queue:drop(Lines)}),
+            given({[[spelled(Number, Answer), $\n] | Told], After});
         _ -> {Told, S}      % It was asked twice, as the module was away.
     end.
 
@@ -182,9 +194,7 @@ waiting(#asked{kind = request, element = E, number = N}, Answer, S = #state{wait
     end;
 waiting(_, _, S) -> S.
 
-%% An answer, and those given here to the lines behind it.
-answers(Text, {Told, S}) -> given({[Text | Told], S}).
-
+%% Adds the answers that were given here to the lines that come next.
 given({Told, S = #state{lines = Lines}}) ->
     case queue:peek(Lines) of
         {value, {_, {told, Text}}} -> given({[Text | Told], S#state{lines = queue:drop(Lines)}});
@@ -217,16 +227,19 @@ went_on(S = #state{text = Text, lines = Lines, listener = #{lines := Most}}) ->
 %% Asks the socket for more, if there is room for a line, and bytes may be heard.
 hearing(S = #state{is_hearing = true}) -> S;
 hearing(S = #state{ends = true}) -> S;
-hearing(S = #state{room = Room, socket = {Transport, Socket}, lines = Lines, listener = #{lines := Most, bytes := Bytes}}) ->
+hearing(S = #state{room = Room, socket = Socket, lines = Lines, listener = #{lines := Most, bytes := Bytes}}) ->
     case queue:len(Lines) < Most of
         false -> S;
         true when Room < 0 ->
             _ = erlang:send_after(max(1, -1000 * Room div Bytes), self(), go_on),
             S#state{is_hearing = true};
         true ->
-            _ = case Transport of gen_tcp -> inet:setopts(Socket, [{active, once}]); ssl -> ssl:setopts(Socket, [{active, once}]) end,
+            _ = more(Socket),
             S#state{is_hearing = true}
     end.
+
+more({gen_tcp, Socket}) -> inet:setopts(Socket, [{active, once}]);
+more({ssl, Socket}) -> ssl:setopts(Socket, [{active, once}]).
 
 %% What was heard counts against the bytes of a second, which come back as time goes.
 budgeted(Size, S = #state{room = Room, second = Second, listener = #{bytes := Bytes}}) ->

@@ -89,7 +89,9 @@ bad(Words) -> throw({bad, Words}).
 taken(Given, Where, Keys) when is_map(Given) ->
     Known = [Key || {Key, _, _} <- Keys],
     case maps:keys(maps:without(Known, Given)) of
-        [] -> maps:from_list([{Key, value(maps:find(Key, Given), Else, Check, [Where, ", ", word(Key)])} || {Key, Else, Check} <- Keys]);
+        [] ->
+            Value = fun(Key, Else, Check) -> value(maps:find(Key, Given), Else, Check, [Where, ", ", word(Key)]) end,
+            maps:from_list([{Key, Value(Key, Else, Check)} || {Key, Else, Check} <- Keys]);
         [Other | _] -> bad([Where, ": ", shown(Other), " is none of ", lists:join(", ", [word(Key) || Key <- Known])])
     end;
 taken(Given, Where, _) -> wrong(Where, Given, "a map").
@@ -163,11 +165,14 @@ ip(Ip, Where) ->
 port(Port, _) when is_integer(Port), Port >= 0, Port =< 65535 -> Port;
 port(Given, Where) -> wrong(Where, Given, "a port's number").
 
+%% Checks each of a list, which a fault numbers.
+each(Check, List, Where) ->
+    [Check(It, [Where, ", number ", integer_to_list(At)]) || {At, It} <- lists:zip(lists:seq(1, length(List)), List)].
+
 %% ---- Modules
 
 modules([_ | _] = Given, Where) ->
-    Numbered = [a_module(It, [Where, ", number ", integer_to_list(At)]) || {At, It} <- lists:zip(lists:seq(1, length(Given)), Given)],
-    Modules = maps:from_list(Numbered),
+    Modules = maps:from_list(each(fun a_module/2, Given, Where)),
     case maps:size(Modules) =:= length(Given) of
         true -> Modules;
         false -> bad([Where, ": two have one number"])
@@ -209,7 +214,7 @@ rundir([Name | Names]) ->
     end.
 
 listeners(Given, Where) when is_list(Given) ->
-    [listener(It, [Where, ", number ", integer_to_list(At)]) || {At, It} <- lists:zip(lists:seq(1, length(Given)), Given)];
+    each(fun listener/2, Given, Where);
 listeners(Given, Where) -> wrong(Where, Given, "a list of listeners, such as #{at => {unix, \"/run/imem/imem.sock\"}}").
 
 listener(Given, Where) ->
@@ -230,7 +235,8 @@ listener(Given, Where) ->
             Lacking = [Key || Key <- [certfile, keyfile, cacertfile], not lists:keymember(Key, 1, Options)],
             Lacking =:= [] orelse bad([Where, ", tls: there is no ", atom_to_list(hd(Lacking))]),
             Taken;
-        #{elements := {by_name, _}} -> bad([Where, ", elements: names are those of certificates, so `at` has to be {tls, ..}"]);
+        #{elements := {by_name, _}} ->
+            bad([Where, ", elements: names are those of certificates, so `at` has to be {tls, IP, PORT}"]);
         _ -> Taken
     end.
 

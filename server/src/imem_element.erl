@@ -27,7 +27,12 @@
 -type numbered_request() :: {key(), atom(), non_neg_integer()}.
 
 %% A line that isn't answered: when it was asked, how often, and after how long it is asked again.
--record(line, {asked :: imem_lines:asked(), at = 0 :: integer(), times = 0 :: non_neg_integer(), pause = 0 :: non_neg_integer()}).
+-record(line, {
+    asked :: imem_lines:asked(),
+    at = 0 :: integer(),
+    times = 0 :: non_neg_integer(),
+    pause = 0 :: non_neg_integer()
+}).
 
 %% windows: all modules are asked for theirs; round: one is done; ending: the last confirmations are under way.
 -type state() :: windows | round | ending.
@@ -63,7 +68,8 @@ callback_mode() -> handle_event_function.
 
 -spec init({imem_lines:element(), imem_config:config()}) -> {ok, state(), #data{}, gen_statem:action()}.
 init({E, Config}) ->
-    {ok, windows, #data{number = E, config = Config, since = erlang:system_time(millisecond)}, {next_event, internal, start}}.
+    D = #data{number = E, config = Config, since = erlang:system_time(millisecond)},
+    {ok, windows, D, {next_event, internal, start}}.
 
 modules(#data{config = #{modules := Modules}}) -> maps:keys(Modules).
 
@@ -81,7 +87,8 @@ handle_event(info, {imem_told, K, Answers}, State, D) ->
         throw:overtaken -> began(D#data{lines = #{}, answers = #{}});
         throw:{over, Why} -> over(Why, D)
     end;
-handle_event(info, {'DOWN', Monitor, process, _, Why}, _, D = #data{modules = Modules}) when is_map_key(Monitor, Modules) ->
+handle_event(info, {'DOWN', Monitor, process, _, Why}, _, D = #data{modules = Modules})
+        when is_map_key(Monitor, Modules) ->
     {K, Others} = maps:take(Monitor, Modules),
     gone(K, Why, D#data{modules = Others});
 handle_event(_, _, _, _) -> keep_state_and_data.
@@ -135,7 +142,8 @@ go_on(Rounds, End, Windows, D, Actions) ->
 %% A module that has seen less than what is confirmed elsewhere told its window before another of this element went on.
 %% Where that stays so, an older copy of its image was put back.
 behind(Modules, D = #data{behind = Many, number = E}) when Many > ?MOST_BEHIND -> over({older_image_at, Modules, E}, D);
-behind(_, D = #data{behind = Many}) -> {next_state, windows, D#data{behind = Many + 1}, {{timeout, begin_again}, 50, again}}.
+behind(_, D = #data{behind = Many}) ->
+    {next_state, windows, D#data{behind = Many + 1}, {{timeout, begin_again}, 50, again}}.
 
 rounds([], {D, Actions}) ->
     case map_size(D#data.lines) of
@@ -143,10 +151,10 @@ rounds([], {D, Actions}) ->
         _ -> {next_state, ending, D, Actions}
     end;
 rounds([Round = {_, _, Reads, Writes} | Rounds], {D, Actions}) ->
-    Asked = lists:foldl(fun({Key, Verb, Cell}, Sum) -> request(Key, Verb, Cell, "", Sum) end, {D, Actions}, Reads),
-    {D1, Actions1} = Asked,
-    Begun = D1#data{round = Round, rounds = Rounds, writes = Writes, reads = [Key || {Key, _, _} <- Reads], before = none},
-    in_round(write({Begun, Actions1})).
+    Keys = [Key || {Key, _, _} <- Reads],
+    Begun = D#data{round = Round, rounds = Rounds, writes = Writes, reads = Keys, before = none},
+    Ask = fun({Key, Verb, Cell}, Sum) -> request(Key, Verb, Cell, "", Sum) end,
+    in_round(write(lists:foldl(Ask, {Begun, Actions}, Reads))).
 
 %% A round is over once all of it is answered. It is confirmed then, along with the next round's requests.
 in_round({D = #data{writes = Writes, lines = Lines, round = {Before, Behind, _, _}, rounds = Rounds}, Actions}) ->
@@ -156,14 +164,13 @@ in_round({D = #data{writes = Writes, lines = Lines, round = {Before, Behind, _, 
     end.
 
 %% A write waits for the read beside it, and is asked then.
-write({D = #data{writes = [{Key, Verb, Cell} | Writes], reads = Reads, answers = Answers, before = Before, config = Config}, Actions}) ->
-    case Reads of
-        [Read | _] when not is_map_key(Read, Answers) -> {D, Actions};
-        _ ->
-            {Found, Others} = case Reads of [] -> {none, []}; [Read | Rest] -> {map_get(Read, Answers), Rest} end,
-            Value = imem_program:written(Config, Found, Before),
-            write(request(Key, Verb, Cell, [" ", text(Value)], {D#data{writes = Writes, reads = Others, before = Value}, Actions}))
-    end;
+write({#data{writes = [_ | _], reads = [Read | _], answers = Answers}, _} = Sum) when not is_map_key(Read, Answers) ->
+    Sum;
+write({D = #data{writes = [{Key, Verb, Cell} | Writes], reads = Reads, answers = Answers, before = Before}, Actions}) ->
+    {Found, Others} = case Reads of [] -> {none, []}; [Read | Rest] -> {map_get(Read, Answers), Rest} end,
+    Value = imem_program:written(D#data.config, Found, Before),
+    After = D#data{writes = Writes, reads = Others, before = Value},
+    write(request(Key, Verb, Cell, [" ", text(Value)], {After, Actions}));
 write(Sum) -> Sum.
 
 request(Key = {_, N}, Verb, Cell, Rest, Sum = {#data{number = E}, _}) ->
@@ -211,7 +218,8 @@ gone(K, Why, D = #data{away = Away}) ->
     Now = now_ms(),
     By = case Why of noconnection -> node; _ -> program end,
     {_, Since} = Gone = maps:get(K, Away, {By, Now}),
-    {keep_state, D#data{away = Away#{K => Gone}}, {{timeout, {look, K}}, max(20, min(1000, (Now - Since) div 8)), look}}.
+    Pause = max(20, min(1000, (Now - Since) div 8)),
+    {keep_state, D#data{away = Away#{K => Gone}}, {{timeout, {look, K}}, Pause, look}}.
 
 returned(K, D = #data{away = Away, returns = Returns}) ->
     case maps:take(K, Away) of
@@ -253,6 +261,7 @@ answered(Key, Words, #data{lines = Lines}, _) ->
     throw({over, {unexpected, Key, Text, Words}}).
 
 answer(Key, What, D = #data{lines = Lines, answers = Answers}, Actions) ->
-    {D#data{lines = maps:remove(Key, Lines), answers = Answers#{Key => What}}, [{{timeout, {repeat, Key}}, cancel} | Actions]}.
+    After = D#data{lines = maps:remove(Key, Lines), answers = Answers#{Key => What}},
+    {After, [{{timeout, {repeat, Key}}, cancel} | Actions]}.
 
 now_ms() -> erlang:monotonic_time(millisecond).

@@ -7,9 +7,11 @@
 start_link(Config) -> supervisor:start_link({local, ?MODULE}, ?MODULE, Config).
 
 -spec init(imem_config:config()) -> {ok, {supervisor:sup_flags(), [supervisor:child_spec()]}}.
-init(Config) -> {ok, {#{strategy => one_for_one, intensity => 20, period => 10}, [child(E, Config) || E <- own(Config)]}}.
+init(Config) ->
+    {ok, {#{strategy => one_for_one, intensity => 20, period => 10}, [child(E, Config) || E <- own(Config)]}}.
 
 own(#{cluster := none}) -> [];
 own(#{cluster := #{elements := All}}) -> [E || {E, Nodes} <- All, lists:member(node(), Nodes)].
 
-child(E, Config) -> #{id => E, start => {imem_element, start_link, [E, Config]}, restart => transient, shutdown => 1000}.
+child(E, Config) ->
+    #{id => E, start => {imem_element, start_link, [E, Config]}, restart => transient, shutdown => 1000}.

@@ -155,7 +155,8 @@ allowed(#{role := Role, elements := Elements}, First, {ask, #asked{kind = Kind, 
 may(all, _, _) -> true;
 may(full, Kind, _) -> Kind =/= backup;
 may(read, look, Word) -> Word =/= <<"collect">> andalso Word =/= <<"room">>;
-may(backup, Kind, Word) -> Kind =:= backup orelse lists:member(Word, [<<"count">>, <<"about">>, <<"stat">>, <<"help">>]);
+may(backup, Kind, Word) ->
+    Kind =:= backup orelse lists:member(Word, [<<"count">>, <<"about">>, <<"stat">>, <<"help">>]);
 may(_, _, _) -> false.
 
 role(full) -> "all but backups";

@@ -43,14 +43,16 @@ terminate(_, #state{socket = {Transport, Socket}, listener = #{at := At}}) ->
 %% ---- Opening
 
 %% A client that has sent all still gets its answers, so a socket isn't closed with its other half.
--define(OPTIONS, [binary, {active, false}, {packet, raw}, {backlog, 1024}, {exit_on_close, false}, {send_timeout_close, true}]).
+-define(OPTIONS, [binary, {active, false}, {packet, raw}, {backlog, 1024}, {exit_on_close, false},
+    {send_timeout_close, true}]).
+-define(BY_IP, [{reuseaddr, true}, {nodelay, true}]).
 
 listening({tls, Ip, Port}, #{tls := Tls} = Listener) ->
     Certain = [{verify, verify_peer}, {fail_if_no_peer_cert, true}, {versions, ['tlsv1.3', 'tlsv1.2']}],
-    as(ssl, ssl:listen(Port, [{ip, Ip}, {reuseaddr, true}, {nodelay, true}] ++ ?OPTIONS ++ patience(Listener) ++ Tls ++ Certain));
+    as(ssl, ssl:listen(Port, [{ip, Ip} | ?BY_IP] ++ ?OPTIONS ++ patience(Listener) ++ Tls ++ Certain));
 listening({tcp, Ip, Port}, Listener) ->
     Family = case tuple_size(Ip) of 4 -> inet; 8 -> inet6 end,
-    as(gen_tcp, gen_tcp:listen(Port, [Family, {ip, Ip}, {reuseaddr, true}, {nodelay, true}] ++ ?OPTIONS ++ patience(Listener)));
+    as(gen_tcp, gen_tcp:listen(Port, [Family, {ip, Ip} | ?BY_IP] ++ ?OPTIONS ++ patience(Listener)));
 listening({fd, Number}, Listener) ->
     as(gen_tcp, gen_tcp:listen(0, [local, {fd, Number}] ++ ?OPTIONS ++ patience(Listener)));
 listening({unix, Path}, #{mode := Mode} = Listener) ->
@@ -108,7 +110,8 @@ let_in({Transport, Raw} = Client, #{clients := Most, role := Role}, Clients) ->
             end;
         false ->
             imem_counts:add({refused_clients, Role}),
-            _ = Transport =:= gen_tcp andalso gen_tcp:send(Raw, ["error 0: this socket has ", integer_to_binary(Most), " clients\n"]),
+            Text = ["error 0: this socket has ", integer_to_binary(Most), " clients\n"],
+            _ = Transport =:= gen_tcp andalso gen_tcp:send(Raw, Text),
             Transport:close(Raw)
     end.
 

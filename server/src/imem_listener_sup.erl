@@ -31,12 +31,15 @@ count(At) ->
 
 -spec init(part()) -> {ok, {supervisor:sup_flags(), [supervisor:child_spec()]}}.
 init({all, #{listeners := Listeners} = Config}) ->
-    Child = fun(#{at := At} = Listener) -> #{id => At, start => {?MODULE, start_one, [Listener, Config]}, type => supervisor} end,
+    Child = fun(#{at := At} = Listener) ->
+        #{id => At, start => {?MODULE, start_one, [Listener, Config]}, type => supervisor}
+    end,
     {ok, {#{strategy => one_for_one, intensity => 10, period => 60}, lists:map(Child, Listeners)}};
 init({one, Listener, Config}) ->
     Clients = #{id => clients, start => {?MODULE, start_clients, [Listener, Config]}, type => supervisor},
     Socket = #{id => socket, start => {imem_listener, start_link, [{self(), Listener}, Config]}},
     {ok, {#{strategy => rest_for_one, intensity => 5, period => 10}, [Clients, Socket]}};
 init({clients, Listener, Config}) ->
-    Client = #{id => client, start => {imem_client, start_link, [Listener, Config]}, restart => temporary, shutdown => 1000},
+    Start = {imem_client, start_link, [Listener, Config]},
+    Client = #{id => client, start => Start, restart => temporary, shutdown => 1000},
     {ok, {#{strategy => simple_one_for_one}, [Client]}}.

@@ -19,8 +19,9 @@ init(#{metrics := {Ip, Port}} = Config) ->
     persistent_term:put(?MODULE, Config),
     Root = filename:dirname(code:which(?MODULE)),
     Family = case tuple_size(Ip) of 4 -> inet; 8 -> inet6 end,
-    case inets:start(httpd, [{port, Port}, {bind_address, Ip}, {ipfamily, Family}, {server_name, "imem"}, {server_root, Root},
-            {document_root, Root}, {modules, [?MODULE]}, {max_clients, 16}], stand_alone) of
+    Options = [{port, Port}, {bind_address, Ip}, {ipfamily, Family}, {server_name, "imem"}, {server_root, Root},
+        {document_root, Root}, {modules, [?MODULE]}, {max_clients, 16}],
+    case inets:start(httpd, Options, stand_alone) of
         {ok, Server} -> {ok, #state{server = Server}};
         {error, Why} -> {stop, {shutdown, {no_metrics, Ip, Port, Why}}}
     end.
@@ -47,7 +48,8 @@ do(_) -> response(404, "there are /metrics and /health\n").
 
 response(Code, Text) ->
     Body = iolist_to_binary(Text),
-    Head = [{code, Code}, {content_type, "text/plain; version=0.0.4"}, {content_length, integer_to_list(byte_size(Body))}],
+    Length = integer_to_list(byte_size(Body)),
+    Head = [{code, Code}, {content_type, "text/plain; version=0.0.4"}, {content_length, Length}],
     {proceed, [{response, {response, Head, Body}}]}.
 
 %% The answers of each module of this node, `none` where it gives none in time.
@@ -62,14 +64,18 @@ metrics(#{listeners := Listeners} = Config) ->
     Modules = [{K, looks(K, Answers, Config)} || {K, Answers} <- told(["about", "stat"], Config)],
     Numbers = [K || {K, _} <- Modules],
     Roles = lists:usort([Role || #{role := Role} <- Listeners]),
+    IsUp = fun(none) -> 0; (_) -> 1 end,
+    Of = fun(Key) -> [{K, map_get(Key, Looks)} || {K, Looks} <- Modules, Looks =/= none] end,
+    Counted = fun(Count) -> [{K, imem_counts:value({Count, K})} || K <- Numbers] end,
+    OfRoles = fun(Count) -> [{Role, imem_counts:value({Count, Role})} || Role <- Roles] end,
     [
-        metric("imem_up", gauge, "1 if the module answers", [{K, case Looks of none -> 0; _ -> 1 end} || {K, Looks} <- Modules]),
-        [metric(Name, Type, Help, [{K, map_get(Key, Looks)} || {K, Looks} <- Modules, Looks =/= none]) || {Name, Type, Help, Key} <- looked()],
-        [metric(Name, counter, Help, [{K, imem_counts:value({Count, K})} || K <- Numbers]) || {Name, Help, Count} <- counted()],
+        metric("imem_up", gauge, "1 if the module answers", [{K, IsUp(Looks)} || {K, Looks} <- Modules]),
+        [metric(Name, Type, Help, Of(Key)) || {Name, Type, Help, Key} <- looked()],
+        [metric(Name, counter, Help, Counted(Count)) || {Name, Help, Count} <- counted()],
         metric("imem_syncs_total", counter, "Two for each group: the least that there were since the server started",
             [{K, 2 * imem_counts:value({groups, K})} || K <- Numbers]),
         roles("imem_clients", gauge, "Clients that are there", [{Role, clients(Role, Listeners)} || Role <- Roles]),
-        [roles(Name, counter, Help, [{Role, imem_counts:value({Count, Role})} || Role <- Roles]) || {Name, Help, Count} <- of_roles()]
+        [roles(Name, counter, Help, OfRoles(Count)) || {Name, Help, Count} <- of_roles()]
     ].
 
 looked() -> [
@@ -96,15 +102,18 @@ of_roles() -> [
     {"imem_wrong_lines_total", "Lines that weren't asked, as they were wrong or not allowed", wrong_lines}
 ].
 
-metric(Name, Type, Help, Values) -> family(Name, Type, Help, "module", [{integer_to_list(K), Value} || {K, Value} <- Values]).
+metric(Name, Type, Help, Values) ->
+    family(Name, Type, Help, "module", [{integer_to_list(K), Value} || {K, Value} <- Values]).
 
-roles(Name, Type, Help, Values) -> family(Name, Type, Help, "role", [{atom_to_list(Role), Value} || {Role, Value} <- Values]).
+roles(Name, Type, Help, Values) ->
+    family(Name, Type, Help, "role", [{atom_to_list(Role), Value} || {Role, Value} <- Values]).
 
 family(Name, Type, Help, Label, Values) ->
     ["# HELP ", Name, " ", Help, "\n# TYPE ", Name, " ", atom_to_list(Type), "\n"
         | [[Name, "{", Label, "=\"", Of, "\"} ", integer_to_list(Value), "\n"] || {Of, Value} <- Values]].
 
-clients(Role, Listeners) -> lists:sum([imem_listener_sup:count(At) || #{at := At, role := Of} <- Listeners, Of =:= Role]).
+clients(Role, Listeners) ->
+    lists:sum([imem_listener_sup:count(At) || #{at := At, role := Of} <- Listeners, Of =:= Role]).
 
 %% What `about` and `stat` say, and how many windows are stuck.
 looks(_, none, _) -> none;

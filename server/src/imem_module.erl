@@ -28,7 +28,11 @@
 -record(line, {from :: pid() | check, key :: key(), asked :: imem_lines:asked()}).
 
 %% Who asks: what isn't in the pipe yet, and the keys of all that is under way.
--record(asker, {monitor :: reference(), queue = queue:new() :: queue:queue(#line{}), under_way = #{} :: #{key() => []}}).
+-record(asker, {
+    monitor :: reference(),
+    queue = queue:new() :: queue:queue(#line{}),
+    under_way = #{} :: #{key() => []}
+}).
 
 -record(state, {
     number :: non_neg_integer(),
@@ -89,8 +93,9 @@ init({K, Config}) ->
 -spec handle_continue(open, #state{}) -> {noreply, #state{}}.
 handle_continue(open, S = #state{number = K, config = #{imem := Imem, modules := Modules} = Config}) ->
     #{K := #{image := Image, backups := Backups, options := Options, env := Env}} = Modules,
-    Words = ["serve", Image, "--watch", "--statuses", "--wait", "5"] ++ [It || Backups =/= none, It <- ["--backups", Backups]],
-    Port = open_port({spawn_executable, Imem}, [{args, Words ++ Options}, {env, Env}, stream, binary, exit_status, use_stdio]),
+    Copies = case Backups of none -> []; _ -> ["--backups", Backups] end,
+    Words = ["serve", Image, "--watch", "--statuses", "--wait", "5"] ++ Copies ++ Options,
+    Port = open_port({spawn_executable, Imem}, [{args, Words}, {env, Env}, stream, binary, exit_status, use_stdio]),
     imem_counts:add({starts, K}),
     _ = erlang:send_after(?TICK, self(), tick),
     Checks = [{"about", about} | imem_program:setup(K, Config)],
@@ -181,7 +186,8 @@ say([], S) -> S;
 say(Lines, S = #state{pipe = Pipe, piped = Piped, heard = Heard}) ->
     Since = case Piped of 0 -> now_ms(); _ -> Heard end,
     Text = [[Line#line.asked#asked.text, $\n] || Line <- Lines],
-    written(Text, S#state{pipe = queue:join(Pipe, queue:from_list(Lines)), piped = Piped + length(Lines), heard = Since}).
+    Longer = queue:join(Pipe, queue:from_list(Lines)),
+    written(Text, S#state{pipe = Longer, piped = Piped + length(Lines), heard = Since}).
 
 %% Never waits for a program that doesn't read.
 written([], S) -> S;
@@ -195,8 +201,10 @@ written(Text, S = #state{port = Port}) ->
     end.
 
 %% A program that says nothing for so long, though lines stand in its pipe, is killed.
-looked_after(S = #state{number = K, config = #{answers_within := Within}, piped = Piped, heard = Heard, port = Port, phase = Phase}) ->
-    case Piped > 0 andalso Phase =/= ended andalso now_ms() - Heard > Within andalso erlang:port_info(Port, os_pid) of
+looked_after(S = #state{phase = ended}) -> S;
+looked_after(S = #state{piped = 0}) -> S;
+looked_after(S = #state{number = K, config = #{answers_within := Within}, heard = Heard, port = Port}) ->
+    case now_ms() - Heard > Within andalso erlang:port_info(Port, os_pid) of
         {os_pid, Pid} ->
             ?LOG_ERROR(#{what => "a program doesn't answer and is killed", module => K, pid => Pid}, ?DOMAIN),
             _ = os:cmd("kill -KILL " ++ integer_to_list(Pid)),
@@ -210,14 +218,14 @@ looked_after(S = #state{number = K, config = #{answers_within := Within}, piped 
 hear(<<"refused ", Refusal/binary>>, {S, Told, Commands}) -> {S#state{refused = Refusal}, Told, Commands};
 hear(Answer, {S, Told, Commands}) ->
     case binary:split(Answer, <<" ">>) of
-        [Who, <<"now ", _/binary>>] -> {Later, More} = heard_later(waiter(Who), Answer, S, Told), {Later, More, Commands};
+        [Who, <<"now ", _/binary>>] -> heard_later(waiter(Who), Answer, S, Told, Commands);
         _ -> heard(queue:out(S#state.pipe), Answer, S, Told, Commands)
     end.
 
-heard_later({E, N} = Waiter, Answer, S = #state{waiters = Waiters}, Told) ->
+heard_later({E, N} = Waiter, Answer, S = #state{waiters = Waiters}, Told, Commands) ->
     case maps:take(Waiter, Waiters) of
-        {From, Others} -> {S#state{waiters = Others}, noted(From, {{now, E, N}, Answer}, Told)};
-        error -> {S, Told}
+        {From, Others} -> {S#state{waiters = Others}, noted(From, {{now, E, N}, Answer}, Told), Commands};
+        error -> {S, Told, Commands}
     end.
 
 waiter(Who) ->
@@ -228,7 +236,8 @@ heard({empty, _}, Answer, _, _, _) -> throw({wrong, {unasked, Answer}});
 heard({{value, #line{from = check, key = Wanted}}, Pipe}, Answer, S = #state{piped = Piped}, Told, Commands) ->
     is_as_wanted(Wanted, Answer, S) orelse throw({wrong, {wrong_image, S#state.number, Answer}}),
     {opened(S#state{pipe = Pipe, piped = Piped - 1}), Told, Commands};
-heard({{value, Line = #line{from = From, key = Key, asked = Asked}}, Pipe}, Answer, S = #state{askers = Askers, piped = Piped}, Told, Commands) ->
+heard({{value, Line}, Pipe}, Answer, S = #state{askers = Askers, piped = Piped}, Told, Commands) ->
+    #line{from = From, key = Key, asked = Asked} = Line,
     S1 = S#state{pipe = Pipe, piped = Piped - 1},
     Many = Commands + is_command(Asked),
     case Askers of
@@ -273,9 +282,9 @@ is_enough(_, _) -> false.
 
 %% ---- The end
 
-%% By status 5 the image is refused for good, and by 2 the command line is bad: starting again is of no use. A program that
-%% was killed is started again at once, or nearly so if it was opening the image. One that ended by itself is waited out:
-%% the image is in use (4), or its disk failed.
+%% By status 5 the image is refused for good, and by 2 the command line is bad: starting again is of no use. A program
+%% that was killed is started again at once, or nearly so if it was opening the image. One that ended by itself is
+%% waited out: the image is in use (4), or its disk failed.
 ended(Status, S = #state{refused = Refused}) when Status =:= 2; Status =:= 5 ->
     over({refused, Status, Refused}, S#state{phase = ended});
 ended(Status, S = #state{number = K, refused = Refused, phase = Phase}) ->

@@ -17,4 +17,8 @@ child(K, Config) ->
 
 %% Whether a module of this node has ended for good.
 -spec is_over(non_neg_integer()) -> boolean().
-is_over(K) -> lists:any(fun({Id, Child, _, _}) -> Id =:= K andalso Child =:= undefined end, supervisor:which_children(?MODULE)).
+is_over(K) ->
+    case lists:keyfind(K, 1, supervisor:which_children(?MODULE)) of
+        {K, undefined, _, _} -> true;
+        _ -> false
+    end.

@@ -5,15 +5,16 @@
 %% written before it in the round. Addresses are interleaved: the cell of address A is with the module A rem M.
 -module(imem_program).
 -export([setup/2, rounds/2, written/3, ended/3]).
--export_type([request/0, placed/0]).
+-export_type([request/0, rounds/0, placed/0]).
 
 -type request() :: {fetch | store | take | put, Address :: non_neg_integer()}.
+-type rounds() :: [{Reads :: [request()], Writes :: [request()]}].
 -type placed() :: {Module :: non_neg_integer(), fetch | store | take | put, Cell :: non_neg_integer()}.
 
 %% The kind and the length of the memory that all elements share.
 -callback block(Arguments :: term()) -> {i | m, pos_integer()}.
 %% The rounds of one of so many elements, which are numbered from 1.
--callback rounds(imem_lines:element(), Many :: pos_integer(), Arguments :: term()) -> [{[request()], [request()]}].
+-callback rounds(imem_lines:element(), Many :: pos_integer(), Arguments :: term()) -> rounds().
 %% The value of a write, by what was read beside it and what was written before it; `none` where nothing was.
 -callback written(Arguments :: term(), none | non_neg_integer(), none | non_neg_integer()) -> non_neg_integer().
 %% What to do once an element is through: since when it was at work, and how long modules were away.
@@ -39,7 +40,8 @@ setup(K, #{cluster := #{number := Cluster, program := {Module, Arguments}}, modu
 rounds(E, #{modules := Modules, cluster := #{program := {Module, Arguments}, elements := Elements}}) ->
     Many = maps:size(Modules),
     Place = fun({Verb, A}) -> {A rem Many, Verb, 3 + A div Many} end,
-    [{lists:map(Place, Reads), lists:map(Place, Writes)} || {Reads, Writes} <- Module:rounds(E, length(Elements), Arguments)].
+    Rounds = Module:rounds(E, length(Elements), Arguments),
+    [{lists:map(Place, Reads), lists:map(Place, Writes)} || {Reads, Writes} <- Rounds].
 
 -spec written(imem_config:config(), none | non_neg_integer(), none | non_neg_integer()) -> non_neg_integer().
 written(#{cluster := #{program := {Module, Arguments}}}, Read, Before) -> Module:written(Arguments, Read, Before).

@@ -17,5 +17,6 @@ init(Config) ->
     imem_counts:new(),
     Below = [imem_module_sup, imem_listener_sup, imem_element_sup],
     Supervisors = [#{id => It, start => {It, start_link, [Config]}, type => supervisor} || It <- Below],
-    Metrics = [#{id => imem_metrics, start => {imem_metrics, start_link, [Config]}} || maps:get(metrics, Config) =/= none],
-    {ok, {#{strategy => one_for_one, intensity => 10, period => 60}, Supervisors ++ Metrics}}.
+    Metrics = #{id => imem_metrics, start => {imem_metrics, start_link, [Config]}},
+    Children = Supervisors ++ [Metrics || map_get(metrics, Config) =/= none],
+    {ok, {#{strategy => one_for_one, intensity => 10, period => 60}, Children}}.

@@ -8,7 +8,7 @@
 -spec block(arguments()) -> {m, pos_integer()}.
 block({_, Counters, _}) -> {m, Counters}.
 
--spec rounds(imem_lines:element(), pos_integer(), arguments()) -> [{[imem_program:request()], [imem_program:request()]}].
+-spec rounds(imem_lines:element(), pos_integer(), arguments()) -> imem_program:rounds().
 rounds(E, _, {_, Counters, Rounds}) ->
     Cells = lists:seq(0, Counters - 1),
     [{[], [{put, A} || A <- Cells, E =:= 1]} | [{[{take, A} || A <- Cells], [{put, A} || A <- Cells]} || _ <- lists:seq(1, Rounds)]].
