@@ -21,4 +21,4 @@ parts(List) -> {Part, Rest} = lists:split(16, List), [Part | parts(Rest)].
 
 -spec written(arguments(), none | non_neg_integer(), none | non_neg_integer()) -> non_neg_integer().
 written(_, none, _) -> 0;
-written(_, Count, _) -> Count + 1.
+written(_, Count, _) when is_integer(Count) -> Count + 1.

@@ -104,6 +104,7 @@ word(Key) -> atom_to_list(Key).
 
 shown(Term) -> io_lib:format("~0tp", [Term]).
 
+-spec wrong(iodata(), term(), iodata()) -> no_return().
 wrong(Where, Given, Expected) -> bad([Where, ": ", shown(Given), ", where ", Expected, " is expected"]).
 
 %% ---- Kinds of values

@@ -121,6 +121,9 @@ common_name(Certificate) ->
     Subject = element(7, element(2, public_key:pkix_decode_cert(Certificate, otp))),
     {rdnSequence, Names} = Subject,
     case [Value || {'AttributeTypeAndValue', {2, 5, 4, 3}, Value} <- lists:append(Names)] of
-        [{_, Name} | _] -> unicode:characters_to_list(Name);
+        [{_, Name} | _] -> named_by(unicode:characters_to_list(Name));
         _ -> none
     end.
+
+named_by(Name) when is_list(Name) -> Name;
+named_by(_) -> none.

@@ -18,7 +18,7 @@ start_clients(Listener, Config) -> supervisor:start_link(?MODULE, {clients, List
 %% The supervisor of the clients beside a listener.
 -spec clients(pid()) -> pid().
 clients(Above) ->
-    {clients, Pid, _, _} = lists:keyfind(clients, 1, supervisor:which_children(Above)),
+    [Pid] = [Pid || {clients, Pid, _, _} <- supervisor:which_children(Above), is_pid(Pid)],
     Pid.
 
 %% How many clients a socket has.

@@ -59,7 +59,7 @@ told(Lines, #{modules := Modules} = Config) ->
 
 %% ---- Metrics
 
--spec metrics(imem_config:config()) -> iodata().
+-spec metrics(imem_config:config()) -> iolist().
 metrics(#{listeners := Listeners} = Config) ->
     Modules = [{K, looks(K, Answers, Config)} || {K, Answers} <- told(["about", "stat"], Config)],
     Numbers = [K || {K, _} <- Modules],

@@ -15,8 +15,8 @@ start_link(Config) ->
 -spec init(imem_config:config()) -> {ok, {supervisor:sup_flags(), [supervisor:child_spec()]}}.
 init(Config) ->
     imem_counts:new(),
-    Below = [imem_module_sup, imem_listener_sup, imem_element_sup],
-    Supervisors = [#{id => It, start => {It, start_link, [Config]}, type => supervisor} || It <- Below],
+    Below = fun(It) -> #{id => It, start => {It, start_link, [Config]}, type => supervisor} end,
     Metrics = #{id => imem_metrics, start => {imem_metrics, start_link, [Config]}},
-    Children = Supervisors ++ [Metrics || map_get(metrics, Config) =/= none],
+    Children = [Below(imem_module_sup)] ++ [Metrics || map_get(metrics, Config) =/= none]
+        ++ [Below(imem_listener_sup), Below(imem_element_sup)],
     {ok, {#{strategy => one_for_one, intensity => 10, period => 60}, Children}}.
