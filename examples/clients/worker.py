@@ -16,7 +16,7 @@ NEXT, SUM, FIRST = 0, 1, 2
 
 
 async def main(address, element, jobs):
-    async with await luntrebis.aio.connect(address) as image:
+    async with await luntrebis.aio.connect(address, patience=600) as image:
         maker, me = image.element(0), image.element(int(element))
         await maker.alloc_m(2)  # The same requests by each worker, under the same numbers: they are done once.
         await maker.alloc_i(int(jobs))

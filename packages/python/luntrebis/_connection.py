@@ -11,14 +11,14 @@ from ._dialogue import Dialogue, Served, served_by
 from ._words import refusal
 
 PAUSE, MOST_PAUSE = 0.05, 0.25  # Seconds between two tries to connect, at first and at most.
-FIRST = 5.0  # Seconds for which the first connection is tried: the server may be starting.
+FIRST, LATER = 5.0, 60.0  # Seconds for which a connection is tried, if the caller doesn't say so.
 FORM = "unix:PATH, tcp:HOST:PORT or tls:HOST:PORT"
 
 
 class Connection(Dialogue):
     """A socket. If its server goes away, it is connected again, for so many seconds."""
 
-    def __init__(self, address: str, tls: Optional[ssl.SSLContext], patience: float) -> None:
+    def __init__(self, address: str, tls: Optional[ssl.SSLContext], patience: Optional[float]) -> None:
         super().__init__()
         found = re.fullmatch(r"unix:(.+)|(tcp|tls):\[?([^\]]+?)\]?:(\d+)", address)
         if not found:
@@ -29,7 +29,8 @@ class Connection(Dialogue):
 
     async def _open(self) -> None:
         """Connects, as soon as there is a server."""
-        until, pause = time.monotonic() + (self.patience if self.starts else min(FIRST, self.patience)), PAUSE
+        patience = (LATER if self.starts else FIRST) if self.patience is None else self.patience
+        until, pause = time.monotonic() + patience, PAUSE
         while True:
             try:
                 if self.path:
@@ -56,5 +57,5 @@ class Connection(Dialogue):
         return refusal(int(number), self.address) if number else None
 
 
-async def begin(address: str, tls: Optional[ssl.SSLContext], patience: float) -> Served:
+async def begin(address: str, tls: Optional[ssl.SSLContext], patience: Optional[float]) -> Served:
     return await served_by(address, Connection(address, tls, patience))

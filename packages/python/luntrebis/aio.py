@@ -121,8 +121,8 @@ async def serve(
     return await begin(path, imem, cells, elements, slots)
 
 
-async def connect(address: str, *, tls: ssl.SSLContext | None = None, patience: float = 60.0) -> Served:
+async def connect(address: str, *, tls: ssl.SSLContext | None = None, patience: float | None = None) -> Served:
     """Connects to a server: `unix:/run/imem.sock`, `tcp:127.0.0.1:7070` or `tls:HOST:PORT`. It needs no library and no
-    program, and has the calls of `Image`. If the server goes away, it is connected again for so many seconds (5 at the
-    beginning), and what isn't answered is asked again. `tls` has the client's certificate and whom it trusts."""
+    program, and has the calls of `Image`. If the server isn't there, it is tried for `patience` seconds (5 at the beginning
+    and 60 later, if that isn't given), and what isn't answered is asked again. `tls` has the client's certificate and whom it trusts."""
     return await _connection.begin(address, tls, patience)
