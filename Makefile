@@ -1,5 +1,5 @@
-.PHONY: check test imem examples demo clients library install uninstall package debian c-examples model trials try try-library \
-        try-tests
+.PHONY: check test imem examples demo clients library install uninstall package debian server c-examples model trials try \
+        try-library try-tests
 
 PREFIX = /usr/local
 LIBDIR = lib
@@ -51,6 +51,10 @@ package: imem library
 
 debian: imem library
 	scripts/debian
+
+# The server for any number of clients, with Erlang, in out/server: docs/SERVER.md. It needs no proof, and `imem` to run.
+server:
+	scripts/server-release
 
 # Programs in C, Rust and Python that use it or its packages, what they print compared with what lies beside them.
 c-examples: library

@@ -91,6 +91,7 @@ def versions():
         "packages/rust/luntrebis-sys/Cargo.toml": r'^version = "(.*)"',
         "packages/rust/luntrebis/Cargo.toml": r'^version = "(.*)"',
         "packages/debian/changelog": r"^luntrebis \(([\d.]+)-",
+        "server/src/imem_server.app.src": r'{vsn, "(.*)"}',
         "CHANGELOG.md": r"^## ([\d.]+)",
     }
     for file, pattern in looks.items():

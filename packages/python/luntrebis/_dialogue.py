@@ -1,8 +1,9 @@
-"""The program behind two pipes, asked by its dialogue: `imem serve`. No library is needed."""
+"""A dialogue: lines that are asked of the program `imem serve`, or of a server. No library is needed."""
 from __future__ import annotations
 
 import asyncio
 import collections
+import contextlib
 import errno
 import os
 import pathlib
@@ -43,34 +44,47 @@ class Line:
 
 
 class Dialogue:
-    """The program, and the lines that aren't answered yet, in the order in which they were asked.
+    """The lines that aren't answered yet, in the order in which they were asked, and whoever answers them: a program
+    (`Program`), or a server (`Connection`).
 
     Lines that are asked before the event loop goes on are written together, so they stand in the pipe together and
-    share their syncs. If the program ends, it is started again, and what isn't answered is sent again, in its order.
+    share their syncs. If the other end goes away, it is opened again, and what isn't answered is sent again, in its
+    order.
     """
 
-    program: asyncio.subprocess.Process
+    reader: asyncio.StreamReader
 
-    def __init__(self, words: list[str]) -> None:
-        self.words, self.is_closed = words, False
+    def __init__(self) -> None:
+        self.is_closed = False
+        self.writer: Optional[asyncio.StreamWriter] = None
         self.under_way: dict[Line, None] = {}
         self.sent: collections.deque[Line] = collections.deque()
         self.waiting: dict[str, list[Line]] = {}
-        self.said: collections.deque[str] = collections.deque(maxlen=5)  # The last lines of standard error.
         self.refused, self.failures, self.starts, self.asked, self.asked_again = "", 0, 0, 0, 0
         self.unwritten: list[Line] = []
         self.fault: Optional[BaseException] = None
+
+    async def _open(self) -> None:
+        """Opens the other end: sets the reader and the writer."""
+        raise NotImplementedError
+
+    async def _ended(self) -> Optional[Exception]:
+        """Is called when nothing more is heard. Returns why it is of no use to open it again, or None."""
+        raise NotImplementedError
+
+    def _say_end(self) -> None:
+        """Says that no line follows."""
+        raise NotImplementedError
 
     async def begin(self) -> None:
         await self._start()
         self.serving = asyncio.create_task(self._serve())
 
     async def end(self) -> None:
-        """Lets the program answer what was sent, and end."""
+        """Lets what was sent be answered, and ends."""
         self._write()
         self.is_closed = True
-        if self.program.stdin:
-            self.program.stdin.close()
+        self._say_end()
         await asyncio.gather(self.serving, return_exceptions=True)
         self._fail(asyncio.CancelledError())
 
@@ -90,59 +104,40 @@ class Dialogue:
 
     def _write(self) -> None:
         lines, self.unwritten = self.unwritten, []
-        stdin = self.program.stdin
-        if lines and stdin and not stdin.is_closing():  # Else they are sent at the next start.
+        if lines and self.writer and not self.writer.is_closing():  # Else they are sent at the next start.
             self.sent.extend(lines)
-            stdin.write("".join(f"{it.text}\n" for it in lines).encode())
+            self.writer.write("".join(f"{it.text}\n" for it in lines).encode())
 
     async def _start(self) -> None:
-        pipe = asyncio.subprocess.PIPE
-        self.program = await asyncio.create_subprocess_exec(*self.words, stdin=pipe, stdout=pipe, stderr=pipe)
+        await self._open()
         self.sent, self.waiting, self.refused = collections.deque(), {}, ""
-        self.said.clear()
         self.asked_again += len(self.under_way) if self.starts else 0
         self.starts += 1
         self.unwritten = list(self.under_way)
-        self.hearing = asyncio.create_task(self._hear_errors(self.program.stderr))
         self._write()
 
-    async def _hear_errors(self, stream: Optional[asyncio.StreamReader]) -> None:
-        while stream and (line := await stream.readline()):
-            self.said.append(line.decode(errors="replace").strip())
-
     async def _serve(self) -> None:
-        """Hears answers, and starts the program again if it ended."""
-        while True:
-            stream = self.program.stdout
-            while stream and (answer := await stream.readline()).endswith(b"\n"):
-                self._hear(answer.decode().split())
-            status = await self.program.wait()
-            await self.hearing
-            self.failures += status >= 0
-            if self.is_closed and (status == 0 or not self._is_any_unserved()):
-                return
-            if status in HOPELESS or self.failures > TRIES or "unsynced" in "".join(self.said):
-                self._fail(self._why(status))
-                return
-            await asyncio.sleep(PAUSE if status >= 0 else 0)
-            await self._start()
-            if self.is_closed and self.program.stdin:
-                self.program.stdin.close()  # It answers what was sent, and ends.
+        """Hears answers, and opens the other end again if it went away."""
+        try:
+            while True:
+                with contextlib.suppress(ConnectionError):
+                    while (answer := await self.reader.readline()).endswith(b"\n"):
+                        self._hear(answer.decode().split())
+                fault = await self._ended()
+                if self.is_closed and not self._is_any_unserved():
+                    return
+                if fault:
+                    self._fail(fault)
+                    return
+                await self._start()
+                if self.is_closed:
+                    self._say_end()  # It answers what was sent, and ends.
+        except OSError as fault:
+            self._fail(fault)
 
     def _is_any_unserved(self) -> bool:
         """Whether a line has no answer, not even that it waits."""
         return len(self.under_way) > sum(map(len, self.waiting.values()))
-
-    def _why(self, status: int) -> Exception:
-        said = "; ".join(it for it in self.said if it)
-        words = self.refused.split()
-        if words and words[0] != "8":
-            return refusal(int(words[0]), "", said)
-        if status == 4:
-            return BlockingIOError(errno.EWOULDBLOCK, said)
-        if "unsynced" in said:
-            return SyncFailed(0, said)
-        return OSError(f"imem ended with status {status}: {said or self.refused or 'it said nothing'}")
 
     def _fail(self, fault: BaseException) -> None:
         """Gives all who wait the fault. Those who are cancelled ask again under their numbers, once it is opened."""
@@ -156,9 +151,9 @@ class Dialogue:
 
     def _hear(self, words: list[str]) -> None:
         """Hears an answer: of requests that waited, or of the oldest line that was sent."""
-        if words[:1] == ["refused"]:
+        if words[:1] == ["refused"] or words[:2] == ["error", "0:"]:
             self.refused = " ".join(words[1:])
-            return  # The program ends.
+            return  # The other end goes away.
         self.failures = 0
         if words[1:2] == ["now"]:
             for line in self.waiting.pop(words[0], []):  # None, if it was sent again just now, and answered so.
@@ -171,6 +166,54 @@ class Dialogue:
     def _answer(self, line: Line, words: list[str]) -> None:
         self.under_way.pop(line, None)
         give(line.future, words)
+
+
+class Program(Dialogue):
+    """The program `imem serve`, behind two pipes. If it ends, it is started again."""
+
+    program: asyncio.subprocess.Process
+
+    def __init__(self, words: list[str]) -> None:
+        super().__init__()
+        self.words = words
+        self.said: collections.deque[str] = collections.deque(maxlen=5)  # The last lines of standard error.
+
+    async def _open(self) -> None:
+        pipe = asyncio.subprocess.PIPE
+        self.program = await asyncio.create_subprocess_exec(*self.words, stdin=pipe, stdout=pipe, stderr=pipe)
+        assert self.program.stdout
+        self.reader, self.writer = self.program.stdout, self.program.stdin
+        self.said.clear()
+        self.hearing = asyncio.create_task(self._hear_errors(self.program.stderr))
+
+    def _say_end(self) -> None:
+        if self.writer:
+            self.writer.close()
+
+    async def _hear_errors(self, stream: Optional[asyncio.StreamReader]) -> None:
+        while stream and (line := await stream.readline()):
+            self.said.append(line.decode(errors="replace").strip())
+
+    async def _ended(self) -> Optional[Exception]:
+        status = await self.program.wait()
+        await self.hearing
+        self.failures += status >= 0
+        if status in HOPELESS or self.failures > TRIES or "unsynced" in "".join(self.said):
+            return self._why(status)
+        if not self.is_closed or self._is_any_unserved():
+            await asyncio.sleep(PAUSE if status >= 0 else 0)
+        return None
+
+    def _why(self, status: int) -> Exception:
+        said = "; ".join(it for it in self.said if it)
+        words = self.refused.split()
+        if words and words[0] != "8":
+            return refusal(int(words[0]), "", said)
+        if status == 4:
+            return BlockingIOError(errno.EWOULDBLOCK, said)
+        if "unsynced" in said:
+            return SyncFailed(0, said)
+        return OSError(f"imem ended with status {status}: {said or self.refused or 'it said nothing'}")
 
 
 class Numbers:
@@ -200,7 +243,8 @@ class Numbers:
 
 
 class Served:
-    """An image behind the program, for the tasks of an event loop. Use `luntrebis.aio.serve`."""
+    """An image behind the program or a server, for the tasks of an event loop. Use `luntrebis.aio.serve` or
+    `luntrebis.aio.connect`."""
 
     def __init__(self, path: str, dialogue: Dialogue) -> None:
         self.path, self.dialogue = path, dialogue
@@ -271,6 +315,8 @@ class Served:
                 reply.cancel()
             elif fault := done.exception():
                 give(reply, fault)
+            elif done.result()[0] == "error":  # A line of requests is well-formed: it isn't allowed here.
+                give(reply, PermissionError(f"{self.path}: {' '.join(done.result()[2:])}"))
             elif done.result()[1] == "refused":
                 number = int(done.result()[2])
                 give(reply, refusal(number, f"{self.path}: {request}", self._why(request, number)))
@@ -377,7 +423,11 @@ async def begin(path: Path, imem: Optional[Path], cells: int, elements: int, slo
         told, said = await made.communicate()
         if made.returncode and not os.path.exists(name):
             raise OSError(f"{name}: {(said or told).decode(errors='replace').strip()}")
-    dialogue = Dialogue([program, "serve", name, "--watch", "--statuses", "--wait", "5"])
+    return await served_by(name, Program([program, "serve", name, "--watch", "--statuses", "--wait", "5"]))
+
+
+async def served_by(name: str, dialogue: Dialogue) -> Served:
+    """Begins a dialogue, and asks how many elements there are."""
     await dialogue.begin()
     served = Served(name, dialogue)
     try:

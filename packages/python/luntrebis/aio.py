@@ -11,7 +11,7 @@
 
 Kill it at any moment and run it again: each element begins at its last `done`, asks the same again, gets the same
 answers, and goes on. `maker` calls no `done`, so it gets the same block each time. `serve` starts the program again, if
-that is killed.
+that is killed. `connect` has the same calls over the socket of a server, and needs no program.
 
 A request that waits can't be withdrawn. `asyncio.wait_for` ends the waiting, but the request stays in the memory, and a
 value that comes goes to it. Put `asyncio.shield` around what you may want to await later.
@@ -19,8 +19,10 @@ value that comes goes to it. Put `asyncio.shield` around what you may want to aw
 from __future__ import annotations
 
 import asyncio
+import ssl
 from typing import Awaitable
 
+from . import _connection
 from ._dialogue import Path, Served, begin
 from ._requests import Requests
 from ._shared import Shared, SharedElement, SharedElementAnew
@@ -117,3 +119,10 @@ async def serve(
     of `Image`. The program is the one that is named, the one in this package, `imem` on the PATH, or that in out/ of
     this checkout. If it ends, it is started again, and asked again what isn't answered."""
     return await begin(path, imem, cells, elements, slots)
+
+
+async def connect(address: str, *, tls: ssl.SSLContext | None = None, patience: float | None = None) -> Served:
+    """Connects to a server: `unix:/run/imem.sock`, `tcp:127.0.0.1:7070` or `tls:HOST:PORT`. It needs no library and no
+    program, and has the calls of `Image`. If the server isn't there, it is tried for `patience` seconds (5 at the beginning
+    and 60 later, if that isn't given), and what isn't answered is asked again. `tls` has the client's certificate and whom it trusts."""
+    return await _connection.begin(address, tls, patience)

@@ -1,0 +1,31 @@
+%% Starts the server in a node of its own: `erl -config FILE -s imem_server`. What is wrong is said in words, and the
+%% node ends: by 2 if its configuration is, by 5 once no module of it can be opened (imem_module).
+-module(imem_server).
+-export([start/0, is_over/1]).
+
+-include("imem.hrl").
+-include_lib("kernel/include/logger.hrl").
+
+-spec start() -> ok.
+start() ->
+    _ = application:load(imem_server),
+    case imem_config:checked(application:get_all_env(imem_server)) of
+        {ok, _} ->
+            {ok, _} = application:ensure_all_started(imem_server, permanent),
+            ok;
+        {error, Words} ->
+            io:format(standard_error, "imem-server: sys.config: ~ts~n", [Words]),
+            halt(2)
+    end.
+
+%% A module that can't be opened for good is left away. A node that has nothing else to do ends.
+-spec is_over(imem_config:config()) -> ok.
+is_over(#{modules := Modules, cluster := Cluster}) ->
+    Own = [K || {K, #{node := Node}} <- maps:to_list(Modules), Node =:= node()],
+    Seats = case Cluster of none -> []; #{elements := All} -> [E || {E, Nodes} <- All, lists:member(node(), Nodes)] end,
+    case Seats =:= [] andalso lists:all(fun imem_module_sup:is_over/1, Own) of
+        true ->
+            ?LOG_ERROR(#{what => "no module of this node can be opened: it ends"}, ?DOMAIN),
+            init:stop(5);
+        false -> ok
+    end.
