@@ -11,15 +11,16 @@ def sum_of(above, left):
 
 
 def wavefront(size=16):
-    """Each cell of a square is the sum of the cell above and the cell to the left; 1 at the upper and left edges."""
-    graph, rows = Graph(), []
-    for row in range(size):
-        rows.append([])
-        for column in range(size):
-            inner = row and column
-            added = graph.node(sum_of, rows[row - 1][column], rows[row][column - 1]) if inner else graph.number(1)
-            rows[row].append(added)
-    graph.give("corner", rows[-1][-1])
+    """Each cell of a square is the sum of the cell above and the cell to the left; 1 at the upper and left edges. The
+    nodes stand diagonal by diagonal: those of one don't wait for each other."""
+    graph = Graph()
+    cells = [[graph.arc() for _ in range(size)] for _ in range(size)]
+    for row, column in sorted(((row, column) for row in range(size) for column in range(size)), key=sum):
+        if row and column:
+            graph.node(sum_of, cells[row - 1][column], cells[row][column - 1], writes=cells[row][column])
+        else:
+            graph.node(int, 1, writes=cells[row][column])
+    graph.give("corner", cells[-1][-1])
     return graph, {"corner": math.comb(2 * size - 2, size - 1) % MOST}
 
 
@@ -43,20 +44,21 @@ def histogram(size=60):
     return graph, {"last": number, **{f"sum {at}": it for at, it in enumerate(counts)}}
 
 
+def root(graph, number, guess):
+    """Newton's square root of a number, from a guess that isn't too small. It ends when the guess falls no more."""
+
+    def better(last, guess):
+        return guess, (guess + number // guess) // 2
+
+    return graph.loop(9, 2, better, number + 1, guess, goes=lambda last, guess: guess < last)[0]
+
+
 def roots(size=8):
-    """Square roots by Newton's method. The function unfolds at each call, and its loop ends by a condition."""
+    """Square roots: a function that unfolds at each call, with a loop that ends by a condition."""
     graph, numbers = Graph(), [(97 + 1_009 * at**3) % 900_001 for at in range(size)]
-
-    def root(number):
-        def better(_, guess):
-            return guess, (guess + number // guess) // 2
-
-        first = (1 << (number_of[number].bit_length() + 1) // 2)
-        return graph.loop(9, 2, better, number + 1, graph.number(first), goes=lambda last, guess: guess < last)[0]
-
-    number_of = {graph.number(it): it for it in numbers}
-    for at, number in enumerate(number_of):
-        graph.give(f"root {at}", root(number))
+    for at, number in enumerate(numbers):
+        guess = 1 << (number.bit_length() + 1) // 2
+        graph.give(f"root {at}", root(graph, graph.number(number), graph.number(guess)))
     return graph, {f"root {at}": math.isqrt(it) for at, it in enumerate(numbers)}
 
 
