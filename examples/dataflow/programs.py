@@ -87,22 +87,23 @@ def sorting(size=16):
 
 
 def product(size=5):
-    """A product of matrices: each of its elements is a loop of its own, of which two iterations are under way at once."""
+    """A product of matrices: each of its elements is a loop of its own, at most two iterations of it at once."""
     graph = Graph()
     left = [[1 + (3 * row + at) % 7 for at in range(size)] for row in range(size)]
     right = [[1 + (at + 5 * column) % 9 for column in range(size)] for at in range(size)]
     arcs = [[[graph.number(it) for it in row] for row in matrix] for matrix in (left, right)]
     for row in range(size):
         for column in range(size):
-            places = iter(range(size))
+            steps = iter(range(size))
 
             def add(total):
-                at = next(places)
+                at = next(steps)
                 return total + arcs[0][row][at] * arcs[1][at][column]
 
             graph.give(f"{row} {column}", graph.loop(size, 2, add, 0))
-    wanted = {f"{row} {column}": sum(left[row][at] * right[at][column] for at in range(size)) for row in range(size) for column in range(size)}
-    return graph, wanted
+    places = [(row, column) for row in range(size) for column in range(size)]
+    sums = [sum(left[row][at] * right[at][column] for at in range(size)) for row, column in places]
+    return graph, {f"{row} {column}": it for (row, column), it in zip(places, sums)}
 
 
 PROGRAMS = {it.__name__: it for it in (wavefront, histogram, roots, sorting, product)}

@@ -14,8 +14,10 @@ PRAGMA synchronous = FULL;
 CREATE TABLE IF NOT EXISTS cell (at INTEGER PRIMARY KEY, value INTEGER);
 CREATE TABLE IF NOT EXISTS waiter (place INTEGER PRIMARY KEY, at INTEGER, element INTEGER, number INTEGER);
 CREATE INDEX IF NOT EXISTS waiter_at ON waiter (at);
-CREATE TABLE IF NOT EXISTS entry (element INTEGER, number INTEGER, tag INTEGER, at INTEGER, answer INTEGER, value INTEGER,
-                                  PRIMARY KEY (element, number)) WITHOUT ROWID;
+CREATE TABLE IF NOT EXISTS entry (
+    element INTEGER, number INTEGER, tag INTEGER, at INTEGER, answer INTEGER, value INTEGER,
+    PRIMARY KEY (element, number)
+) WITHOUT ROWID;
 CREATE TABLE IF NOT EXISTS window (element INTEGER PRIMARY KEY, base INTEGER, next INTEGER);
 """
 
@@ -29,10 +31,12 @@ class SqliteMemory:
 
     def report(self):
         """Returns what the machine reads of a report of an image."""
-        full = [f"cell {at} full {value}" for at, value in self.do("SELECT * FROM cell WHERE value IS NOT NULL")]
-        kept = [f"element {element} base {base} kept {after - base}" for element, base, after in self.do("SELECT * FROM window")]
+        windows = self.do("SELECT * FROM window").fetchall()
         waits = self.do("SELECT element, number, at FROM entry WHERE answer IS NULL AND tag = ?", (Tag.FETCH,))
-        return "\n".join([*full, *kept, *(f"entry {element}.{number} fetch {at} -> waiting" for element, number, at in waits)])
+        lines = [f"cell {at} full {value}" for at, value in self.do("SELECT * FROM cell WHERE value IS NOT NULL")]
+        lines += [f"element {element} base {base} kept {after - base}" for element, base, after in windows]
+        lines += [f"entry {element}.{number} fetch {at} -> waiting" for element, number, at in waits]
+        return "\n".join(lines)
 
     def ask(self, request):
         future = asyncio.get_running_loop().create_future()
@@ -54,9 +58,9 @@ class SqliteMemory:
                     future.set_result(None)
                 else:
                     self.waiting[request.element, request.number] = future
-            for element, number, answer, value in await asyncio.to_thread(self.serve, [it for it, _ in asked]):
-                if (element, number) in self.waiting:
-                    self.waiting.pop((element, number)).set_result(Reply(Answer(answer), value or 0, f"{element}.{number}"))
+            for of, answer, value in await asyncio.to_thread(self.serve, [it for it, _ in asked]):
+                if of in self.waiting:
+                    self.waiting.pop(of).set_result(Reply(Answer(answer), value or 0, f"{of[0]}.{of[1]}"))
         self.worker = None
 
     def serve(self, requests):
@@ -68,15 +72,16 @@ class SqliteMemory:
                 self.do("DELETE FROM entry WHERE element = ? AND number < ?", request[1:])
                 self.do("UPDATE window SET base = ? WHERE element = ?", (request[2], request[1]))
                 continue
-            kept = self.do("SELECT answer, value FROM entry WHERE element = ? AND number = ?", (request.element, request.number)).fetchone()
+            of = request.element, request.number
+            kept = self.do("SELECT answer, value FROM entry WHERE element = ? AND number = ?", of).fetchone()
             if not kept:
                 kept = self.act(request, answered)
-                self.do("INSERT INTO entry VALUES (?, ?, ?, ?, ?, ?)", (request.element, request.number, request.tag, request.address, *kept))
+                self.do("INSERT INTO entry VALUES (?, ?, ?, ?, ?, ?)", (*of, request.tag, request.address, *kept))
                 windows[request.element] = request.number + 1
             if kept[0] is not None:
-                answered.append((request.element, request.number, *kept))
-        for element, after in windows.items():
-            self.do("INSERT INTO window VALUES (?, 1, ?) ON CONFLICT (element) DO UPDATE SET next = excluded.next", (element, after))
+                answered.append((of, *kept))
+        renewed = "INSERT INTO window VALUES (?, 1, ?) ON CONFLICT (element) DO UPDATE SET next = excluded.next"
+        self.base.executemany(renewed, windows.items())
         self.do("COMMIT")
         return answered
 
@@ -91,7 +96,7 @@ class SqliteMemory:
         if tag in (Tag.STORE, Tag.PUT):
             return (Answer.CLASH if value is not None else self.write(request, answered)), None
         if value is None:
-            self.do("INSERT INTO waiter (at, element, number) VALUES (?, ?, ?)", (at, request.element, request.number))
+            self.do("INSERT INTO waiter VALUES (NULL, ?, ?, ?)", (at, request.element, request.number))
             return None, None
         if tag == Tag.TAKE:
             self.do("UPDATE cell SET value = NULL WHERE at = ?", (at,))
@@ -100,11 +105,13 @@ class SqliteMemory:
     def write(self, request, answered):
         """Stores or puts a value, and answers all that wait, or the first."""
         most = -1 if request.tag == Tag.STORE else 1
-        came = self.do("SELECT place, element, number FROM waiter WHERE at = ? ORDER BY place LIMIT ?", (request.address, most)).fetchall()
-        for place, element, number in came:
+        first = "SELECT place, element, number FROM waiter WHERE at = ? ORDER BY place LIMIT ?"
+        reply = "UPDATE entry SET answer = ?, value = ? WHERE element = ? AND number = ?"
+        came = self.do(first, (request.address, most)).fetchall()
+        for place, *of in came:
             self.do("DELETE FROM waiter WHERE place = ?", (place,))
-            self.do("UPDATE entry SET answer = ?, value = ? WHERE element = ? AND number = ?", (Answer.VALUE, request.value, element, number))
-            answered.append((element, number, Answer.VALUE, request.value))
+            self.do(reply, (Answer.VALUE, request.value, *of))
+            answered.append((tuple(of), Answer.VALUE, request.value))
         if request.tag == Tag.STORE or not came:
             self.do("UPDATE cell SET value = ? WHERE at = ?", (request.value, request.address))
         return Answer.STORED
