@@ -4,10 +4,10 @@ from html import escape
 
 INK, RED = "#1f2933", "#b3261e"
 PALE, BLUE, AMBER, GREEN, PINK, WHITE = "", "u", "y", "g", "p", "o"  # classes of boxes
-FULL, WAITING, CLASHED = "e", "w", "c"  # of cells
+FULL, WAITING, CLASHED, CELL = "e", "w", "c", "k"  # of cells
 RULES = {  # of each class; a picture has those that it uses
     BLUE: "fill:#dbe9f6", AMBER: "fill:#fdeccb", GREEN: "fill:#dff1e1", PINK: "fill:#f9dedc", WHITE: "fill:#fff",
-    "e": "fill:#62b879", "w": "fill:#efb13f", "c": "fill:#d4564e",
+    "e": "fill:#62b879", "w": "fill:#efb13f", "c": "fill:#d4564e", "k": "stroke:#9aa5b1",
     "b": "font-weight:600", "s": "font-size:11px", "r": f"fill:{RED}", "m": "text-anchor:middle",
     "h": "paint-order:stroke;stroke:#fff;stroke-width:4px", "d": "stroke-dasharray:5 4",
 }

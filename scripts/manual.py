@@ -1,5 +1,6 @@
 """Makes the manual's pages and the completions of the shells from imem's help, the headers, and docs/FORMAT.md.
 `pages(imem, ..)` and `completions(imem)` give each file's path below share/ with its text."""
+import ast
 import itertools
 import re
 import subprocess
@@ -9,7 +10,7 @@ import headers
 import packaging
 from sources import TOP
 
-OF_USE = "TUTORIAL SCRIPTS SERVE SERVER EMBEDDING CLUSTER CRASH MIGRATION PERFORMANCE"
+OF_USE = "TUTORIAL SCRIPTS SERVE SERVER EMBEDDING DATAFLOW CLUSTER CRASH MIGRATION PERFORMANCE"
 DOCUMENTS = f"{OF_USE} FORMAT DETERMINACY PROVED RELIABILITY".split()  # That are installed.
 BULLET = "\\(bu"
 NOTHING = "\\&"
@@ -244,6 +245,16 @@ def page_of_format():
     return finished([*lines, ".SH DESCRIPTION", *of_markdown(text), *see_also(others)])
 
 
+def page_of_draw():
+    """Returns the page of imem-draw, from what the script says of itself."""
+    said = ast.get_docstring(ast.parse((TOP / "scripts" / "draw-image").read_text())).format(name="imem-draw")
+    about, usage, *rest = said.split("\n\n")
+    lines = heading("imem-draw", "1", "draws an image, or plays the trace of a run")
+    shown = indented([f"  {it.removeprefix('usage:').strip()}" for it in usage.splitlines()])
+    text = [".SH SYNOPSIS", *shown, ".SH DESCRIPTION", *prose("\n\n".join([about, *rest]))]
+    return finished([*lines, *text, *see_also([("imem", "1"), ("imem-run", "1")])])
+
+
 def placed(text, doc):
     """Returns a page that names its documents where they are installed."""
     return re.sub(rf"\bdocs/({'|'.join(DOCUMENTS)})\.md", rf"{doc}/docs/\1.md", text)
@@ -255,6 +266,7 @@ def pages(imem, has_library=True, doc="docs"):
     made = {"man/man5/imem-image.5": page_of_format()}
     if imem:
         made.update(pages_of_help(imem))
+        made["man/man1/imem-draw.1"] = page_of_draw()
     if has_library:
         made["man/man3/luntrebis.3"] = page_of_headers()
     return {path: placed(text, doc) for path, text in made.items()}

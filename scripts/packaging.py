@@ -1,8 +1,10 @@
 """What the packages are made of, for the scripts beside this file: the version, and the library in its two forms."""
 import email.utils
+import io
 import re
 import subprocess
 import tempfile
+import zipfile
 from pathlib import Path
 
 import headers
@@ -31,6 +33,17 @@ def date():
 def names():
     """Returns each call that a program may make."""
     return sorted(name for calls in headers.calls().values() for name in calls)
+
+
+def packed(script, files):
+    """Returns a script of this folder and the files that it needs as one file, which Python runs."""
+    held = io.BytesIO()
+    with zipfile.ZipFile(held, "w", zipfile.ZIP_DEFLATED) as to:
+        for name in [script, *files]:
+            told = zipfile.ZipInfo("__main__.py" if name == script else name)  # Of the year 1980, whenever it is made.
+            told.compress_type = zipfile.ZIP_DEFLATED
+            to.writestr(told, (TOP / "scripts" / name).read_bytes())
+    return b"#!/usr/bin/env python3\n" + held.getvalue()
 
 
 def take_apart(archive, folder):

@@ -4,8 +4,8 @@ import re
 from sources import TOP
 
 WIDEST, LARGEST, LONGEST = 120, 40, 45  # columns of a line, KB of a page, words of a sentence
-USERS = ("README.md", *(f"docs/{it}.md" for it in "TUTORIAL SCRIPTS SERVE SERVER EMBEDDING CLUSTER MIGRATION DETERMINACY".split()))
-SHORT = ("README.md", *(f"docs/{it}.md" for it in "TUTORIAL SCRIPTS SERVE SERVER EMBEDDING".split()))
+USERS = ("README.md", *(f"docs/{it}.md" for it in "TUTORIAL SCRIPTS SERVE SERVER EMBEDDING DATAFLOW CLUSTER MIGRATION DETERMINACY".split()))
+SHORT = ("README.md", *(f"docs/{it}.md" for it in "TUTORIAL SCRIPTS SERVE SERVER EMBEDDING DATAFLOW".split()))
 LARGE = {"docs/DECISIONS.md": 70, "docs/GATE.md": 3}
 
 

@@ -413,16 +413,30 @@ def valued(asked: asyncio.Future[Reply]) -> asyncio.Future[int]:
     return value
 
 
+async def make(program: str, name: str, sizes: list[str]) -> None:
+    """Makes an image under another name, and gives it its own once it is whole: a kill leaves none that is half made."""
+    fresh, pipe = f"{name}.new", asyncio.subprocess.PIPE
+    made = await asyncio.create_subprocess_exec(program, "format", fresh, *sizes, stdout=pipe, stderr=pipe)
+    told, said = await made.communicate()
+    if os.path.exists(name):  # Another program was first.
+        return
+    if made.returncode:
+        raise OSError(f"{name}: {(said or told).decode(errors='replace').strip()}")
+    with contextlib.suppress(FileExistsError):
+        os.link(fresh, name)
+    os.unlink(fresh)
+    folder = os.open(os.path.dirname(name) or ".", os.O_RDONLY)
+    try:
+        os.fsync(folder)
+    finally:
+        os.close(folder)
+
+
 async def begin(path: Path, imem: Optional[Path], cells: int, elements: int, slots: int) -> Served:
     """Starts the program on an image, which is made if nothing is at the path."""
     program, name = find_program(imem), os.fsdecode(path)
     if not os.path.exists(name):
-        sizes = ["--cells", str(cells), "--elements", str(elements), "--slots", str(slots)]
-        pipe = asyncio.subprocess.PIPE
-        made = await asyncio.create_subprocess_exec(program, "format", "--new", name, *sizes, stdout=pipe, stderr=pipe)
-        told, said = await made.communicate()
-        if made.returncode and not os.path.exists(name):
-            raise OSError(f"{name}: {(said or told).decode(errors='replace').strip()}")
+        await make(program, name, ["--cells", str(cells), "--elements", str(elements), "--slots", str(slots)])
     return await served_by(name, Program([program, "serve", name, "--watch", "--statuses", "--wait", "5"]))
 
 
