@@ -21,9 +21,6 @@ module _ {D : Type 0} (disk : Ghosts D) (old : D) (engine : EngineState D) (sess
     (honest : disk.honest engine.disk → disk.honest old)
     (memory : let m = session.engine.memory in IsMemory (length m.cells) (length m.windows) m)
     (pending : before.pending.items ≡ []) (none : waited ≡ []) (no_bases : bases ≡ []) (line : lines ≡ before) where
-  abbrev begins : SessionState D
-  begins = session_of (start_at engine.disk engine) [] [] engine
-
   pub opened_by : HasOpened disk old (server_of same held lines waited marks) bases
   opened_by = subst (λ (t : SessionState D). HasOpened disk old (server_of t held lines waited marks) bases)
       (sym (sessions ∙ begun)) (record {

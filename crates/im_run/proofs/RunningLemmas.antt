@@ -57,11 +57,6 @@ module _ {D : Type 0} (start : EngineState D) where
   after_is : (m n : Contents) (count many : ℕ) (file : List ℕ) → m ≡ n → count ≡ many → Means m count 0 file → Means n many 0 file
   after_is m n count many file same counts means = subst (λ (x : Contents). Means x many 0 file) same (subst (λ (k : ℕ). Means m k 0 file) counts means)
 
-  all_of : (put : List Command) (many : ℕ) (file : List ℕ) → many ≡ length put → MeansAfter start put many file → MeansAll start put file
-  all_of put many file is means =
-      after_is (after start.memory (take many put)) (after start.memory put) (start.count + many) (start.count + length put) file
-      (ap (after start.memory) (take_all many put (omega (arith, is)))) (omega (arith, is)) means
-
   -- after a beginning of more commands
   longer : (put more : List Command) (file : List ℕ) → MeansBeginning start put file → MeansBeginning start (put ++ more) file
   longer put more file it = let within : it.0 ≤ length put = it.1 in (
@@ -321,6 +316,7 @@ module _ {D : Type 0} (disk : Ghosts D) where
       → Closes mid lines is t.engine.memory did status → calls.served ≡ []
       → (left : List Wanted) → SetsUp once start.memory script (t.put ++ t.doubt) left
       → RunOn disk.now disk.past disk.failures once planned script start new was is calls status
+  unfolding put_on
   halted_run once planned script start t course waited text was mid is lines did new calls status over kept h
       prints none at_end works means never closes unserved left set_up_by =
       let on = put_on disk start t.engine t.put t.doubt (set_up disk start t over.start_is kept) h in

@@ -18,6 +18,20 @@ rests_then {D} a b c first second = record {
   memory = second.memory ∙ first.memory;
 }
 
+-- a turn that is done leaves it open whether the engine works
+pub turn_works : {D : Type 0} (mid new : EngineState D) (a : Result TurnDone Refusal) (done : TurnDone)
+    → TurnAnswered mid a new → a ≡ Ok done → new.failed ≡ mid.failed
+turn_works {D} mid new a done it is = ⊎_elim
+    (λ dead. absurd (ok_err done Failed (sym is ∙ (it.dead dead).0)))
+    (λ f. ⊎_elim
+    (λ taken. taken.2.alive ∙ sym f)
+    (λ fault. absurd (ok_err done Device (sym is ∙ fault.0)))
+    (it.alive f))
+    (true_or_false mid.failed)
+  where
+    ok_err : (d : TurnDone) (e : Refusal) → Ok d ≡ Err e → ⊥
+    ok_err d e is = cc
+
 -- a turn that is refused
 pub broken : {D : Type 0} (mid new : EngineState D) (a : Result TurnDone Refusal) (e : Refusal) → TurnAnswered mid a new
     → a ≡ Err e → IsBroken e × (new.failed ≡ true)
