@@ -46,7 +46,7 @@ broken {D} mid new a e it is = ⊎_elim
     (it.alive f))
     (true_or_false mid.failed)
   where
-    same : (e r : Refusal) → Err e ≡ Err r → e ≡ r
+    same : (e r : Refusal) → ◌≡◌ {A = Result TurnDone Refusal} (Err e) (Err r) → e ≡ r
     same e r is = cc
 
     other : (e : Refusal) (d : TurnDone) → Err e ≡ Ok d → ⊥

@@ -19,7 +19,7 @@ use Rattle.im_session.specs.Put.{doubted_by, sure_by}
 use Rattle.im_session.specs.Kept.{SessionState, session_of}
 use Rattle.im_session.specs.Serving.{CommandRefused, CommandServed, Rests, served_one}
 
-ok_err : {T : Type 0} (x : T) (e : Refusal) → Ok {E = Refusal} x ≡ Err e → ⊥
+ok_err : (x : Outcome) (e : Refusal) → ◌≡◌ {A = Result Outcome Refusal} (Ok x) (Err e) → ⊥
 ok_err x e is = cc
 
 -- an answer that is no refusal is the step's

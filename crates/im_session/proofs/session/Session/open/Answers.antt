@@ -1,6 +1,6 @@
 use Rattle.std.proofs.Common.{◌∙◌, ap, refl, sym}
 use Rattle.im_session.specs.Kept.{SessionState}
-use Rattle.im_session.proofs.opening.Session.open.Goals as goal
+use Rattle.im_session.proofs.session.Session.open.Goals as goal
 
 pub returns-in-Ok-clause-opened : goal.returns-in-Ok-clause-opened
 returns-in-Ok-clause-opened g c =

@@ -2,7 +2,7 @@ use Rattle.std.proofs.Common.{◌∙◌, [], refl}
 use Rattle.im_turning.specs.Turning.{point_of}
 use Rattle.im_turning.proofs.TurningLemmas.{idle_there, turn_leads, turned_more}
 use Rattle.im_session.proofs.RoomLemmas.{broken, rests_none, rests_then, turn_works}
-use Rattle.im_session.proofs.room.Session.make_room.Goals as goal
+use Rattle.im_session.proofs.session.Session.make_room.Goals as goal
 
 pub loop-turn-init : goal.loop-turn-init
 loop-turn-init g c = (rests_none c.args.self.now, refl, ([], (refl, refl)))
