@@ -1,5 +1,5 @@
 -- What an opening finds after a crash of a session's disk.
-use Rattle.std.proofs.Common.{◌≡◌, ◌⊎◌, inl, inr, ⊎_elim, ℕ, List, [], ◌++◌, Result, Ok, Err, IfOk, IfErr, refl, sym, subst}
+use Rattle.std.proofs.Common.{◌≡◌, ◌⊎◌, ◌+◌, inl, inr, ⊎_elim, ℕ, List, [], ◌++◌, length, Result, Ok, Err, IfOk, IfErr, refl, sym, subst}
 use Rattle.std.proofs.lemmas.List.{append-nil}
 use Rattle.im_types.specs.declared.commands.Command.{Command}
 use Rattle.im_types.specs.declared.refusals.Refusal.{Refusal}
@@ -33,11 +33,16 @@ module _ {D : Type 0} (s : SessionState D) (left : List ℕ → Type 0)
           let same = one e.disk.moment.bytes e.memory (after s.start.memory (s.put ++ also)) e.count _ e.room 0 means it in
           record { also = also; or_not = or_not; memory = same.0; count = same.1 }
 
+  none_refused : NoFault → (e : Refusal) (file : List ℕ) → IsFirstFault e file → MeansEnd s file → ⊥
+  none_refused none e file fault (inl it) =
+      none file e (after s.start.memory s.put) (s.start.count + length s.put) 0 fault it
+  none_refused none e file fault (inr it) =
+      none file e (after s.start.memory (s.put ++ s.doubt)) (s.start.count + length (s.put ++ s.doubt)) 0 fault it
+
   pub session_refused : {X : Type 0} (r : Result X Refusal) → NoFault
       → IfErr r (λ e. (e ≡ NoMemory) ⊎ (e ≡ Device) ⊎ ((file : List ℕ) × left file × IsFirstFault e file))
       → IfErr r (λ e. HasNoRoom e)
   session_refused (Ok x) none it = tt
   session_refused (Err e) none it = ⊎_elim (λ want. inl want)
       (λ more. ⊎_elim (λ device. inr device)
-      (λ fault. absurd (⊎_elim (λ without. none fault.0 e _ _ 0 fault.2 without) (λ all. none fault.0 e _ _ 0 fault.2 all)
-      (said fault.0 fault.1))) more) it
+      (λ fault. absurd (none_refused none e fault.0 fault.2 (said fault.0 fault.1))) more) it
