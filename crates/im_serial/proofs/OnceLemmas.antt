@@ -20,7 +20,7 @@ use Rattle.im_types.specs.Window.{bounds, next_number}
 use Rattle.im_types.specs.declared.commands.Command.{Command}
 use Rattle.im_types.specs.Run.{after}
 use Rattle.im_disk.specs.declared.disk.Disk.{Ghosts}
-use Rattle.im_session.specs.Kept.{IsFresh, Kept, SessionStart, SessionState, session_of, start_at}
+use Rattle.im_session.specs.Kept.{IsFresh, Kept as SessionKept, SessionStart, SessionState, session_of, start_at}
 use Rattle.im_laws.proofs.Tests.{and_both}
 use Rattle.im_laws.proofs.WindowLemmas.{kept_for-window}
 use Rattle.im_text.specs.declared.lines.Lines.{Lines}
@@ -862,7 +862,7 @@ module _ {D : Type 0} where
 
   module _ (disk : Ghosts D) (script : List ℕ) (t : SessionState D) (end : D) (status : ℕ)
       (held mid is was : Option (List ℕ)) (before later final : Lines) (noted waited : List Waited) (marks : List Mark)
-      (kept : Kept disk t) (at_end : end ≡ t.engine.disk) (works : status ≡ 0 → t.engine.failed ≡ false)
+      (kept : SessionKept disk t) (at_end : end ≡ t.engine.disk) (works : status ≡ 0 → t.engine.failed ≡ false)
       (ended : EndedOnce t.start (wanted_of script) was (server_of t held before noted marks))
       (done : status ≡ 0 → DoneOnce t.start (wanted_of script) was (server_of t held before noted marks))
       (same : map who_of waited ≡ map who_of noted)
@@ -933,6 +933,7 @@ module _ {D : Type 0} where
         }
 
     by_status : (n : ℕ) → status ≡ n → ServedOnce disk script t.start.disk end was is status
+    unfolding over_here
     by_status zero none =
         let g = done none in
         let s = standing (Some (course_of m wanted)) g.bases [] in

@@ -197,7 +197,7 @@ module _ {D : Type 0} (start : SessionStart D) where
           it.doubt
 
   -- it is ended where it goes on
-  pub over_here : (t : SessionState D) (s : Standing) (text : List ℕ) (n : Notes) → IsServing start t s text n
+  unfoldable pub over_here : (t : SessionState D) (s : Standing) (text : List ℕ) (n : Notes) → IsServing start t s text n
       → IsOver start t s.script text n.waited
   over_here t s text n was = record {
     start_is = was.start_is;
@@ -249,15 +249,15 @@ module _ {D : Type 0} (start : SessionStart D) where
     put_by : (l : List Command) → accepted found (confirm ∷ []) ≡ l → new.put ≡ old.put ++ l
     put_by l is = ap (λ (t : SessionState D). t.put) it.same ∙ ap (λ (k : List Command). old.put ++ k) is
 
-    start_is : new.start ≡ start
-    start_is = ap (λ (t : SessionState D). t.start) it.same ∙ was.start_is
+    begun_is : new.start ≡ start
+    begun_is = ap (λ (t : SessionState D). t.start) it.same ∙ was.start_is
 
-    sure : new.doubt ≡ []
-    sure = ap (λ (t : SessionState D). t.doubt) it.same ∙ was.sure
+    undoubted : new.doubt ≡ []
+    undoubted = ap (λ (t : SessionState D). t.doubt) it.same ∙ was.sure
 
     dropped : is_accepted found confirm ≡ true → IsServing start new s text (notes waited marks)
     dropped e = serving_with new s text (notes waited marks) (old.put ++ confirm ∷ [])
-        (put_by (confirm ∷ []) (ap (λ (b : Bool). if b then confirm ∷ [] else []) e)) start_is it.works sure
+        (put_by (confirm ∷ []) (ap (λ (b : Bool). if b then confirm ∷ [] else []) e)) begun_is it.works undoubted
         (it.memory ∙ ap (λ (x : Contents). (step x confirm).contents) was.memory
         ∙ sym (after-append start.memory old.put (confirm ∷ [])))
         (was.lines ∙ lines_confirmed start.memory old.put element upto)
@@ -276,7 +276,7 @@ module _ {D : Type 0} (start : SessionStart D) where
     nothing e =
         let still : (step found confirm).contents ≡ found = unaccepted-leaves found confirm e in
         serving_with new s text (notes waited marks) old.put
-        (put_by [] (ap (λ (b : Bool). if b then confirm ∷ [] else []) e) ∙ append-nil old.put) start_is it.works sure
+        (put_by [] (ap (λ (b : Bool). if b then confirm ∷ [] else []) e) ∙ append-nil old.put) begun_is it.works undoubted
         (it.memory ∙ still ∙ was.memory) was.lines was.names was.reached was.named
         (if_any s.script (IsRecorded start.memory old.put learning) (IsRecorded start.memory old.put (notes waited marks))
         (λ r. record {
@@ -491,9 +491,9 @@ drops_then (Err e) element upto old new waited learned marks later first served 
     confirm_over start old new element upto refused s text (learnt learned later element upto) (first start s text was)
 
 -- nothing changes, and it is ended
-pub unprepared : {D T E : Type 0} (e : E) (t : SessionState D) (waited : List Waited) (marks : List Mark)
+pub unprepared : {D : Type 0} (T : Type 0) {E : Type 0} (e : E) (t : SessionState D) (waited : List Waited) (marks : List Mark)
     → MakesPlace {T = T} (Err e) t waited marks t waited marks
-unprepared e t waited marks = λ start s text was. over_here start t s text (notes waited marks) was
+unprepared T e t waited marks = λ start s text was. over_here start t s text (notes waited marks) was
 
 -- what a window is found to be, unless the engine has failed
 pub window_found : {X : Type 0} (failed : Bool) (result found : Result X Refusal) (x : X)
@@ -819,6 +819,7 @@ module _ {D : Type 0} where
       → (last : List ℕ) × (IsLast last × Prints from is final (text ++ last)))
       → (status ≡ 0 → (from : Option (List ℕ)) (text : List ℕ) → Prints from mid later text → Appends from is text)
       → ServedScript disk script t.start.disk end was is status
+  unfolding over_here
   closed disk script bases t end status held mid is was before later final noted waited marks kept at_end works ended
       going same learn some all last whole = by_status status refl
     where

@@ -14,7 +14,7 @@ use Rattle.im_types.specs.Contents.{Contents, kept_for}
 use Rattle.im_types.specs.Memory.{IsMemory}
 use Rattle.im_disk.specs.Since.{LeavesNow}
 use Rattle.im_disk.specs.declared.disk.Disk.{Ghosts}
-use Rattle.im_session.specs.Kept.{IsFresh, Kept, SessionStart, SessionState}
+use Rattle.im_session.specs.Kept.{IsFresh, Kept as SessionKept, SessionStart, SessionState}
 use Rattle.im_text.specs.declared.replies.Waited.{Waited}
 use Rattle.im_text.specs.declared.lines.Lines.{Lines}
 use Rattle.im_text.specs.Printing.{Begins, IsLast, Prints, PrintsMore, PrintsOn, nows, replies, told_line, waits}
@@ -289,7 +289,7 @@ pub record ServedOnce {D : Type 0} (disk : Ghosts D) (text : List ℕ) (old new 
   pub session : SessionState D
   pub opened : session.start.disk ≡ old
   pub closed : new ≡ session.engine.disk
-  pub kept : Kept disk session
+  pub kept : SessionKept disk session
   pub asked : IsAskedOnce session.start.memory (wanted_of text) (session.put ++ session.doubt) status
   pub few : length session.doubt ≤ 1
   pub works : status ≡ 0 → session.engine.failed ≡ false
