@@ -8,10 +8,9 @@ ghost use Rattle.im_dump.specs.Dumping.{Dumps};
 ghost use Rattle.im_program.specs.Places.{IsOpenAt};
 
 use crate::hand::AtHand;
-use crate::opening::{refusal_of, warn};
+use crate::opening::image_to_read;
 use im_disk::{Disk, FileDisk, Start};
 use im_dump::dump;
-use im_files::open_image_to_read;
 use im_text::{News, end};
 use im_types::{Observer, Refusal};
 use std::alloc::Global;
@@ -61,12 +60,7 @@ pub fn dump_file<R: Files<File = File> + AllocGlobal, S: Start, I, W: Write, V: 
     ensures same { OnErr result (Keeps (W.contents out.old) (W.contents out.new)) }
 {
     let (rt, _held, _input, observer) = hand.parts();
-    match open_image_to_read(rt, image, start) {
-        Ok((mut disk, is_unsynced)) => {
-            warn(rt, image, is_unsynced, observer);
-            let status = dump_on(rt.alloc(), &mut disk, out, observer);
-            Ok((status, disk))
-        }
-        Err(fault) => Err(refusal_of(rt, image, fault, observer)),
-    }
+    let mut disk = image_to_read(rt, image, observer, start)?;
+    let status = dump_on(rt.alloc(), &mut disk, out, observer);
+    Ok((status, disk))
 }

@@ -7,9 +7,8 @@ ghost use Rattle.im_report.specs.Look.{ShowsView};
 ghost use Rattle.im_program.specs.Places.{IsOpenAt};
 
 use crate::hand::AtHand;
-use crate::opening::{refusal_of, warn};
+use crate::opening::image_to_read;
 use im_disk::{Disk, FileDisk, Start};
-use im_files::open_image_to_read;
 use im_report::{View, look_on};
 use im_text::News;
 use im_types::{Observer, Refusal};
@@ -46,11 +45,6 @@ pub fn inspect_file<R: Files<File = File> + AllocGlobal, S: Start, I, W: Write, 
     ensures same { OnErr result (Keeps (W.contents out.old) (W.contents out.new)) }
 {
     let (rt, _held, _input, observer) = hand.parts();
-    match open_image_to_read(rt, image, start) {
-        Ok((disk, is_unsynced)) => {
-            warn(rt, image, is_unsynced, observer);
-            Ok(look_on(rt.alloc(), disk, look, out, observer))
-        }
-        Err(fault) => Err(refusal_of(rt, image, fault, observer)),
-    }
+    let disk = image_to_read(rt, image, observer, start)?;
+    Ok(look_on(rt.alloc(), disk, look, out, observer))
 }

@@ -11,9 +11,9 @@ ghost use Rattle.im_program.specs.Places.{IsOpenAt};
 ghost use Rattle.im_program.specs.Moving.{BeginsNew, BeginsOld, MigratedFrom, TellsCount, counted_line};
 
 use crate::hand::AtHand;
-use crate::opening::{is_one_file, reason_of, refusal_of, warn};
+use crate::opening::{image_to_read, is_one_file, reason_of};
 use im_disk::{Disk, FileDisk, Start};
-use im_files::{FileFault, make_image, open_image, open_image_to_read};
+use im_files::{FileFault, make_image, open_image};
 use im_image::{Versions, read_header};
 use im_migration::{MoveNews, length_for, migrate};
 use im_text::{News, PathFault, Reason, diagnose, end, put_through};
@@ -182,13 +182,7 @@ pub(crate) fn source_at<R: Files<File = File> + AllocGlobal, T: Start, V: Observ
         observer.tell(News::Refused(Reason::NewFile(PathFault::Same)));
         return Err(Refusal::Device);
     }
-    match open_image_to_read(rt, old, other) {
-        Ok((disk, is_unsynced)) => {
-            warn(rt, old, is_unsynced, observer);
-            Ok(disk)
-        }
-        Err(fault) => Err(refusal_of(rt, old, fault, observer)),
-    }
+    image_to_read(rt, old, observer, other)
 }
 
 /// Moves the image of the file `old` to the file `new`. Returns the status of [`migrate_on`], the disk of the new file,

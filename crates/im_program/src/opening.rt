@@ -3,12 +3,13 @@ ghost use Rattle.std.specs.Prelude.{◌≡◌, [], false, not, IfOk, IfErr};
 ghost use Rattle.im_types.specs.declared.refusals.Refusal.{Refusal};
 ghost use Rattle.im_disk.specs.File.{has_failed_sync};
 ghost use Rattle.im_files.specs.Notes.{is_unneeded};
+ghost use Rattle.im_program.specs.Moving.{BeginsOld};
 ghost use Rattle.im_program.specs.Places.{IsOpenAt};
 
 use crate::mounts::has_turned_read_only;
 use im_damage::Damage;
 use im_disk::{Disk, Failure, FileDisk, OpenFault, Start};
-use im_files::{FileFault, Noting, note_failed_sync, open_image, remove_image};
+use im_files::{FileFault, Noting, note_failed_sync, open_image, open_image_to_read, remove_image};
 use im_text::{CallFault, News, PathFault, Reason, Warning};
 use im_types::{Observer, Refusal};
 use std::fs::{self, File};
@@ -121,6 +122,27 @@ pub(crate) fn image_at<R: Files<File = File> + AllocGlobal, S: Start, N: Observe
     }
 }
 
+/// Opens the image at a path only for reading, and warns if what it shows may not be on the disk. If it isn't opened,
+/// the observer is told why.
+pub(crate) fn image_to_read<R: Files<File = File> + AllocGlobal, S: Start, N: Observer<News>>(
+    rt: &R,
+    image: &str,
+    observer: &mut N,
+    start: S,
+) -> Result<FileDisk<S>, Refusal>
+    ensures found { IfOk result (λ disk. BeginsOld S.Start disk) }
+    ensures named { IfOk result (λ disk. IsOpenAt ⟦<FileDisk<S> as Disk>⟧ S.path image.now disk) }
+    ensures refused { IfErr result (λ refusal. refusal ≡ Refusal.Device) }
+{
+    match open_image_to_read(rt, image, start) {
+        Ok((disk, is_unsynced)) => {
+            warn(rt, image, is_unsynced, observer);
+            Ok(disk)
+        }
+        Err(fault) => Err(refusal_of(rt, image, fault, observer)),
+    }
+}
+
 /// Leaves a note beside a file, at the path at which it was opened, if a sync of it has failed.
 pub(crate) fn note_beside<R: Files<File = File> + AllocGlobal, S: Start>(
     rt: &R,
@@ -150,9 +172,9 @@ pub(crate) fn give_up<R: Files<File = File> + AllocGlobal, S: Start>(
     remove_image(rt, image, disk, is_made)
 }
 
-/// Warns about a file that is read although what it shows may not be on the disk: a note of this boot is beside it, or
-/// the system has made its file system read-only.
-pub(crate) fn warn<R: Files<File = File> + AllocGlobal, N: Observer<News>>(
+// Warns about a file that is read although what it shows may not be on the disk: a note of this boot is beside it, or
+// the system has made its file system read-only.
+fn warn<R: Files<File = File> + AllocGlobal, N: Observer<News>>(
     rt: &R,
     path: &str,
     is_unsynced: bool,

@@ -10,8 +10,9 @@ returns-clause-told g c = λ honest zero.
     let was = g.W.Write.contents c.args.out.now in
     let mid = g.W.Write.contents c.dump-told.new.out in
     let is = g.W.Write.contents c.end.new.out in
-    let told = done_at_zero c.dump-told.result c.end.result (WasDumped (g.D.Disk.honest c.dump-told.new.disk) bytes was mid)
-    c.end.ensures.refused zero c.dump-told.ensures.told in
+    let told = done_at_zero c.dump-told.result c.end.result
+    (WasDumped (g.D.Disk.honest c.dump-told.new.disk) bytes was mid) c.end.ensures.refused zero
+    c.dump-told.ensures.told in
     let same = done_at_zero c.dump-told.result c.end.result (Keeps mid is) c.end.ensures.refused zero
     c.end.ensures.same in
     dumps_kept bytes was mid is (told.dumps honest) same

@@ -3,5 +3,8 @@ use Rattle.im_program.proofs.formatting.format_image.Goals as goal
 
 pub returns-clause-made : goal.returns-clause-made
 returns-clause-made g c = λ honest.
-    let is = c.in_ok-limits.ensures.limits in
-    (refl, c.in_ok-limits.ensures.found, rw (sym is.0) (rw (sym is.1) (rw (sym is.2) (c.in_ok-disk.ensures.made honest))))
+    let is = c.in_ok-limits.ensures.limits in (
+      refl,
+      c.in_ok-limits.ensures.found,
+      rw (sym is.0) (rw (sym is.1) (rw (sym is.2) (c.in_ok-disk.ensures.made honest))),
+    )
