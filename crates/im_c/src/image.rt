@@ -189,8 +189,8 @@ pub extern "C" fn lt_open(alloc: Global, bytes: &[u8], next: &mut LtImage) -> u8
     ensures same { result ≢ 0 → next.new ≡ next.old }
 {
     match opened(alloc, bytes) {
-        Ok(image) => {
-            *next = LtImage::of_box(image);
+        Ok(found) => {
+            *next = LtImage::of_box(found);
             0
         }
         Err(fault) => fault.number(),
