@@ -1,4 +1,5 @@
 pub mod Crosses
+pub mod EndingLemmas
 pub mod Loads
 pub mod MovedLemmas
 pub mod OkLemmas

@@ -4,5 +4,6 @@ pub mod Working
 pub mod Moving
 pub mod Loading
 pub mod Told
+pub mod Ending
 pub mod Traced
 pub mod Prompting

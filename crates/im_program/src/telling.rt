@@ -1,8 +1,6 @@
 //! Does the work, and tells its lines as the command line asks.
-ghost use Rattle.std.specs.Prelude.{◌≡◌, ◌⊎◌, ◌≤◌, [], IfSome, IfNone, if◌then◌else◌};
-ghost use Rattle.im_program.specs.Places.{IsOldOf, IsOpenAt, file_of};
-ghost use Rattle.im_program.specs.Told.{DoneTold, MovedTold};
-ghost use Rattle.im_words.specs.Words.{demonstration, task_of_work};
+ghost use Rattle.std.specs.Prelude.{◌≡◌, ◌⊎◌, ◌≤◌, [], if◌then◌else◌};
+ghost use Rattle.im_program.specs.Told.{LineTold};
 
 use crate::console::Console;
 use crate::hand::AtHand;
@@ -43,14 +41,8 @@ fn act_sieved<
 ) -> (u8, W, Option<FileDisk<S>>, Option<FileDisk<T>>)
     requires { sieve ≡ [] }
     ensures status { (result.0 ≤ 1) ⊎ (result.0 ≡ STALLED) }
-    ensures done { DoneTold ⟦<FileDisk<S> as Disk>⟧ S.first (I.remaining hand.entry.input.now)
-        (task_of_work line.now.work) K.telling K.start (W.contents result.1) result.0 result.2 }
-    ensures moved { MovedTold S.Start T.Start (task_of_work line.now.work) K.telling
-        K.start (W.contents result.1) result.0 result.3 result.2 }
-    ensures named { IfSome result.2 (λ disk.
-        IsOpenAt ⟦<FileDisk<S> as Disk>⟧ S.path (file_of (task_of_work line.now.work)) disk) }
-    ensures other { IfSome result.3 (λ old. IsOldOf ⟦<FileDisk<T> as Disk>⟧ T.path (task_of_work line.now.work) old) }
-    ensures none { IfNone result.2 ((task_of_work line.now.work ≡ demonstration) ⊎ (result.0 ≡ 1)) }
+    ensures told { LineTold S.Start T.Start ⟦<FileDisk<S> as Disk>⟧ ⟦<FileDisk<T> as Disk>⟧
+        (I.remaining hand.entry.input.now) line.now K.telling K.start (W.contents result.1) result.0 result.2 result.3 }
 {
     let mut out = sieve;
     let (status, disk, old) = act(hand, line, &mut out, starts);
@@ -74,14 +66,9 @@ fn act_plainly<
 ) -> (u8, W, Option<FileDisk<S>>, Option<FileDisk<T>>)
     requires { W.contents out ≡ K.start }
     ensures status { (result.0 ≤ 1) ⊎ (result.0 ≡ STALLED) }
-    ensures done { DoneTold ⟦<FileDisk<S> as Disk>⟧ S.first (I.remaining hand.entry.input.now)
-        (task_of_work line.now.work) Telling.Plain K.start (W.contents result.1) result.0 result.2 }
-    ensures moved { MovedTold S.Start T.Start (task_of_work line.now.work) Telling.Plain
-        K.start (W.contents result.1) result.0 result.3 result.2 }
-    ensures named { IfSome result.2 (λ disk.
-        IsOpenAt ⟦<FileDisk<S> as Disk>⟧ S.path (file_of (task_of_work line.now.work)) disk) }
-    ensures other { IfSome result.3 (λ old. IsOldOf ⟦<FileDisk<T> as Disk>⟧ T.path (task_of_work line.now.work) old) }
-    ensures none { IfNone result.2 ((task_of_work line.now.work ≡ demonstration) ⊎ (result.0 ≡ 1)) }
+    ensures told { LineTold S.Start T.Start ⟦<FileDisk<S> as Disk>⟧ ⟦<FileDisk<T> as Disk>⟧
+        (I.remaining hand.entry.input.now) line.now Telling.Plain K.start (W.contents result.1)
+        result.0 result.2 result.3 }
 {
     let mut out: Relay<W, K> = Relay::new(out);
     let (status, disk, old) = act(hand, line, &mut out, starts);
@@ -106,14 +93,8 @@ fn act_with<
     requires start { W.contents out ≡ K.start }
     requires telling { line.now.telling ≡ K.telling }
     ensures status { (result.0 ≤ 1) ⊎ (result.0 ≡ STALLED) }
-    ensures done { DoneTold ⟦<FileDisk<S> as Disk>⟧ S.first (I.remaining hand.entry.input.now)
-        (task_of_work line.now.work) K.telling K.start (W.contents result.1) result.0 result.2 }
-    ensures moved { MovedTold S.Start T.Start (task_of_work line.now.work) K.telling
-        K.start (W.contents result.1) result.0 result.3 result.2 }
-    ensures named { IfSome result.2 (λ disk.
-        IsOpenAt ⟦<FileDisk<S> as Disk>⟧ S.path (file_of (task_of_work line.now.work)) disk) }
-    ensures other { IfSome result.3 (λ old. IsOldOf ⟦<FileDisk<T> as Disk>⟧ T.path (task_of_work line.now.work) old) }
-    ensures none { IfNone result.2 ((task_of_work line.now.work ≡ demonstration) ⊎ (result.0 ≡ 1)) }
+    ensures told { LineTold S.Start T.Start ⟦<FileDisk<S> as Disk>⟧ ⟦<FileDisk<T> as Disk>⟧
+        (I.remaining hand.entry.input.now) line.now K.telling K.start (W.contents result.1) result.0 result.2 result.3 }
 {
     let alloc = hand.rt.alloc();
     let made: Result<Sieve<W, K>, W> = Sieve::new(alloc, out, line.telling);
@@ -148,14 +129,9 @@ pub fn act_told<
     starts: (S, T),
 ) -> (u8, W, Option<FileDisk<S>>, Option<FileDisk<T>>)
     ensures status { (result.0 ≤ 1) ⊎ (result.0 ≡ STALLED) }
-    ensures done { DoneTold ⟦<FileDisk<S> as Disk>⟧ S.first (I.remaining hand.entry.input.now)
-        (task_of_work line.now.work) line.now.telling (W.contents out) (W.contents result.1) result.0 result.2 }
-    ensures moved { MovedTold S.Start T.Start (task_of_work line.now.work) line.now.telling
-        (W.contents out) (W.contents result.1) result.0 result.3 result.2 }
-    ensures named { IfSome result.2 (λ disk.
-        IsOpenAt ⟦<FileDisk<S> as Disk>⟧ S.path (file_of (task_of_work line.now.work)) disk) }
-    ensures other { IfSome result.3 (λ old. IsOldOf ⟦<FileDisk<T> as Disk>⟧ T.path (task_of_work line.now.work) old) }
-    ensures none { IfNone result.2 ((task_of_work line.now.work ≡ demonstration) ⊎ (result.0 ≡ 1)) }
+    ensures told { LineTold S.Start T.Start ⟦<FileDisk<S> as Disk>⟧ ⟦<FileDisk<T> as Disk>⟧
+        (I.remaining hand.entry.input.now) line.now line.now.telling (W.contents out) (W.contents result.1)
+        result.0 result.2 result.3 }
 {
     match line.telling {
         Telling::Plain => act_plainly::<Brand, R, S, T, I, W>(hand, line, out, starts),

@@ -1,0 +1,65 @@
+-- How the program ends.
+use Rattle.std.proofs.Common.{◌≡◌, inl, ℕ, Bool, true, List, refl, sym, ◌∙◌, ap, subst, arith}
+use Rattle.std.specs.Prelude.{Option, None, Some, IsSome, unwrap_or}
+use Rattle.clap.specs.Words.{takes}
+use Rattle.im_disk.specs.declared.disk.Disk.{Ghosts as DiskGhosts}
+use Rattle.im_disk.specs.declared.file.FileDisk.{FileDisk}
+use Rattle.im_disk.specs.declared.start.Start.{Ghosts}
+use Rattle.im_filters.specs.declared.telling.Telling.{Telling}
+use Rattle.im_program.specs.Ending.{EndsAs, Ended, EndedBy, EndedOn}
+use Rattle.im_program.proofs.ToldLemmas.{nothing_done}
+use Rattle.im_words.specs.declared.words.CommandLine.{CommandLine}
+use Rattle.im_words.specs.Words.{Task, asks_statuses, asks_task, asks_telling, asks_wait, imem_app, task_of_work}
+
+same_task : (a b : Task) → Some a ≡ Some b → a ≡ b
+same_task a b is = ap (λ (o : Option Task). unwrap_or o a) is
+
+module _ {S T : Type 0} (start : Ghosts S) (other : Ghosts T) (d : DiskGhosts (FileDisk S start))
+    (e : DiskGhosts (FileDisk T other)) (input was is : Option (List ℕ)) (result : ℕ) where
+  -- what was read of the words was done
+  pub ended_by : (words : List (List ℕ)) (line : CommandLine) (disk : Option (FileDisk S start))
+      (old : Option (FileDisk T other)) → asks_task words ≡ Some (task_of_work line.work)
+      → line.statuses ≡ asks_statuses words → line.telling ≡ asks_telling words
+      → EndedOn start other d e line input was is result disk old
+      → EndedBy start other d e words input was is result disk old
+  ended_by words line disk old work statuses telling ended = λ taken waits task asks.
+      subst (λ (s : Bool). Ended start other d e s task (asks_telling words) input was is result disk old) statuses
+      (subst (λ (l : Telling). Ended start other d e line.statuses task l input was is result disk old) telling
+      (subst (λ (t : Task). Ended start other d e line.statuses t line.telling input was is result disk old)
+      (same_task (task_of_work line.work) task (sym work ∙ asks)) ended))
+
+  -- the same words, and the same status
+  pub ended_as : (told words : List (List ℕ)) (came_to : ℕ) (disk : Option (FileDisk S start))
+      (old : Option (FileDisk T other)) → told ≡ words → result ≡ came_to
+      → EndedBy start other d e told input was is came_to disk old
+      → EndedBy start other d e words input was is result disk old
+  ended_as told words came_to disk old same is_so ended =
+      subst (λ (w : List (List ℕ)). EndedBy start other d e w input was is result disk old) same
+      (subst (λ (n : ℕ). EndedBy start other d e told input was is n disk old) (sym is_so) ended)
+
+  refused_as : (statuses : Bool) → result ≡ 1 → EndsAs statuses 1 result
+  refused_as statuses one = record {
+    same = λ _. one;
+    few = λ _. omega (arith, one);
+    range = λ _. inl one;
+  }
+
+  -- whatever was asked was refused, and no file was opened
+  pub refused : (statuses : Bool) (task : Task) (telling : Telling) → result ≡ 1
+      → Ended start other d e statuses task telling input was is result None None
+  refused statuses task telling one = record {
+    status = 1;
+    ends = refused_as statuses one;
+    told = nothing_done start other d e input task telling was is 1 refl;
+  }
+
+  -- the same of the task of these words
+  pub refused_by : (words : List (List ℕ)) → result ≡ 1
+      → EndedBy start other d e words input was is result None None
+  refused_by words one = λ taken waits task asks. refused (asks_statuses words) task (asks_telling words) one
+
+  -- words that aren't taken ask for nothing
+  pub untaken : (words : List (List ℕ)) → (takes imem_app words ≡ true → IsSome (asks_task words)
+      → IsSome (asks_wait words) → ⊥) → EndedBy start other d e words input was is result None None
+  untaken words never = λ taken waits task asks.
+      absurd (never taken (subst (λ (o : Option Task). IsSome o) (sym asks) refl) waits)

@@ -1,0 +1,13 @@
+use Rattle.std.proofs.Common.{List, ℕ, ◌∙◌, ap}
+use Rattle.std.specs.Prelude.{map}
+use Rattle.std.specs.Borrow.{Bor}
+use Rattle.im_program.proofs.EndingLemmas.{ended_as, refused_by}
+use Rattle.imem.proofs.start.Goals as goal
+
+pub returns-in-Ok-clause-ended : goal.returns-in-Ok-clause-ended
+returns-in-Ok-clause-ended g c = ended_as _ _ _ _ _ _ _ _ _ _ _ _ _
+    (ap (λ (l : List (Bor (List ℕ))). map (λ w. w.now) l) c.as_slice.ensures.value ∙ c.in-Ok.ensures) c.from.ensures
+    c.run-status.ensures.ended
+
+pub returns-in-Err-clause-ended : goal.returns-in-Err-clause-ended
+returns-in-Err-clause-ended g c = refused_by _ _ _ _ _ _ _ _ _ (c.from.ensures ∙ c.refuse-status.ensures.status)

@@ -1,0 +1,25 @@
+use Rattle.std.proofs.Common.{List, ℕ, subst}
+use Rattle.std.specs.Prelude.{Option}
+use Rattle.im_disk.specs.contracts.file.FileDiskDisk.TheImpl.{ghosts}
+use Rattle.im_program.specs.Ending.{EndedOn}
+use Rattle.imem.proofs.Heard.{heard_as}
+use Rattle.imem.proofs.working.work_heard.Goals as goal
+
+pub returns-clause-ended : goal.returns-clause-ended
+returns-clause-ended g c = subst
+    (λ (known : Option (List ℕ)). EndedOn g.S.Start g.T.Start
+    (ghosts g.row.S g.S.Start g.S.Start-dict g.S.Destruct-dict)
+    (ghosts g.row.T g.T.Start g.T.Start-dict g.T.Destruct-dict) c.args.line.now known (g.W.Write.contents c.args.out)
+    (g.W.Write.contents c.act_told-status.result.1) c.status_for-ends.result c.act_told-status.result.2
+    c.act_told-status.result.3)
+    (heard_as g.I.Read.remaining _ _ c.args.heard c.in-Ok.ensures.inner c.in-Ok.ensures.empty
+    c.in-Ok.ensures.capacity c.new-prompter.ensures)
+    (record {
+      status = c.act_told-status.result.0;
+      ends = record {
+        same = c.status_for-ends.ensures.same;
+        few = c.status_for-ends.ensures.few;
+        range = c.status_for-ends.ensures.range;
+      };
+      told = c.act_told-status.ensures.told;
+    })

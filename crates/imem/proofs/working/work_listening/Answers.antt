@@ -1,0 +1,4 @@
+use Rattle.imem.proofs.working.work_listening.Goals as goal
+
+pub returns-clause-ended : goal.returns-clause-ended
+returns-clause-ended g c = rw c.listen-listener.ensures.bytes at c.work_heard.ensures.ended
