@@ -43,7 +43,7 @@ With --json, each line is an object; the first one stands for the first four lin
 There generation, count, value, base, and the numbers of requests are strings, since they may pass 2^53.
 An image that isn't whole is refused: 'refused N NAME' names its first fault.
 
-Example: the image a.img after 'imem format a.img', who waits at its first hundred cells, and the values
+Example: the image a.img after 'imem format --new a.img', who waits at its first hundred cells, and values
   imem inspect a.img
   imem inspect a.img --cells 0-99 --waiting
   imem inspect a.img --json | jq -c 'select(.value) | [.cell, .value]'

@@ -1,6 +1,7 @@
 use Rattle.std.proofs.Common.{List, ℕ, subst}
 use Rattle.std.specs.Prelude.{Option}
 use Rattle.im_disk.specs.contracts.file.FileDiskDisk.TheImpl.{ghosts}
+use Rattle.im_program.proofs.EndingLemmas.{refused}
 use Rattle.im_program.specs.Ending.{EndedOn}
 use Rattle.imem.proofs.Heard.{heard_as}
 use Rattle.imem.proofs.working.work_heard.Goals as goal
@@ -23,3 +24,6 @@ returns-clause-ended g c = subst
       };
       told = c.act_told-status.ensures.told;
     })
+
+pub returns-in-Err-clause-ended : goal.returns-in-Err-clause-ended
+returns-in-Err-clause-ended g c = refused _ _ _ _ _ _ _ _ _ _ _ c.refuse-status.ensures.status
