@@ -5,3 +5,4 @@ pub mod Reopening
 pub mod Grouping
 pub mod Asking
 pub mod Alike
+mod SessionLemmas

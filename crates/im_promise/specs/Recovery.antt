@@ -8,6 +8,7 @@ use Rattle.im_types.specs.Run.{after}
 use Rattle.im_engine.specs.declared.run.Event.{Event}
 use Rattle.im_engine.specs.declared.run.Answer.{Answer}
 use Rattle.im_engine.specs.Run.{acknowledged, in_doubt}
+use Rattle.im_session.specs.Kept.{SessionState}
 use Rattle.im_promise.specs.Acknowledged.{calls_in_doubt, most_of_one, AreAnswers}
 
 -- there was no room for the answers or the memory, or none for the record of the disk
@@ -31,3 +32,12 @@ pub record Recovers (m : Contents) (before : ℕ) (events : List Event) (answers
   pub or_not : (also ≡ []) ⊎ (also ≡ in_doubt m before events answers)
   pub memory : now ≡ after m (acknowledged m events answers ++ also)
   pub count : many ≡ before + length (acknowledged m events answers ++ also)
+
+-- A session's disk stopped, or not, and a crash left a file. The image was opened again, with the memory `now` and the
+-- count `many`. They are those after the session's acknowledged commands, in their order. The commands of the one call
+-- in doubt may follow, all or none of them.
+pub record RecoversSession {D : Type 0} (s : SessionState D) (now : Contents) (many : ℕ) : Type 0 where
+  pub also : List Command
+  pub or_not : (also ≡ []) ⊎ (also ≡ s.doubt)
+  pub memory : now ≡ after s.start.memory (s.put ++ also)
+  pub count : many ≡ s.start.count + length (s.put ++ also)

@@ -13,5 +13,7 @@ mod traces;
 
 pub use again::{Repeat, ask_again, ask_over_a_crash, send_over_a_crash, send_twice};
 pub use groups::{GroupRepeat, ask_group_again, ask_group_over_a_crash, recover_group};
-pub use recovery::{Outage, Recovered, recover, recover_again, recover_from_format, reopen};
+pub use recovery::{
+    Outage, Recovered, recover, recover_again, recover_from_format, recover_session, reopen,
+};
 pub use traces::traces_tell_a_request_alike;

@@ -4,7 +4,7 @@ ghost use Rattle.im_types.specs.declared.refusals.Refusal.TheVariants.{NoMemory,
 ghost use Rattle.im_types.specs.Contents.{empty_contents};
 ghost use Rattle.im_disk.specs.Moment.{Left};
 ghost use Rattle.im_engine.specs.State.{MeansState, IsFirstFault};
-ghost use Rattle.im_promise.specs.Recovery.{HasNoRoom, Recovers};
+ghost use Rattle.im_promise.specs.Recovery.{HasNoRoom, Recovers, RecoversSession};
 
 use im_disk::{Crash, FuseDisk, MemDisk, Mode};
 use im_engine::{
@@ -12,6 +12,7 @@ use im_engine::{
     steps_tell_of_no_failure,
 };
 use im_laws::{accepted_where_changed, groups_are_runs};
+use im_session::Session;
 use im_types::{Limits, Refusal};
 use std::alloc::Global;
 
@@ -164,4 +165,22 @@ pub fn reopen(
     files_mean_one_thing();
     let disk = open_and_close(alloc, engine.close(), outage.passes, outage.mode);
     open_crashed(alloc, disk.into_inner(), outage.crash)
+}
+
+/// Ends a session whose disk may have failed at any call, crashes the disk, and opens what is left: every accepted
+/// command that was acknowledged is there.
+///
+/// What a session put of a command is what [`recover`] calls acknowledged, and so is what it left in doubt: a law of
+/// `im_session` says so.
+pub fn recover_session(
+    alloc: Global,
+    session: Session<FuseDisk>,
+    crash: Crash,
+) -> Result<Engine<MemDisk>, Refusal>
+    ensures recovers { IfOk result (λ e. RecoversSession session e.memory e.count) }
+    ensures works { IfOk result (λ e. e.failed ≡ false) }
+    ensures refused { IfErr result (λ e. HasNoRoom e) }
+{
+    files_mean_one_thing();
+    open_crashed(alloc, session.close().into_inner(), crash)
 }

@@ -1,12 +1,12 @@
 -- The setup of a script: its blocks, as its lines are read, and the bases of its names. (Own.)
-use Rattle.std.proofs.Common.{◌≡◌, ◌∙◌, ℕ, Bool, List, [], ◌∷◌, ◌++◌, sym, ap, subst, map}
+use Rattle.std.proofs.Common.{◌≡◌, ◌∙◌, ℕ, Bool, List, [], ◌∷◌, ◌++◌, length, sym, ap, subst, map}
 use Rattle.std.specs.Prelude.{Option, None, Some, Result, true}
 use Rattle.std.specs.Borrow.{Bor}
 use Rattle.std.specs.Option.{option_map_or}
 use Rattle.im_types.specs.declared.commands.Command.{Command}
 use Rattle.im_types.specs.Contents.{Contents}
-use Rattle.im_disk.specs.declared.disk.Disk.{Ghosts}
-use Rattle.im_engine.specs.State.{EngineState}
+use Rattle.im_types.specs.Memory.{IsMemory}
+use Rattle.im_session.specs.Kept.{IsFresh, SessionState, session_of, start_at}
 use Rattle.im_script.specs.declared.script.Heard.{Heard}
 use Rattle.im_script.specs.Script.{Draft, heard, lines_of}
 use Rattle.im_text.specs.declared.lines.Lines.{Lines}
@@ -19,7 +19,7 @@ use Rattle.im_serial.specs.Serving.{EndsAt, GoingAt, HasServed, Passes, ScriptSe
 use Rattle.im_serial.proofs.ScriptedLemmas.{going_from, has_served, passes_refl, prints_on}
 use Rattle.im_run.specs.Orders.{SetsUp, bases_first, bases_made, blocks_asked, blocks_of, line_blocks, lines_heard}
 use Rattle.im_run.specs.Orders.{settled_past}
-use Rattle.im_run.specs.Setup.{CanServe}
+use Rattle.im_run.specs.Setup.{CanServe, BeginsHere}
 use Rattle.im_run.proofs.OrdersLemmas.{line_heard}
 
 -- ---- the bases of its names
@@ -51,76 +51,82 @@ blocks_line before left d next h text line behind lines read settled =
     ∙ ap (λ (l : List ℕ). line_blocks before h
     ++ blocks_of l (option_map_or (λ r. lines_heard next (lines_of r.now)) behind [])) (sym settled)
 
-module _ {D : Type 0} (disk : Ghosts D) where
+module _ {D : Type 0} where
   -- what is served of a line that asks for no block
   pub unchanged : {T E : Type 0} (r : Result T E) (wanted : List Wanted) (bases : List ℕ) (s : ScriptServer D)
-      → wanted ≡ [] → HasServed disk wanted bases bases r s s
-  unchanged r wanted bases s none = subst (λ (l : List Wanted). HasServed disk l bases bases r s s) (sym none)
-      (has_served disk r [] bases bases s s (passes_refl disk [] bases s))
+      → wanted ≡ [] → HasServed wanted bases bases r s s
+  unchanged r wanted bases s none = subst (λ (l : List Wanted). HasServed l bases bases r s s) (sym none)
+      (has_served r [] bases bases s s (passes_refl [] bases s))
 
   pub served_as : {T E : Type 0} (r : Result T E) (asked wanted : List Wanted) (before after : List ℕ)
-      (old new : ScriptServer D) → asked ≡ wanted → HasServed disk wanted before after r old new
-      → HasServed disk asked before after r old new
+      (old new : ScriptServer D) → asked ≡ wanted → HasServed wanted before after r old new
+      → HasServed asked before after r old new
   served_as r asked wanted before after old new same it =
-      subst (λ (l : List Wanted). HasServed disk l before after r old new) (sym same) it
+      subst (λ (l : List Wanted). HasServed l before after r old new) (sym same) it
 
   -- of lines that are the same, with the same settled
   pub passes_as : (was had : List ℕ) (script : List Heard) (before after : List ℕ) (old new : ScriptServer D)
-      → was ≡ had → Passes disk (blocks_of was script) before [] after old new
-      → Passes disk (blocks_of had script) before [] after old new
+      → was ≡ had → Passes (blocks_of was script) before [] after old new
+      → Passes (blocks_of had script) before [] after old new
   passes_as was had script before after old new same it =
-      subst (λ (h : List ℕ). Passes disk (blocks_of h script) before [] after old new) same it
+      subst (λ (h : List ℕ). Passes (blocks_of h script) before [] after old new) same it
 
   pub ends_as : (was had : List ℕ) (script : List Heard) (before : List ℕ) (old new : ScriptServer D)
-      → was ≡ had → EndsAt disk (blocks_of was script) before old new
-      → EndsAt disk (blocks_of had script) before old new
+      → was ≡ had → EndsAt (blocks_of was script) before old new
+      → EndsAt (blocks_of had script) before old new
   ends_as was had script before old new same it =
-      subst (λ (h : List ℕ). EndsAt disk (blocks_of h script) before old new) same it
+      subst (λ (h : List ℕ). EndsAt (blocks_of h script) before old new) same it
 
   -- and then what is kept back is written
   pub flushed : {T E : Type 0} (r : Result T E) (wanted : List Wanted) (before after : List ℕ) (old : ScriptServer D)
-      (engine : EngineState D) (from held : Option (List ℕ)) (lines last : Lines) (waited : List Waited)
+      (session : SessionState D) (from held : Option (List ℕ)) (lines last : Lines) (waited : List Waited)
       (marks : List Mark) → PrintsOn from lines held last
-      → Passes disk wanted before [] after old (server_of engine from lines waited marks)
-      → HasServed disk wanted before after r old (server_of engine held last waited marks)
-  flushed r wanted before after old engine from held lines last waited marks prints passes =
-      has_served disk r wanted before after old (server_of engine held last waited marks)
-      (λ start was script rest going. prints_on disk after engine from held lines last waited marks prints start was
+      → Passes wanted before [] after old (server_of session from lines waited marks)
+      → HasServed wanted before after r old (server_of session held last waited marks)
+  flushed r wanted before after old session from held lines last waited marks prints passes =
+      has_served r wanted before after old (server_of session held last waited marks)
+      (λ start was script rest going. prints_on after session from held lines last waited marks prints start was
       script rest (passes start was script rest going))
 
   -- ---- line by line
 
   -- no line was read
   pub blocks_start : (had : List ℕ) (all rest : List Heard) (bases : List ℕ) (s : ScriptServer D) → rest ≡ all
-      → Passes disk (blocks_of had all) bases (blocks_of had rest) bases s s
-  blocks_start had all rest bases s same = subst (λ (l : List Heard). Passes disk (blocks_of had all) bases
-      (blocks_of had l) bases s s) (sym same) (passes_refl disk (blocks_of had all) bases s)
+      → Passes (blocks_of had all) bases (blocks_of had rest) bases s s
+  blocks_start had all rest bases s same = subst (λ (l : List Heard). Passes (blocks_of had all) bases
+      (blocks_of had l) bases s s) (sym same) (passes_refl (blocks_of had all) bases s)
 
   -- the lines that are left
   pub blocks_some : (all : List Wanted) (left first bases : List ℕ) (old new : ScriptServer D) (d : Draft)
       (rest : Option (Bor (List ℕ))) (text : Bor (List ℕ)) → rest ≡ Some text
-      → Passes disk all first (blocks_of left (option_map_or (λ t. lines_heard d (lines_of t.now)) rest [])) bases old
-      new → Passes disk all first (blocks_of left (lines_heard d (lines_of text.now))) bases old new
-  blocks_some all left first bases old new d rest text some it = subst (λ (o : Option (Bor (List ℕ))). Passes disk all
+      → Passes all first (blocks_of left (option_map_or (λ t. lines_heard d (lines_of t.now)) rest [])) bases old
+      new → Passes all first (blocks_of left (lines_heard d (lines_of text.now))) bases old new
+  blocks_some all left first bases old new d rest text some it = subst (λ (o : Option (Bor (List ℕ))). Passes all
       first (blocks_of left (option_map_or (λ t. lines_heard d (lines_of t.now)) o [])) bases old new) some it
 
   pub blocks_none : (all : List Wanted) (left first bases : List ℕ) (old new : ScriptServer D) (d : Draft)
       (rest : Option (Bor (List ℕ))) → rest ≡ None
-      → Passes disk all first (blocks_of left (option_map_or (λ t. lines_heard d (lines_of t.now)) rest [])) bases old
-      new → Passes disk all first [] bases old new
-  blocks_none all left first bases old new d rest none it = subst (λ (o : Option (Bor (List ℕ))). Passes disk all
+      → Passes all first (blocks_of left (option_map_or (λ t. lines_heard d (lines_of t.now)) rest [])) bases old
+      new → Passes all first [] bases old new
+  blocks_none all left first bases old new d rest none it = subst (λ (o : Option (Bor (List ℕ))). Passes all
       first (blocks_of left (option_map_or (λ t. lines_heard d (lines_of t.now)) o [])) bases old new) none it
 
   -- ---- its beginning
 
   -- nothing was served yet
-  pub begun : (c : Course) (s : ScriptServer D) → CanServe disk s → c.earlier ≡ []
-      → GoingAt disk s.engine s.held (standing (Some c) c.first (c.wanted ++ [])) s
-  begun c s ready none = going_from disk c s.engine s.held s.lines s.waited s.marks ready.works ready.means
+  pub begun : (c : Course) (s : ScriptServer D) → CanServe s → c.earlier ≡ []
+      → GoingAt s.session.start s.held (standing (Some c) c.first (c.wanted ++ [])) s
+  begun c s ready none = let m = s.session.start.memory in going_from c s.session s.held s.lines s.waited s.marks
+      (fresh_of s.session ready.fresh) ready.works
       (record {
-        memory = ready.memory;
-        noted = subst (AreNoted s.engine.memory [] 0 0 s.marks) (sym ready.waited) (λ at w is. absurd (no_item w is));
+        memory = subst (λ (x : Contents). IsMemory (length x.cells) (length x.windows) x)
+            (sym (ap (λ (t : SessionState D). t.start.memory) ready.fresh)) ready.memory;
+        noted = subst (AreNoted m [] 0 0 s.marks) (sym ready.waited) (λ at w is. absurd (no_item w is));
       }) (ap (map who_of) ready.waited ∙ sym none) ready.pending
     where
       no_item : (w : Waited) → ◌≡◌ {A = Option Waited} None (Some w) → ⊥
       no_item w is = cc
+
+      fresh_of : (t : SessionState D) → BeginsHere t → IsFresh t
+      fresh_of t is = subst (λ (d : D). t ≡ session_of (start_at d t.engine) [] [] t.engine)
+          (sym (ap (λ (x : SessionState D). x.start.disk) is)) is

@@ -14,3 +14,4 @@ pub mod SplitLemmas
 pub mod StopsLemmas
 pub mod TracingLemmas
 pub mod WholeLemmas
+pub mod OpeningLemmas

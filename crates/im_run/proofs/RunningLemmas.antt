@@ -9,7 +9,7 @@ use Rattle.im_types.specs.declared.commands.Request.{Request}
 use Rattle.im_types.specs.declared.operations.Waiter.{Waiter}
 use Rattle.im_types.specs.Contents.{Contents}
 use Rattle.im_types.specs.Meaning.{Means, accept_each}
-use Rattle.im_types.specs.Run.{after}
+use Rattle.im_types.specs.Run.{accepted as accepted_of, after}
 use Rattle.im_types.specs.Trace.{IsLegal}
 use Rattle.im_laws.proofs.RunLemmas.{after-append}
 use Rattle.im_laws.proofs.Tests.{true_false, true_or_false}
@@ -18,7 +18,7 @@ use Rattle.im_disk.specs.Moment.{Moment, Left, Rises}
 use Rattle.im_disk.specs.Since.{Leaves, LeavesNow}
 use Rattle.im_disk.proofs.SinceLemmas.{left_now, leaves_then, leaves_now}
 use Rattle.im_engine.specs.State.{EngineState, MeansState}
-use Rattle.im_engine.specs.Run.{MeansAll, MeansAfter, MeansBeginning, MeansAllOrInDoubt, MeansWithOrWithout}
+use Rattle.im_engine.specs.Run.{MeansAll, MeansAfter, MeansBeginning, MeansWithOrWithout}
 use Rattle.im_engine.proofs.Keeping.{accept_both}
 use Rattle.im_controller.specs.Kept.{MeansSome, begun_by, accepted_in}
 use Rattle.im_controller.proofs.KeptLemmas.{accepted-after, kept_start}
@@ -26,17 +26,20 @@ use Rattle.im_text.specs.declared.lines.Lines.{Lines}
 use Rattle.im_text.specs.Printing.{Begins, IsLast, Prints, PrintsMore, replies}
 use Rattle.im_text.proofs.PrintingLemmas.{prints_begins, take-prefix}
 use Rattle.im_text.proofs.TextLemmas.{written_none}
-use Rattle.im_serial.specs.Asked.{Wanted}
+use Rattle.im_serial.specs.Asked.{Course, Standing, Wanted}
 use Rattle.im_serial.specs.Once.{HasServedNothing}
-use Rattle.im_serial.specs.Serving.{GoesWith, HaltsWith, HasPut, MeansAtLeast, NotOpened, ScriptServer}
-use Rattle.im_run.specs.Setup.{CanServe}
+use Rattle.im_serial.specs.Noted.{Notes}
+use Rattle.im_serial.specs.Serving.{IsOver, IsServing, NotOpened, ScriptServer}
+use Rattle.im_session.specs.Kept.{Kept, SessionStart, SessionState, session_of, start_at}
+use Rattle.im_session.proofs.AcceptedLemmas.{each_accepted}
+use Rattle.im_run.specs.Setup.{CanServe, BeginsHere}
 use Rattle.im_run.specs.declared.run.TheConstants.{STALLED}
 use Rattle.im_run.specs.declared.served.Did.{Did}
 use Rattle.im_run.specs.Tracing.{TraceState}
 use Rattle.im_run.specs.Doing.{AreAllTold}
 use Rattle.im_run.specs.Orders.{Ask, AreOrders, ArePartsThere, IsOfAll, SetsUp, bases_made, script_heard, settled_when}
 use Rattle.im_run.specs.Planned.{EndsOnPlan, HasServedWhole}
-use Rattle.im_run.specs.Running.{BeginsFinals, Closes, EndedOn, PrintsFinals, Puts, Ran, RanOn, RunOn}
+use Rattle.im_run.specs.Running.{BeginsFinals, Closes, EndedOn, MeansAtLeast, PrintsFinals, Puts, Ran, RanOn, RunOn}
 use Rattle.im_run.specs.Running.{ServedOn, ServersEnded, Settles, final_line, finals}
 use Rattle.im_run.proofs.DoingLemmas.{told_weaker}
 
@@ -53,11 +56,6 @@ module _ {D : Type 0} (start : EngineState D) where
   -- the file means what the engine is after these commands
   after_is : (m n : Contents) (count many : ℕ) (file : List ℕ) → m ≡ n → count ≡ many → Means m count 0 file → Means n many 0 file
   after_is m n count many file same counts means = subst (λ (x : Contents). Means x many 0 file) same (subst (λ (k : ℕ). Means m k 0 file) counts means)
-
-  all_of : (put : List Command) (many : ℕ) (file : List ℕ) → many ≡ length put → MeansAfter start put many file → MeansAll start put file
-  all_of put many file is means =
-      after_is (after start.memory (take many put)) (after start.memory put) (start.count + many) (start.count + length put) file
-      (ap (after start.memory) (take_all many put (omega (arith, is)))) (omega (arith, is)) means
 
   -- after a beginning of more commands
   longer : (put more : List Command) (file : List ℕ) → MeansBeginning start put file → MeansBeginning start (put ++ more) file
@@ -91,55 +89,51 @@ pub record PutOn {D : Type 0} (now : D → Moment) (past : D → List Moment) (f
   pub puts : Puts now past failures start start.disk engine.disk setup told doubt
   pub calm : engine.failed ≡ false → (doubt ≡ []) × (engine.memory ≡ after start.memory told) × (engine.count ≡ start.count + length told)
 
-module _ {D : Type 0} (now : D → Moment) (past : D → List Moment) (failures : D → ℕ) where
+-- a session that began with this engine, and put these commands
+abbrev pub SetUp : {D : Type 0} → Ghosts D → EngineState D → EngineState D → List Command → List Command → Type 0
+SetUp disk start engine put doubt = Kept disk (session_of (start_at start.disk start) put doubt engine)
+
+-- the session of a server that began with its engine
+pub set_up : {D : Type 0} (disk : Ghosts D) (start : EngineState D) (t : SessionState D)
+    → t.start ≡ start_at start.disk start → Kept disk t → SetUp disk start t.engine t.put t.doubt
+set_up {D} disk start t begun kept =
+    subst (λ (x : SessionStart D). Kept disk (session_of x t.put t.doubt t.engine)) begun kept
+
+module _ {D : Type 0} (disk : Ghosts D) where
+  abbrev now : D → Moment
+  now = disk.now
+
+  abbrev past : D → List Moment
+  past = disk.past
+
+  abbrev failures : D → ℕ
+  failures = disk.failures
+
   -- by the setup alone
-  module _ (start engine : EngineState D) (put : List Command) (it : HasPut now past failures start engine put) where
-    abbrev least : ℕ
-    least = length put - 1
+  module _ (start engine : EngineState D) (put doubt : List Command) (it : SetUp disk start engine put doubt)
+      (h : disk.honest engine.disk) where
+    sure_or_rose : (b : Bool) → engine.failed ≡ b → (doubt ≡ []) ⊎ Rises (failures start.disk) (failures engine.disk)
+    sure_or_rose true dead = inr (it.rose dead)
+    sure_or_rose false works = inl (it.sure works)
 
-    or_last : (file : List ℕ) → MeansAllOrInDoubt (engine.failed ≡ true) start put file → MeansWithOrWithout start (take least put) (drop least put) file
-    or_last file (many, inl all, means) = inr (subst (λ (l : List Command). MeansAll start l file) (sym (take-append-drop least put)) (all_of start put many file all means))
-    or_last file (many, inr (dead, one), means) = inl
-        (after_is start (after start.memory (take many put)) (after start.memory (take least put)) (start.count + many) (start.count + length (take least put)) file
-        (ap (λ n. after start.memory (take n put)) (omega (arith, one))) (omega (arith, one, length-take-le least put (omega arith))) means)
-
-    or_none : engine.failed ≡ false → (file : List ℕ) → MeansAllOrInDoubt (engine.failed ≡ true) start put file → MeansWithOrWithout start put [] file
-    or_none works file (many, inl all, means) = inl (all_of start put many file all means)
-    or_none works file (many, inr (dead, one), means) = absurd (true_false (sym dead ∙ works))
-
-    put_on : PutOn now past failures start engine put []
-    put_on = ⊎_elim
-        (λ dead. let same = take-append-drop least put in record {
-          told = take least put;
-          doubt = drop least put;
-          whole = same ∙ sym (append-nil put);
-          puts = record {
-            first = ([], same ∙ sym (append-nil put));
-            accepted = subst (λ (l : List Command). accept_each start.memory l ≡ Some (after start.memory l)) (sym same) it.accepted;
-            leaves = subst (λ (l : List Command). Leaves (now start.disk) (now engine.disk) (past start.disk) (past engine.disk) (MeansBeginning start l)) (sym same) it.leaves;
-            last = λ file left. or_last file (it.doubt file left);
-            sure = inr (it.rose dead);
-          };
-          calm = λ works. absurd (true_false (sym dead ∙ works));
-        })
-        (λ works. record {
-          told = put;
-          doubt = [];
-          whole = refl;
-          puts = record {
-            first = ([], refl);
-            accepted = subst (λ (l : List Command). accept_each start.memory l ≡ Some (after start.memory l)) (sym (append-nil put)) it.accepted;
-            leaves = subst (λ (l : List Command). Leaves (now start.disk) (now engine.disk) (past start.disk) (past engine.disk) (MeansBeginning start l)) (sym (append-nil put)) it.leaves;
-            last = λ file left. or_none works file (it.doubt file left);
-            sure = inl refl;
-          };
-          calm = λ alive. (refl, it.memory alive, it.count alive);
-        })
-        (true_or_false engine.failed)
+    put_on : PutOn disk.now disk.past disk.failures start engine (put ++ doubt) []
+    put_on = record {
+      told = put;
+      doubt = doubt;
+      whole = sym (append-nil (put ++ doubt));
+      puts = record {
+        first = ([], sym (append-nil (put ++ doubt)));
+        accepted = each_accepted start.memory (put ++ doubt) it.in_turn;
+        leaves = (it.leaves h).since;
+        last = (it.leaves h).now;
+        sure = sure_or_rose engine.failed refl;
+      };
+      calm = λ works. (it.sure works, it.memory, it.count);
+    }
 
   -- and then by the elements' servers
-  module _ (start mid engine : EngineState D) (setup : List Command) (it : HasPut now past failures start mid setup)
-      (alive : mid.failed ≡ false) (plan : Option (List Request)) (trace : List Line)
+  module _ (start mid engine : EngineState D) (setup : List Command) (it : SetUp disk start mid setup [])
+      (h : disk.honest mid.disk) (alive : mid.failed ≡ false) (plan : Option (List Request)) (trace : List Line)
       (on : ServedOn now past failures (begun_by now past failures mid) mid.memory plan trace engine) where
     abbrev served : List Command
     served = accepted_in mid.memory trace
@@ -154,13 +148,15 @@ module _ {D : Type 0} (now : D → Moment) (past : D → List Moment) (failures 
     same = append_assoc setup served doubt
 
     goes_on : (cs : List Command) → after mid.memory cs ≡ after start.memory (setup ++ cs)
-    goes_on cs = ap (λ (m : Contents). after m cs) (it.memory alive) ∙ sym (after-append start.memory setup cs)
+    goes_on cs = ap (λ (m : Contents). after m cs) it.memory ∙ sym (after-append start.memory setup cs)
 
     accepted : accept_each start.memory (setup ++ both) ≡ Some (after start.memory (setup ++ both))
-    accepted = accept_both start.memory mid.memory (after mid.memory both) setup both (it.accepted ∙ ap Some (sym (it.memory alive))) on.kept.accepts ∙ ap Some (goes_on both)
+    accepted = accept_both start.memory mid.memory (after mid.memory both) setup both
+        (each_accepted start.memory setup (subst (λ (l : List Command). accepted_of start.memory l ≡ l) (append-nil setup)
+        it.in_turn) ∙ ap Some (sym it.memory)) on.kept.accepts ∙ ap Some (goes_on both)
 
     some : (file : List ℕ) → MeansSome mid.memory mid.count both file → MeansBeginning start (setup ++ both) file
-    some file means = let counts = it.count alive in (
+    some file means = let counts = it.count in (
       length setup + means.0,
       omega (arith, means.1, length-append setup both),
       after_is start (after mid.memory (take means.0 both)) (after start.memory (take (length setup + means.0) (setup ++ both))) (mid.count + means.0) (start.count + (length setup + means.0)) file
@@ -168,7 +164,7 @@ module _ {D : Type 0} (now : D → Moment) (past : D → List Moment) (failures 
     )
 
     all_told : (cs : List Command) (file : List ℕ) → Means (after mid.memory (take (length cs) cs)) (mid.count + length cs) 0 file → MeansAll start (setup ++ cs) file
-    all_told cs file means = let counts = it.count alive in
+    all_told cs file means = let counts = it.count in
         after_is start (after mid.memory (take (length cs) cs)) (after start.memory (setup ++ cs)) (mid.count + length cs) (start.count + length (setup ++ cs)) file
         (ap (after mid.memory) (take_all (length cs) cs (omega arith)) ∙ goes_on cs) (omega (arith, counts, length-append setup cs)) means
 
@@ -186,11 +182,12 @@ module _ {D : Type 0} (now : D → Moment) (past : D → List Moment) (failures 
         accepted = subst (λ (l : List Command). accept_each start.memory l ≡ Some (after start.memory l)) (sym same) accepted;
         leaves = subst (λ (l : List Command). Leaves (now start.disk) (now engine.disk) (past start.disk) (past engine.disk) (MeansBeginning start l)) (sym same)
             (leaves_then (now start.disk) (now mid.disk) (now engine.disk) (past start.disk) (past mid.disk) (past engine.disk) (MeansBeginning start setup) (MeansSome mid.memory mid.count both) (MeansBeginning start (setup ++ both))
-            it.leaves on.kept.leaves (longer start setup both) some);
+            (subst (λ (l : List Command). Leaves (now start.disk) (now mid.disk) (past start.disk) (past mid.disk) (MeansBeginning start l)) (append-nil setup) (it.leaves h).since)
+            on.kept.leaves (longer start setup both) some);
         last = λ file left. ⊎_elim (λ without. inl (all_told served file without)) (λ all. inr (subst (λ (l : List Command). MeansAll start l file) (sym same) (all_told both file all))) (on.kept.last file left);
         sure = rose engine.failed refl;
       };
-      calm = λ works. let counts = it.count alive in (
+      calm = λ works. let counts = it.count in (
         on.kept.sure works,
         sym on.ends ∙ sym (accepted-after mid.memory trace) ∙ goes_on served,
         omega (arith, on.kept.count works, counts, length-append setup served),
@@ -238,11 +235,11 @@ ended_weaker disk planned whole orders begun engine trace did none later well it
 }
 
 -- a server that has served nothing can serve
-pub can_serve : {D : Type 0} (disk : Ghosts D) (s : ScriptServer D) (bases : List ℕ) → HasServedNothing disk s bases
-    → CanServe disk s
-can_serve disk s bases it = record {
+pub can_serve : {D : Type 0} (s : ScriptServer D) (bases : List ℕ) → HasServedNothing s bases → BeginsHere s.session
+    → CanServe s
+can_serve s bases it fresh = record {
+  fresh = fresh;
   works = it.works;
-  means = it.means;
   memory = it.memory;
   pending = it.pending;
   waited = it.waited;
@@ -281,36 +278,6 @@ module _ {D : Type 0} (now : D → Moment) (past : D → List Moment) (failures 
       no_finals zero few = sym (written_none (λ i. final_line m (slice_get did i)) []) ∙ written_none (λ i. final_line n (slice_get did i)) []
       no_finals (suc many) few = absurd (omega arith)
 
-  -- the setup was ended
-  pub halted_run : (once planned : Bool) (script : List ℕ) (start engine : EngineState D) (put : List Command) (text : List ℕ) (names : List Waiter) (was mid is : Option (List ℕ)) (lines : Lines) (did : List Did) (disk : D) (calls : TraceState) (status : ℕ) → HaltsWith now past failures start engine put text names
-      → Prints was mid lines text → did ≡ [] → disk ≡ engine.disk → ((status ≡ 0) ⊎ (status ≡ STALLED) → engine.failed ≡ false) → (engine.failed ≡ false → LeavesNow (now disk) (MeansState engine)) → (status ≡ 0 → ⊥)
-      → Closes mid lines is engine.memory did status → calls.served ≡ []
-      → (left : List Wanted) → SetsUp once start.memory script put left
-      → RunOn now past failures once planned script start disk was is calls status
-  halted_run once planned script start engine put text names was mid is lines did disk calls status it prints none at_end
-      works means never closes unserved left set_up =
-      let on = put_on now past failures start engine put it.has in
-      let whole = on.whole ∙ append-nil put in
-      record {
-        setup = put;
-        told = on.told;
-        doubt = on.doubt;
-        puts = subst (λ (d : D). Puts now past failures start start.disk d put on.told on.doubt) (sym at_end) on.puts;
-        settles = settled start engine put [] disk status on works means;
-        printed = record {
-          said = it.told;
-          others = it.others;
-          split = it.split;
-          kept = subst (λ (d : D). LeavesNow (now d) (MeansAtLeast start (on.told ++ on.doubt) (length it.told))) (sym at_end)
-              (subst (λ (l : List Command). LeavesNow (now engine.disk) (MeansAtLeast start l (length it.told))) (sym whole) it.kept);
-          did = did;
-          begins = subst (λ (t : List ℕ). BeginsFinals was is t (after start.memory on.told) did) it.lines (none_done was is text engine.memory (after start.memory on.told) did none (closes was text prints).0);
-          whole = λ zero. absurd (never zero);
-        };
-        traced = record { legal = subst (IsLegal (after start.memory put)) (sym unserved) tt; accepted = inl unserved };
-        tells = inr (record { left = left; began = set_up; put = whole; untold = none; refused = never });
-      }
-
   -- a run of which nothing is said of a plan
   pub unplanned : (once planned : Bool) (script : List ℕ) (start : EngineState D) (disk : D)
       (was is : Option (List ℕ)) (calls : TraceState) (status : ℕ)
@@ -340,25 +307,73 @@ module _ {D : Type 0} (now : D → Moment) (past : D → List Moment) (failures 
   }
 
 module _ {D : Type 0} (disk : Ghosts D) where
+  -- the setup was ended
+  pub halted_run : (once planned : Bool) (script : List ℕ) (start : EngineState D) (t : SessionState D)
+      (course : Option Course) (waited : List Waited) (text : List ℕ) (was mid is : Option (List ℕ)) (lines : Lines)
+      (did : List Did) (new : D) (calls : TraceState) (status : ℕ)
+      → IsOver (start_at start.disk start) t course text waited → Kept disk t → disk.honest t.engine.disk
+      → Prints was mid lines text → did ≡ [] → new ≡ t.engine.disk
+      → ((status ≡ 0) ⊎ (status ≡ STALLED) → t.engine.failed ≡ false)
+      → (t.engine.failed ≡ false → LeavesNow (disk.now new) (MeansState t.engine)) → (status ≡ 0 → ⊥)
+      → Closes mid lines is t.engine.memory did status → calls.served ≡ []
+      → (left : List Wanted) → SetsUp once start.memory script (t.put ++ t.doubt) left
+      → RunOn disk.now disk.past disk.failures once planned script start new was is calls status
+  unfolding put_on
+  halted_run once planned script start t course waited text was mid is lines did new calls status over kept h
+      prints none at_end works means never closes unserved left set_up_by =
+      let on = put_on disk start t.engine t.put t.doubt (set_up disk start t over.start_is kept) h in
+      let all : List Command = t.put ++ t.doubt in
+      let short : length over.told ≤ length t.put =
+      (let split = ap length over.split in omega (arith, split, length-append over.told over.others)) in
+      record {
+        setup = all;
+        told = on.told;
+        doubt = on.doubt;
+        puts = subst (λ (d : D). Puts disk.now disk.past disk.failures start start.disk d all on.told on.doubt)
+            (sym at_end) on.puts;
+        settles = settled disk.now disk.past disk.failures start t.engine all [] new status on works means;
+        printed = record {
+          said = over.told;
+          others = over.others ++ t.doubt;
+          split = ap (λ (l : List Command). l ++ t.doubt) over.split ∙ append_assoc over.told over.others t.doubt;
+          kept = subst (λ (d : D). LeavesNow (disk.now d) (MeansAtLeast start all (length over.told))) (sym at_end)
+              (λ file left. with_or_without start t.put t.doubt (length over.told) file short (on.puts.last file left));
+          did = did;
+          begins = subst (λ (l : List ℕ). BeginsFinals was is l (after start.memory on.told) did) over.lines
+              (none_done disk.now disk.past disk.failures was is text t.engine.memory (after start.memory on.told) did none (closes was text prints).0);
+          whole = λ zero. absurd (never zero);
+        };
+        traced = record { legal = subst (IsLegal (after start.memory all)) (sym unserved) tt; accepted = inl unserved };
+        tells = inr (record { left = left; began = set_up_by; put = refl; untold = none; refused = never });
+      }
+
   -- the elements' servers ended
-  pub ended_run : (once planned : Bool) (script bases : List ℕ) (whole : Option (List Ask)) (orders : List Ask) (start mid : EngineState D) (setup : List Command) (text : List ℕ) (names : List Waiter) (was held is : Option (List ℕ)) (lines : Lines) (new : D) (calls : TraceState) (status : ℕ) → GoesWith disk.now disk.past disk.failures start mid setup text names
-      → Prints was held lines text → EndedOn disk planned whole orders mid new held lines is calls.served status
-      → AreOrders once mid.memory (settled_when once start.memory) bases (script_heard script) orders
+  pub ended_run : (once planned : Bool) (script bases : List ℕ) (whole : Option (List Ask)) (orders : List Ask)
+      (start : EngineState D) (t : SessionState D) (s : Standing) (n : Notes) (text : List ℕ)
+      (was held is : Option (List ℕ)) (lines : Lines) (new : D) (calls : TraceState) (status : ℕ)
+      → IsServing (start_at start.disk start) t s text n → Kept disk t → disk.honest t.engine.disk
+      → Prints was held lines text
+      → EndedOn disk planned whole orders t.engine new held lines is calls.served status
+      → AreOrders once t.engine.memory (settled_when once start.memory) bases (script_heard script) orders
       → IsOfAll once bases (script_heard script) whole
-      → SetsUp once start.memory script setup [] → bases ≡ bases_made once start.memory script setup
+      → SetsUp once start.memory script t.put [] → bases ≡ bases_made once start.memory script t.put
       → ArePartsThere (length start.memory.windows) (script_heard script)
       → RunOn disk.now disk.past disk.failures once planned script start new was is calls status
   unfolding puts_on
-  ended_run once planned script bases whole orders start mid setup text names was held is lines new calls status it
-      prints ended of_script is_whole set_up named there =
+  ended_run once planned script bases whole orders start t s n text was held is lines new calls status it kept h
+      prints ended of_script is_whole sets named there =
+      let mid = t.engine in
+      let setup = t.put in
       let served = ended.ended.served in
       let trace = calls.served in
-      let begun = it.has.memory it.works in
+      let begun = it.memory in
       let put = accepted_in mid.memory trace in
-      let on = puts_on disk.now disk.past disk.failures start mid ended.engine setup it.has it.works ended.ended.plan trace served in
+      let has : SetUp disk start mid setup [] = subst (λ (l : List Command). SetUp disk start mid setup l) it.sure
+      (set_up disk start t it.start_is kept) in
+      let on = puts_on disk start mid ended.engine setup has h it.works ended.ended.plan trace served in
       let closes = ended.printed was text prints in
       let told_is : ended.engine.memory ≡ after start.memory on.told = sym served.ends
-      ∙ sym (accepted-after mid.memory trace) ∙ goes_on disk.now disk.past disk.failures start mid ended.engine setup it.has it.works
+      ∙ sym (accepted-after mid.memory trace) ∙ goes_on disk start mid ended.engine setup has h it.works
       ended.ended.plan trace served (accepted_in mid.memory trace) in
       record {
         setup = setup;
@@ -383,7 +398,7 @@ module _ {D : Type 0} (disk : Ghosts D) where
           accepted = inr (ap (λ (m : Contents). setup ++ accepted_in m trace) begun);
         };
         tells = inl (record {
-          made = set_up;
+          made = sets;
           parts = there;
           put = ap (λ (m : Contents). setup ++ accepted_in m trace) begun;
           orders = orders;

@@ -18,10 +18,10 @@ use Rattle.im_disk.specs.declared.disk.Disk.{Ghosts}
 use Rattle.im_disk.specs.Moment.{Moment, Left, Rises}
 use Rattle.im_disk.specs.Since.{Leaves, LeavesNow}
 use Rattle.im_engine.specs.State.{EngineState, MeansState}
-use Rattle.im_engine.specs.Run.{MeansBeginning, MeansWithOrWithout}
+use Rattle.im_engine.specs.Run.{MeansAfter, MeansBeginning, MeansWithOrWithout}
 use Rattle.im_controller.specs.Kept.{Begun, HasKept, accepted_in, begun_by}
 use Rattle.im_serial.specs.Asked.{Wanted}
-use Rattle.im_serial.specs.Serving.{MeansAtLeast, NotOpened}
+use Rattle.im_serial.specs.Serving.{NotOpened}
 use Rattle.im_text.specs.declared.lines.Lines.{Lines}
 use Rattle.im_text.specs.declared.reasons.Reason.{Reason}
 use Rattle.im_text.specs.declared.reasons.Reason.TheVariants.{Image, Request}
@@ -143,6 +143,11 @@ abbrev pub EndsServing : {D : Type 0} → Ghosts D → Bool → Option (List Ask
     → Option (List ℕ) → Lines → Option (List ℕ) → List Line → ℕ → Type 0
 EndsServing disk planned whole orders begun new was before is trace status = disk.honest new → begun.failed ≡ false
     → EndedOn disk planned whole orders begun new was before is trace status
+
+-- the file means the engine's state after a prefix of these commands that has at least the given number of them
+abbrev pub MeansAtLeast : {D : Type 0} → EngineState D → List Command → ℕ → List ℕ → Type 0
+MeansAtLeast s commands least file =
+    (many : ℕ) × (least ≤ many) × (many ≤ length commands) × MeansAfter s commands many file
 
 -- Since the image was opened these commands were put on it: those of the setup, then those of the elements' servers.
 -- Each was accepted in its turn. All were acknowledged but those in doubt. There are commands in doubt only if a call

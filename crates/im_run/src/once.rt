@@ -4,6 +4,7 @@ ghost use Rattle.im_text.specs.Printing.{Begins, IsLast, Prints};
 ghost use Rattle.im_serial.specs.Once.{HasServedNothing};
 ghost use Rattle.im_serial.specs.Serving.{seen_by};
 ghost use Rattle.im_run.specs.Once.{EndsOnce, RunsOnceOn, RunsOnceOnPlan};
+ghost use Rattle.im_run.specs.Setup.{BeginsHere};
 
 use crate::context::RunContext;
 use crate::opening::open_server;
@@ -27,11 +28,11 @@ fn refuse_rest<D: Disk, W: Write, N: Observer<News>>(
     observer: &mut N,
 ) -> (u8, D)
     ensures status { result.0 ≡ 1 }
-    ensures disk { result.1 ≡ server.engine.disk }
+    ensures disk { result.1 ≡ server.session.engine.disk }
     ensures last { (start : Option (List ℕ)) (text : List ℕ) → Prints start (W.contents out.old) server.lines text
         → (last : List ℕ) × (IsLast last × Begins start (W.contents out.new) (text ++ last)) }
 {
-    let (engine, mut paper) = server.leave();
+    let (session, mut paper) = server.leave();
     let _status = finish(
         alloc,
         Err(reason),
@@ -40,7 +41,7 @@ fn refuse_rest<D: Disk, W: Write, N: Observer<News>>(
         out,
         observer,
     );
-    (1, engine.close())
+    (1, session.close())
 }
 
 // Prints what the engine of a server has of a script, and runs the rest. Returns the status, the engine's disk, and the
@@ -59,9 +60,10 @@ fn run_rest<
     out: &mut W,
     observer: &mut N,
 ) -> (u8, D, Trace)
-    requires ready { HasServedNothing D.Disk (seen_by server (W.contents out.old)) server.bases.items }
+    requires ready { HasServedNothing (seen_by server (W.contents out.old)) server.bases.items }
+    requires fresh { BeginsHere server.session }
     ensures status { (result.0 ≤ 1) ⊎ (result.0 ≡ STALLED) }
-    ensures ends { EndsOnce D.Disk asked.entry.mode.planned asked.entry.script.now server.engine result.1
+    ensures ends { EndsOnce D.Disk asked.entry.mode.planned asked.entry.script.now server.session.engine result.1
         (W.contents out.old) (W.contents out.new) result.2 result.0 }
     ensures recorded { asked.entry.mode.recorded ≡ true → result.2.recorded ≡ true }
 {

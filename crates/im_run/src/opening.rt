@@ -6,6 +6,7 @@ ghost use Rattle.im_run.specs.Setup.{HasNotOpened, HasOpened};
 use im_disk::Disk;
 use im_engine::Engine;
 use im_serial::{Desk, Server};
+use im_session::Session;
 use im_text::{News, Reason, diagnose, end};
 use im_types::Observer;
 use std::alloc::Global;
@@ -29,7 +30,7 @@ pub(crate) fn open_server<D: Disk, W: Write, N: Observer<News>>(
     };
     match Engine::open(alloc, disk) {
         Ok(engine) => {
-            let server = Server::new(alloc, engine, desk);
+            let server = Server::new(alloc, Session::of(engine), desk);
             Ok(server)
         }
         Err((refusal, mut disk)) => {

@@ -89,7 +89,7 @@ fn make_block<D: Disk, W: Write, N: Observer<News>>(
     out: &mut W,
     observer: &mut N,
 ) -> Result<(), Reason>
-    ensures served { ServedBy D.Disk (wanted_by (Said.Block block)) result server.old (W.contents out.old) server.new
+    ensures served { ServedBy (wanted_by (Said.Block block)) result server.old (W.contents out.old) server.new
         (W.contents out.new) }
     ensures orders { sheet.new.orders.items ≡ sheet.old.orders.items }
     ensures past { settled_by sheet.new.past ≡ settled_by sheet.old.past }
@@ -98,9 +98,9 @@ fn make_block<D: Disk, W: Write, N: Observer<News>>(
     if sheet.setup.reserve(2).is_err() {
         return Err(Reason::Memory);
     }
-    let window = server.engine.memory().window(0);
+    let window = server.session.memory().window(0);
     let made = server.make_block(block, out, observer);
-    note_block(&mut sheet.setup, server.engine.memory(), window);
+    note_block(&mut sheet.setup, server.session.memory(), window);
     made
 }
 
@@ -112,7 +112,7 @@ fn take_said<D: Disk, W: Write, N: Observer<News>>(
     out: &mut W,
     observer: &mut N,
 ) -> Result<(), Reason>
-    ensures served { ServedBy D.Disk (line_blocks (settled_by sheet.old.past) (Says said)) result server.old
+    ensures served { ServedBy (line_blocks (settled_by sheet.old.past) (Says said)) result server.old
         (W.contents out.old) server.new (W.contents out.new) }
     ensures heard { OnOk result (HasHeard (settled_by sheet.old.past) (Says said) server.old.bases.items
         server.new.bases.items sheet.old.orders.items sheet.new.orders.items (settled_by sheet.new.past)) }
@@ -136,7 +136,7 @@ fn take_heard<D: Disk, W: Write, N: Observer<News>>(
     out: &mut W,
     observer: &mut N,
 ) -> Result<(), Reason>
-    ensures served { ServedBy D.Disk (line_blocks (settled_by sheet.old.past) heard) result server.old
+    ensures served { ServedBy (line_blocks (settled_by sheet.old.past) heard) result server.old
         (W.contents out.old) server.new (W.contents out.new) }
     ensures heard { OnOk result (HasHeard (settled_by sheet.old.past) heard server.old.bases.items
         server.new.bases.items sheet.old.orders.items sheet.new.orders.items (settled_by sheet.new.past)) }
@@ -151,9 +151,9 @@ fn take_heard<D: Disk, W: Write, N: Observer<News>>(
 
 // Returns how many elements the memory of a server has.
 fn count_elements<D: Disk>(server: &Server<D>) -> u16
-    ensures { result ≡ length server.now.engine.memory.windows }
+    ensures { result ≡ length server.now.session.engine.memory.windows }
 {
-    server.engine.memory().elements()
+    server.session.memory().elements()
 }
 
 // Does what each line says, in order. It notes the least element that is missing and whose part begins.
@@ -164,12 +164,12 @@ fn take_lines<D: Disk, W: Write, N: Observer<News>>(
     out: &mut W,
     observer: &mut N,
 ) -> Result<(), Reason>
-    ensures served { ServedBy D.Disk (blocks_of (settled_by sheet.old.past) (script_heard script.now)) result
+    ensures served { ServedBy (blocks_of (settled_by sheet.old.past) (script_heard script.now)) result
         server.old (W.contents out.old) server.new (W.contents out.new) }
     ensures read { OnOk result (HasReadTo (settled_by sheet.old.past) (script_heard script.now) sheet.old.orders.items
         (settled_by sheet.new.past) [] server.new.bases.items sheet.new.orders.items) }
     ensures there { OnOk result (sheet.new.missing ≡ None
-        → ArePartsThere (length server.old.engine.memory.windows) (script_heard script.now)) }
+        → ArePartsThere (length server.old.session.engine.memory.windows) (script_heard script.now)) }
 {
     let elements = count_elements(server);
     let mut missing: Option<u16> = None;
@@ -206,12 +206,12 @@ fn set_up<D: Disk, W: Write, N: Observer<News>>(
     out: &mut W,
     observer: &mut N,
 ) -> Result<(), Reason>
-    ensures served { ServedBy D.Disk (blocks_of (settled_by sheet.old.past) (script_heard script.now)) result
+    ensures served { ServedBy (blocks_of (settled_by sheet.old.past) (script_heard script.now)) result
         server.old (W.contents out.old) server.new (W.contents out.new) }
     ensures read { OnOk result (HasReadTo (settled_by sheet.old.past) (script_heard script.now) sheet.old.orders.items
         (settled_by sheet.new.past) [] server.new.bases.items sheet.new.orders.items) }
     ensures there { OnOk result (sheet.new.missing ≡ None
-        → ArePartsThere (length server.old.engine.memory.windows) (script_heard script.now)) }
+        → ArePartsThere (length server.old.session.engine.memory.windows) (script_heard script.now)) }
 {
     match take_lines(server, sheet, script, out, observer) {
         Ok(()) => server.lines.flush(out),
@@ -238,18 +238,18 @@ pub fn read_orders<D: Disk, W: Write, N: Observer<News>>(
     out: &mut W,
     observer: &mut N,
 ) -> (Result<Workload, Reason>, Vec<Line>)
-    ensures served { ServedBy D.Disk
-        (blocks_asked asked.entry.once server.old.engine.memory asked.entry.script.now) result.0 server.old
+    ensures served { ServedBy
+        (blocks_asked asked.entry.once server.old.session.engine.memory asked.entry.script.now) result.0 server.old
         (W.contents out.old) server.new (W.contents out.new) }
-    ensures orders { IfOk result.0 (λ work. HasOrders asked.entry.once server.old.engine.memory
-        server.new.engine.memory server.new.bases.items asked.entry.script.now work.orders.items) }
+    ensures orders { IfOk result.0 (λ work. HasOrders asked.entry.once server.old.session.engine.memory
+        server.new.session.engine.memory server.new.bases.items asked.entry.script.now work.orders.items) }
     ensures whole { IfOk result.0 (λ work. IsOfAll asked.entry.once server.new.bases.items
         (script_heard asked.entry.script.now) (asks_in work.whole)) }
     ensures mode { IfOk result.0 (λ work. work.mode ≡ asked.entry.mode) }
-    ensures there { OnOk result.0 (ArePartsThere (length server.old.engine.memory.windows)
+    ensures there { OnOk result.0 (ArePartsThere (length server.old.session.engine.memory.windows)
         (script_heard asked.entry.script.now)) }
 {
-    let Ok(mut sheet) = Sheet::new(alloc, server.engine.memory(), asked.once) else {
+    let Ok(mut sheet) = Sheet::new(alloc, server.session.memory(), asked.once) else {
         return (Err(Reason::Memory), Vec::new(alloc));
     };
     match set_up(server, &mut sheet, asked.script, out, observer) {
@@ -260,7 +260,7 @@ pub fn read_orders<D: Disk, W: Write, N: Observer<News>>(
                 missing,
                 ..
             } = sheet;
-            let memory = server.engine.memory();
+            let memory = server.session.memory();
             let bases = server.bases.as_slice();
             let work = make_workload(alloc, memory, bases, orders, asked);
             (with_parts(work, missing), setup)

@@ -111,13 +111,13 @@ fn serve_on<
 ) -> (u8, D, Calls)
     ensures status { (result.0 ≤ 1) ⊎ (result.0 ≡ STALLED) }
     ensures ended { EndsServing D.Disk work.mode.planned (asks_in work.whole) (map ask_of work.orders.items)
-        server.engine result.1 (W.contents out.old) server.lines (W.contents out.new) result.2.items result.0 }
+        server.session.engine result.1 (W.contents out.old) server.lines (W.contents out.new) result.2.items result.0 }
     ensures recorded { work.mode.recorded ≡ true → result.2.recorded ≡ true }
-    ensures honest { D.honest result.1 → D.honest server.engine.disk }
+    ensures honest { D.honest result.1 → D.honest server.session.engine.disk }
 {
     let alloc = context.alloc;
-    let (engine, paper) = server.leave();
-    match begin(context.rt, alloc, engine, &work) {
+    let (session, paper) = server.leave();
+    match begin(context.rt, alloc, session.into_engine(), &work) {
         Ok(opening) => {
             let (ending, trace) = serve_opening(context, opening, work);
             tell_late(ending.engine.memory(), ending.waits.as_slice(), observer);
@@ -148,24 +148,25 @@ pub(crate) fn run_server<
     observer: &mut N,
 ) -> (u8, D, Trace)
     requires ready { CanServe D.Disk (seen_by server (W.contents out.old)) }
-    requires bases { server.bases.items ≡ bases_first asked.once server.engine.memory asked.script.now }
+    requires bases { server.bases.items ≡ bases_first asked.once server.session.engine.memory asked.script.now }
     ensures status { (result.0 ≤ 1) ⊎ (result.0 ≡ STALLED) }
-    ensures run { EndsRun D.Disk asked.entry.once asked.entry.mode.planned asked.entry.script.now server.engine result.1
-        (W.contents out.old) (W.contents out.new) result.2 result.0 }
+    ensures run { EndsRun D.Disk asked.entry.once asked.entry.mode.planned asked.entry.script.now server.session.engine
+        result.1 (W.contents out.old) (W.contents out.new) result.2 result.0 }
     ensures recorded { asked.entry.mode.recorded ≡ true → result.2.recorded ≡ true }
-    ensures honest { D.honest result.1 → D.honest server.engine.disk }
+    ensures honest { D.honest result.1 → D.honest server.session.engine.disk }
 {
     let alloc = context.alloc;
     let mut server = server;
     let (read, setup) = read_orders(alloc, &mut server, asked, out, observer);
     match read {
         Ok(work) => {
+            let _engine = server.session.engine(); // So that it is known what a crash leaves.
             let (status, disk, served) = serve_on(context, server, work, out, observer);
             (status, disk, Trace { setup, served })
         }
         Err(reason) => {
-            let (engine, paper) = server.leave();
-            let ending = no_server(alloc, engine, reason);
+            let (session, paper) = server.leave();
+            let ending = no_server(alloc, session.into_engine(), reason);
             let (status, disk) = close(alloc, ending, paper, out, observer);
             let served = Calls::new();
             (status, disk, Trace { setup, served })

@@ -130,12 +130,6 @@ named_here m s put it = subst (λ (l : List Command). NamesIf m s.script l s.bas
 pub named_first : (m : Contents) (c : Course) → HasNamed m (standing (Some c) c.first c.wanted) []
 named_first m c = λ more. refl
 
--- what may have been put was put, or not
-pub put_or_not : (P : List Command → Type 0) (c : Command) (b : Bool) → P [] → P (c ∷ []) → P (if b then c ∷ [] else
-    [])
-put_or_not P c true none one = one
-put_or_not P c false none one = none
-
 -- ---- lines
 
 -- a line that says this, and those behind it

@@ -1,111 +1,90 @@
 -- What runs of a script leave, whatever stopped them. (Own.)
-use Rattle.std.proofs.Common.{◌≡◌, ◌⊎◌, ◌∙◌, inl, inr, ⊎_elim, ℕ, ◌+◌}
-use Rattle.std.proofs.Common.{List, [], ◌++◌, length, take, refl, sym, subst}
+use Rattle.std.proofs.Common.{◌≡◌, ◌⊎◌, ◌∙◌, inl, inr, ⊎_elim, ℕ, ◌+◌, false}
+use Rattle.std.proofs.Common.{List, [], ◌++◌, length, refl, sym, ap, subst}
 use Rattle.std.proofs.Common.{arith, length-append}
 use Rattle.std.specs.Prelude.{Option, Some}
-use Rattle.std.proofs.lemmas.List.{length-take-le, take_all}
+use Rattle.std.proofs.lemmas.List.{append-nil}
 use Rattle.im_types.specs.declared.commands.Command.{Command}
 use Rattle.im_types.specs.declared.sizes.Limits.{Limits}
 use Rattle.im_types.specs.Meaning.{Means, accept_each}
 use Rattle.im_types.specs.Run.{after}
 use Rattle.im_disk.specs.declared.disk.Disk.{Ghosts}
 use Rattle.im_disk.specs.Moment.{Left, Moment, Outside}
-use Rattle.im_disk.specs.Since.{LeavesNow}
+use Rattle.im_disk.specs.Since.{LeavesNow, LeavesOnly}
 use Rattle.im_disk.proofs.SinceLemmas.{leaves_now, leaves_weaker}
-use Rattle.im_engine.specs.State.{EngineState, MeansState}
-use Rattle.im_engine.specs.Run.{MeansBeginning}
-use Rattle.im_engine.proofs.FilesMean.{means_one}
+use Rattle.im_session.specs.Kept.{Kept, MeansPut, SessionState}
+use Rattle.im_session.proofs.AcceptedLemmas.{each_accepted}
+use Rattle.im_session.proofs.CarryLemmas.{BeganWith, began_with, carried}
 use Rattle.im_serial.specs.Asked.{Wanted, wanted_of}
 use Rattle.im_serial.specs.Begun.{HasComeTo, HasGoneOn, KeepsBegun, MeansBegun, MeansDone, new_memory}
-use Rattle.im_serial.specs.Once.{HasMade, IsAskedOnce, SerialOnceOn, ServedOnce}
+use Rattle.im_serial.specs.Once.{HasMade, IsAskedOnce, SerialOnceOn}
 use Rattle.im_serial.proofs.BegunLemmas.{all_accepted, all_asked, begun_on, gone_on}
 use Rattle.im_serial.proofs.SetupLemmas.{setup_first}
 
--- what was found at an opening is what a run came to
-record WasBegun {D : Type 0} (limits : Limits) (text : List ℕ) (start : EngineState D) : Type 0 where
-  earlier : List Command
-  count : start.count ≡ length earlier
-  begun : HasComeTo limits (wanted_of text) earlier start.memory
+module _ {D : Type 0} (disk : Ghosts D) (limits : Limits) (text : List ℕ) (s : SessionState D) (status : ℕ)
+    (kept : Kept disk s) (h : disk.honest s.engine.disk)
+    (before : LeavesNow (disk.now s.start.disk) (MeansBegun limits (wanted_of text)))
+    (asked : IsAskedOnce s.start.memory (wanted_of text) (s.put ++ s.doubt) status)
+    (made : HasMade s.start.memory (wanted_of text) ⊎ ((s.put ++ s.doubt ≡ []) × (status ≡ 0 → ⊥))) where
+  abbrev script : List Wanted
+  script = wanted_of text
 
-module _ {D : Type 0} (limits : Limits) (text : List ℕ) (old : Moment) (start : EngineState D)
-    (before : LeavesNow old (MeansBegun limits (wanted_of text)))
-    (found : (file : List ℕ) × Left old file × MeansState start file) where
-  was_begun : WasBegun limits text start
-  was_begun =
-      let it = before found.0 found.1 in
-      let same = means_one found.0 start.memory it.1.0 start.count (length it.0) start.room 0 found.2 it.1.1.1 in
-      record {
-        earlier = it.0;
-        count = same.1;
-        begun = subst (HasComeTo limits (wanted_of text) it.0) (sym same.0) it.1.1.0;
-      }
+  abbrev all : List Command
+  all = s.put ++ s.doubt
 
-pub went_on : {D : Type 0} (limits : Limits) (text : List ℕ) (old : Moment) (start : EngineState D) (put : List
-    Command) (status : ℕ) → LeavesNow old (MeansBegun limits (wanted_of text))
-    → (file : List ℕ) × Left old file × MeansState start file → IsAskedOnce start.memory (wanted_of text) put status
-    → accept_each start.memory put ≡ Some (after start.memory put)
-    → HasMade start.memory (wanted_of text) ⊎ ((put ≡ []) × (status ≡ 0 → ⊥))
-    → HasGoneOn limits (wanted_of text) start.memory put status
-went_on limits text old start put status before found asked accepted made =
-    let it = was_begun limits text old start before found in
-    gone_on limits (wanted_of text) (setup_first text) it.earlier start.memory it.begun put status asked accepted made
+  -- what the session began with is what a run came to
+  began : BeganWith (HasComeTo limits script) s
+  began = began_with disk (HasComeTo limits script) s kept h before
 
--- each file that such a run leaves
-begins_on : {D : Type 0} (limits : Limits) (text : List ℕ) (old : Moment) (start : EngineState D) (put : List Command)
-    (status : ℕ) → LeavesNow old (MeansBegun limits (wanted_of text))
-    → (file : List ℕ) × Left old file × MeansState start file → IsAskedOnce start.memory (wanted_of text) put status
-    → accept_each start.memory put ≡ Some (after start.memory put)
-    → HasMade start.memory (wanted_of text) ⊎ ((put ≡ []) × (status ≡ 0 → ⊥))
-    → (file : List ℕ) → MeansBeginning start put file → MeansBegun limits (wanted_of text) file
-begins_on limits text old start put status before found asked accepted made file means =
-    let it = was_begun limits text old start before found in
-    let many = means.0 in
-    let short : length (take many put) ≡ many = length-take-le many put means.1 in
-    let both = length-append it.earlier (take many put) in
-    let count = it.count in
-    let all : start.count + many ≡ length (it.earlier ++ take many put) = omega arith in (
-      it.earlier ++ take many put,
-      (
-        after start.memory (take many put),
-        (
-          begun_on limits (wanted_of text) (setup_first text) it.earlier start.memory it.begun put status asked accepted
-              made many,
-          subst (λ (n : ℕ). Means (after start.memory (take many put)) n 0 file) all means.2,
-        ),
-      ),
-    )
+  accepted : accept_each s.start.memory all ≡ Some (after s.start.memory all)
+  accepted = each_accepted s.start.memory all kept.in_turn
 
-module _ {D : Type 0} (disk : Ghosts D) (limits : Limits) (text : List ℕ) (old new : D) (was is : Option (List ℕ))
-    (status : ℕ) (before : LeavesNow (disk.now old) (MeansBegun limits (wanted_of text))) where
+  pub went_on : HasGoneOn limits script s.start.memory all status
+  went_on = gone_on limits script (setup_first text) began.earlier s.start.memory began.holds all status asked accepted
+      made
+
+  -- each file that such a run leaves
+  begins_on : LeavesOnly disk.now disk.past s.start.disk s.engine.disk (MeansBegun limits script)
+  begins_on = carried disk (HasComeTo limits script) s kept h before
+      (λ earlier holds count many few. begun_on limits script (setup_first text) earlier s.start.memory holds all status
+      asked accepted made many)
+
   -- with status 0 all of it is done
-  done_on : ServedOnce disk.now disk.past disk.failures text old new was is status → status ≡ 0
-      → LeavesNow (disk.now new) (MeansDone limits (wanted_of text))
-  done_on it zero = λ file left.
-      let script = wanted_of text in
-      let m = it.start.memory in
-      let w = was_begun limits text (disk.now old) it.start before it.found in
-      let asked = all_asked limits script (setup_first text) w.earlier m w.begun it.put status it.asked it.accepted
-      it.made in
-      let all = take_all (length it.put) it.put (omega arith) in
-      let both = length-append w.earlier it.put in
-      let first = w.count in
-      let count : it.start.count + length it.put ≡ length (w.earlier ++ it.put) = omega arith in (
-        w.earlier ++ it.put,
+  done_on : s.engine.failed ≡ false → status ≡ 0 → LeavesNow (disk.now s.engine.disk) (MeansDone limits script)
+  done_on works zero = λ file left.
+      let m = s.start.memory in
+      let w = began in
+      let count = w.count in
+      let both = length-append w.earlier all in
+      let sum : s.start.count + length all ≡ length (w.earlier ++ all) = omega (arith, count, both) in
+      let same : s.put ≡ all = sym (append-nil s.put) ∙ ap (λ (l : List Command). s.put ++ l) (sym (kept.sure works)) in
+      let means : MeansPut s.start all file = ⊎_elim
+      (λ sure. subst (λ (l : List Command). MeansPut s.start l file) same sure) (λ it. it)
+      ((kept.leaves h).now file left) in
+      let it = all_asked limits script (setup_first text) w.earlier m w.holds all status asked accepted made in (
+        w.earlier ++ all,
         (
-          after m it.put,
+          after m all,
           (
-            record { left = asked.left; leads = asked.leads; all = λ none. asked.all zero },
+            record { left = it.left; leads = it.leads; all = λ none. it.all zero },
             (
-              all_accepted limits script (setup_first text) w.earlier m w.begun it.put status it.asked it.accepted
-                  it.made,
-              subst (λ (n : ℕ). Means (after m it.put) n 0 file) count
-                  (subst (λ (l : List Command). Means (after m l) (it.start.count + length it.put) 0 file) all
-                  (it.done zero file left)),
+              all_accepted limits script (setup_first text) w.earlier m w.holds all status asked accepted made,
+              subst (λ (n : ℕ). Means (after m all) n 0 file) sum means,
             ),
           ),
         ),
       )
 
+  pub keeps_session : (status ≡ 0 → s.engine.failed ≡ false)
+      → KeepsBegun disk.now disk.past limits script s.start.disk s.engine.disk status
+  keeps_session works = record {
+    within = begins_on.within;
+    after = begins_on.after;
+    done = λ zero. done_on (works zero) zero;
+  }
+
+module _ {D : Type 0} (disk : Ghosts D) (limits : Limits) (text : List ℕ) (old new : D) (was is : Option (List ℕ))
+    (status : ℕ) (before : LeavesNow (disk.now old) (MeansBegun limits (wanted_of text))) (h : disk.honest new) where
   pub keeps_on : SerialOnceOn disk text old new was is status
       → KeepsBegun disk.now disk.past limits (wanted_of text) old new status
   keeps_on (inl it) = record {
@@ -116,15 +95,12 @@ module _ {D : Type 0} (disk : Ghosts D) (limits : Limits) (text : List ℕ) (old
     done = λ zero. absurd (let one = it.status_is in omega arith);
   }
   keeps_on (inr it) =
-      let each = begins_on limits text (disk.now old) it.start it.put status before it.found it.asked it.accepted
-      it.made in
-      record {
-        within = leaves_weaker (disk.now old) (disk.now new) (disk.past old) (disk.past new) (MeansBeginning it.start
-            it.put) (MeansBegun limits (wanted_of text)) it.leaves each;
-        after = λ file left. ⊎_elim (before file) (each file) (leaves_now (disk.now old) (disk.now new) (disk.past old)
-            (disk.past new) (MeansBeginning it.start it.put) it.leaves file left);
-        done = done_on it;
-      }
+      subst (λ (d : D). KeepsBegun disk.now disk.past limits (wanted_of text) d new status) it.opened
+      (subst (λ (d : D). KeepsBegun disk.now disk.past limits (wanted_of text) it.session.start.disk d status)
+      (sym it.closed)
+      (keeps_session disk limits text it.session status it.kept (subst disk.honest it.closed h)
+      (subst (λ (d : D). LeavesNow (disk.now d) (MeansBegun limits (wanted_of text))) (sym it.opened) before)
+      it.asked it.made it.works))
 
 -- a crash leaves no more than could be left
 pub crashed_keeps : (old new : Moment) (P : List ℕ → Type 0) → Left old new.bytes → new.ranges ≡ old.ranges

@@ -20,12 +20,7 @@ use Rattle.im_types.specs.Window.{bounds, next_number}
 use Rattle.im_types.specs.declared.commands.Command.{Command}
 use Rattle.im_types.specs.Run.{after}
 use Rattle.im_disk.specs.declared.disk.Disk.{Ghosts}
-use Rattle.im_disk.specs.Moment.{Left, Rises}
-use Rattle.im_disk.specs.Since.{Leaves, LeavesNow}
-use Rattle.im_disk.proofs.SinceLemmas.{left_now, leaves_now, leaves_then}
-use Rattle.im_engine.specs.State.{EngineState, MeansState}
-use Rattle.im_engine.specs.Run.{MeansBeginning}
-use Rattle.im_engine.proofs.Running.{doubt_by}
+use Rattle.im_session.specs.Kept.{IsFresh, Kept as SessionKept, SessionStart, SessionState, session_of, start_at}
 use Rattle.im_laws.proofs.Tests.{and_both}
 use Rattle.im_laws.proofs.WindowLemmas.{kept_for-window}
 use Rattle.im_text.specs.declared.lines.Lines.{Lines}
@@ -36,29 +31,28 @@ use Rattle.im_text.proofs.PrintingLemmas.{prints_all, prints_begins, prints_none
 use Rattle.im_text.proofs.WindowLemmas.{bounds_found}
 use Rattle.im_serial.specs.declared.waits.Mark.{Mark}
 use Rattle.im_serial.specs.declared.waits.Mark.TheVariants.{Here}
-use Rattle.im_serial.specs.Noted.{AreKnown, AreLast, IsMarked, mark_place, noted_if}
+use Rattle.im_serial.specs.Noted.{AreKnown, AreLast, IsMarked, mark_place, noted_if, notes}
 use Rattle.im_script.specs.declared.script.Said.{Said}
 use Rattle.im_script.specs.Script.{Draft, lines_of}
 use Rattle.im_serial.specs.Asked.{Course, Leads, Wanted, said_at, standing, wanted_by, wanted_in, wanted_of}
-use Rattle.im_serial.specs.Serving.{EndsAt, GoingAt, HaltsWith, HasServed, Passes, ScriptServer, server_of}
+use Rattle.im_serial.specs.Serving.{EndsAt, GoingAt, HasServed, IsOver, Passes, ScriptServer, server_of}
 use Rattle.im_serial.specs.Once.{Breaks, BrokenAt, HasBroken, HasMet, HasPassed, HasShown, IsPrefix, Meets, MetAt}
 use Rattle.im_serial.specs.Had.{bases_had, has_block, has_next, left_of, length_asked}
 use Rattle.im_serial.specs.Once.{Names}
 use Rattle.im_serial.specs.Had.{if_new, met, met_all, news, next_had, numbers_had}
 use Rattle.im_serial.specs.Once.{lines_had, noted_of, past_line}
 use Rattle.im_serial.specs.Had.{who_next}
-use Rattle.im_serial.specs.Once.{waits_had, waits_of, ClosedOnce, DoneOnce, EndedOnce, HasServedOnce}
-use Rattle.im_serial.specs.Once.{AreMade, HaltsOnce, HasMade, IsMade, MakesBlocks, is_had, met_of}
+use Rattle.im_serial.specs.Once.{waits_had, waits_of, DoneOnce, EndedOnce, HasServedOnce}
+use Rattle.im_serial.specs.Once.{AreMade, HasMade, IsMadeOnce, IsMade, MakesBlocks, is_had, met_of}
 use Rattle.im_serial.specs.declared.meeting.Met.{Met}
 use Rattle.im_serial.specs.declared.meeting.Met.TheVariants as as_met
 use Rattle.im_serial.specs.Once.{HasServedNothing, IsAskedOnce, ServedOnce, ToldOnce, course_of, new_of}
 use Rattle.im_serial.specs.Fitting.{FitsScript}
-use Rattle.im_serial.proofs.AskedLemmas.{stands_here, wanted_line}
+use Rattle.im_serial.proofs.AskedLemmas.{wanted_line}
 use Rattle.im_serial.proofs.LeftLemmas.{had_at, has_some, met_here, met_less}
 use Rattle.im_serial.proofs.KeepsLemmas.{went_on}
-use Rattle.im_serial.proofs.NotedLemmas.{apart, last_or_before, noted_known}
-use Rattle.im_serial.proofs.ScriptedLemmas.{going_from}
-use Rattle.im_serial.proofs.ServingLemmas.{goes_none, halts, put_all}
+use Rattle.im_serial.proofs.NotedLemmas.{apart, last_or_before}
+use Rattle.im_serial.proofs.ScriptedLemmas.{going_from, over_here}
 
 -- what a line asks for, and those behind it
 pub line_wanted : (d next : Draft) (said : Said) (text line : List ℕ) (behind : Option (Bor (List ℕ))) → lines_of text ≡
@@ -380,7 +374,7 @@ module _ {D : Type 0} where
       ScriptServer D) → MetAt script many left held t → BrokenAt script held t
   broken_at script many left held t it = (
     it.0,
-    (met_broken t.engine.memory script many left it.0 t.waited t.marks it.1.0, it.1.1),
+    (met_broken t.session.engine.memory script many left it.0 t.waited t.marks it.1.0, it.1.1),
   )
 
   -- it is ended there
@@ -390,21 +384,21 @@ module _ {D : Type 0} where
       held new (meets script rest held at)
 
   -- it has the request
-  module _ (engine same : EngineState D) (held later : Option (List ℕ)) (before last : Lines) (waited noted : List
-      Waited) (marks marked : List Mark) (many : List ℕ) (w : Wanted) (it : Waiter) (engines : same ≡ engine)
-      (has : has_next many w.element ≡ true) (it_is : it ≡ who_next engine.memory many w.element)
+  module _ (session same : SessionState D) (held later : Option (List ℕ)) (before last : Lines) (waited noted : List
+      Waited) (marks marked : List Mark) (many : List ℕ) (w : Wanted) (it : Waiter) (sessions : same ≡ session)
+      (has : has_next many w.element ≡ true) (it_is : it ≡ who_next session.engine.memory many w.element)
       (others : (i : ℕ) → (i ≡ mark_place it → ⊥) → slice_get marked i ≡ slice_get marks i)
-      (unmarked : kept_for engine.memory.windows it ≡ None → marked ≡ marks) where
-    meets_more : noted ≡ waited ++ noted_of engine.memory it → ((k : Kept) → kept_for engine.memory.windows it ≡ Some k
+      (unmarked : kept_for session.engine.memory.windows it ≡ None → marked ≡ marks) where
+    meets_more : noted ≡ waited ++ noted_of session.engine.memory it → ((k : Kept) → kept_for session.engine.memory.windows it ≡ Some k
         → k.entry ≡ Waiting → slice_get marked (mark_place it) ≡ Some (Here (length waited)))
-        → PrintsMore held before later last (past_line engine.memory it)
-        → Meets many (w ∷ []) (met many w.element) [] (server_of engine held before waited marks) (server_of same later
+        → PrintsMore held before later last (past_line session.engine.memory it)
+        → Meets many (w ∷ []) (met many w.element) [] (server_of session held before waited marks) (server_of same later
         last noted marked)
     meets_more pushed mark prints = λ script rest from at.
-        let m = engine.memory in
+        let m = session.engine.memory in
         let there : Waiter = who_next m many w.element in
-        subst (λ (e : EngineState D). MetAt script (met many w.element) rest from (server_of e later last noted marked))
-        (sym engines) (
+        subst (λ (e : SessionState D). MetAt script (met many w.element) rest from (server_of e later last noted marked))
+        (sym sessions) (
           at.0 ++ past_line m there,
           (
             met_more m script rest many w at.0 waited marks at.1.0 has noted marked
@@ -419,37 +413,37 @@ module _ {D : Type 0} where
         )
 
     breaks_before : noted ≡ waited → PrintsOn held before later last ⊎ PrintsMore held before later last (past_line
-        engine.memory it)
-        → Breaks many (w ∷ []) (server_of engine held before waited marks) (server_of same later last noted marked)
+        session.engine.memory it)
+        → Breaks many (w ∷ []) (server_of session held before waited marks) (server_of same later last noted marked)
     breaks_before nothing prints = λ script rest from at.
-        subst (λ (e : EngineState D). BrokenAt script from (server_of e later last noted marked)) (sym engines)
-        (subst (λ (l : List Waited). BrokenAt script from (server_of engine later last l marked)) (sym nothing)
+        subst (λ (e : SessionState D). BrokenAt script from (server_of e later last noted marked)) (sym sessions)
+        (subst (λ (l : List Waited). BrokenAt script from (server_of session later last l marked)) (sym nothing)
         (by_prints script rest from at prints))
       where
         by_prints : (script rest : List Wanted) (from : Option (List ℕ)) → MetAt script many (w ∷ rest) from (server_of
-            engine held before waited marks)
-            → PrintsOn held before later last ⊎ PrintsMore held before later last (past_line engine.memory it)
-            → BrokenAt script from (server_of engine later last waited marked)
+            session held before waited marks)
+            → PrintsOn held before later last ⊎ PrintsMore held before later last (past_line session.engine.memory it)
+            → BrokenAt script from (server_of session later last waited marked)
         by_prints script rest from at (inl on) = (
           at.0,
-          (met_broken engine.memory script many (w ∷ rest) at.0 waited marks at.1.0, on from at.0 at.1.1),
+          (met_broken session.engine.memory script many (w ∷ rest) at.0 waited marks at.1.0, on from at.0 at.1.1),
         )
         by_prints script rest from at (inr more) = (
-          at.0 ++ past_line engine.memory (who_next engine.memory many w.element),
+          at.0 ++ past_line session.engine.memory (who_next session.engine.memory many w.element),
           (
-            met_line_broken engine.memory script rest many w at.0 waited marks at.1.0 has,
-            subst (λ (x : Waiter). Prints from later last (at.0 ++ past_line engine.memory x)) it_is (more from at.0
+            met_line_broken session.engine.memory script rest many w at.0 waited marks at.1.0 has,
+            subst (λ (x : Waiter). Prints from later last (at.0 ++ past_line session.engine.memory x)) it_is (more from at.0
                 at.1.1),
           ),
         )
 
-    pub passed_had : {T E : Type 0} (r : Result T E) → MatchResult r (λ x. noted ≡ waited ++ noted_of engine.memory it)
+    pub passed_had : {T E : Type 0} (r : Result T E) → MatchResult r (λ x. noted ≡ waited ++ noted_of session.engine.memory it)
         (λ e. noted ≡ waited)
-        → OnOk r ((k : Kept) → kept_for engine.memory.windows it ≡ Some k → k.entry ≡ Waiting → slice_get marked
+        → OnOk r ((k : Kept) → kept_for session.engine.memory.windows it ≡ Some k → k.entry ≡ Waiting → slice_get marked
         (mark_place it) ≡ Some (Here (length waited)))
-        → MatchResult r (λ x. PrintsMore held before later last (past_line engine.memory it)) (λ e. PrintsOn held before
-        later last ⊎ PrintsMore held before later last (past_line engine.memory it))
-        → HasPassed many (w ∷ []) (met many w.element) r (server_of engine held before waited marks) (server_of same
+        → MatchResult r (λ x. PrintsMore held before later last (past_line session.engine.memory it)) (λ e. PrintsOn held before
+        later last ⊎ PrintsMore held before later last (past_line session.engine.memory it))
+        → HasPassed many (w ∷ []) (met many w.element) r (server_of session held before waited marks) (server_of same
         later last noted marked)
     passed_had (Ok x) pushed mark prints = meets_more pushed mark prints
     passed_had (Err e) nothing mark prints = breaks_before nothing prints
@@ -490,11 +484,11 @@ module _ {D : Type 0} where
         ∙ append_assoc (wanted_by said) left rest))
 
   -- what is kept back is written
-  pub meets_printed : (first later : List ℕ) (all left : List Wanted) (old : ScriptServer D) (engine : EngineState D)
+  pub meets_printed : (first later : List ℕ) (all left : List Wanted) (old : ScriptServer D) (session : SessionState D)
       (held after : Option (List ℕ)) (before last : Lines) (waited : List Waited) (marks : List Mark)
-      → Meets first all later left old (server_of engine held before waited marks) → PrintsOn held before after last
-      → Meets first all later left old (server_of engine after last waited marks)
-  meets_printed first later all left old engine held after before last waited marks meets prints = λ script rest from
+      → Meets first all later left old (server_of session held before waited marks) → PrintsOn held before after last
+      → Meets first all later left old (server_of session after last waited marks)
+  meets_printed first later all left old session held after before last waited marks meets prints = λ script rest from
       at. let it = meets script rest from at in (it.0, (it.1.0, prints from it.0 it.1.1))
 
   -- the requests were met, whatever comes then
@@ -520,33 +514,33 @@ module _ {D : Type 0} where
 
   -- all of it is written
   pub shown_by : {T E : Type 0} (r : Result T E) (script : List Wanted) (bases known later : List ℕ) (behind : ℕ) (old :
-      ScriptServer D) (engine : EngineState D) (held after : Option (List ℕ)) (before last : Lines) (waited : List
-      Waited) (marks : List Mark) → engine ≡ old.engine
-      → Meets (numbers_had old.engine.memory) script later [] old (server_of engine held before waited marks)
-      → Names (numbers_had old.engine.memory) 0 script later behind [] bases known
-      → MakesBlocks old.engine.memory (numbers_had old.engine.memory) script later [] → PrintsOn held before after last
+      ScriptServer D) (session : SessionState D) (held after : Option (List ℕ)) (before last : Lines) (waited : List
+      Waited) (marks : List Mark) → session ≡ old.session
+      → Meets (numbers_had old.session.engine.memory) script later [] old (server_of session held before waited marks)
+      → Names (numbers_had old.session.engine.memory) 0 script later behind [] bases known
+      → MakesBlocks old.session.engine.memory (numbers_had old.session.engine.memory) script later [] → PrintsOn held before after last
       → OnOk r (last.pending.items ≡ []) → OnOk r (last.broken ≡ false)
-      → MatchResult r (λ x. HasShown script bases known old (server_of engine after last waited marks))
-      (λ e. Breaks (numbers_had old.engine.memory) script old (server_of engine after last waited marks))
-  shown_by (Ok x) script bases known later behind old engine held after before last waited marks same meets names makes
+      → MatchResult r (λ x. HasShown script bases known old (server_of session after last waited marks))
+      (λ e. Breaks (numbers_had old.session.engine.memory) script old (server_of session after last waited marks))
+  shown_by (Ok x) script bases known later behind old session held after before last waited marks same meets names makes
       prints pending works = record {
-        engine = same;
+        session = same;
         later = later;
-        meets = meets_printed (numbers_had old.engine.memory) later script [] old engine held after before last waited
+        meets = meets_printed (numbers_had old.session.engine.memory) later script [] old session held after before last waited
             marks
             meets prints;
-        made = subst (AreMade old.engine.memory (numbers_had old.engine.memory)) (append-nil script) (makes [] tt);
+        made = subst (AreMade old.session.engine.memory (numbers_had old.session.engine.memory)) (append-nil script) (makes [] tt);
         names = sym (append-nil known)
-            ∙ sym (names (bases ++ bases_had (numbers_had old.engine.memory) 0 (script ++ [])) []
+            ∙ sym (names (bases ++ bases_had (numbers_had old.session.engine.memory) 0 (script ++ [])) []
             refl)
-            ∙ ap (λ (l : List Wanted). bases ++ bases_had (numbers_had old.engine.memory) 0 l) (append-nil script);
+            ∙ ap (λ (l : List Wanted). bases ++ bases_had (numbers_had old.session.engine.memory) 0 l) (append-nil script);
         pending = pending;
         works = works;
       }
-  shown_by (Err e) script bases known later behind old engine held after before last waited marks same meets names
-      makes prints pending works = breaks_here (numbers_had old.engine.memory) later script [] old (server_of engine
+  shown_by (Err e) script bases known later behind old session held after before last waited marks same meets names
+      makes prints pending works = breaks_here (numbers_had old.session.engine.memory) later script [] old (server_of session
       after
-      last waited marks) (meets_printed (numbers_had old.engine.memory) later script [] old engine held after before
+      last waited marks) (meets_printed (numbers_had old.session.engine.memory) later script [] old session held after before
       last waited marks meets prints)
 
 pub names_none : (F : Bor (List ℕ) → List Wanted) (many later : List ℕ) (end behind : ℕ) (all : List Wanted) (before
@@ -589,36 +583,36 @@ news_line many later d next said text line behind lines read same =
     ∙ ap (λ (l : List Wanted). news many (wanted_by said) ++ l) (news_behind (met_all many (wanted_by said)) next behind
     ∙ ap (λ (l : List ℕ). option_map_or (λ rest. news l (wanted_in next (lines_of rest.now))) behind []) (sym same))
 
-module _ {D : Type 0} (disk : Ghosts D) where
+module _ {D : Type 0} where
   -- these requests, and those behind them
   module _ (all whole some left : List Wanted) (is : whole ≡ some ++ left) (first before : List ℕ) (old mid :
-      ScriptServer D) (so_far : Passes disk all first whole before old mid) where
-    part_there : (start : EngineState D) (held : Option (List ℕ)) (script : Option Course) (rest : List Wanted) →
-        GoingAt disk start held (standing script first (all ++ rest)) old
-        → GoingAt disk start held (standing script before (some ++ (left ++ rest))) mid
-    part_there start held script rest going = subst (λ (l : List Wanted). GoingAt disk start held (standing script
+      ScriptServer D) (so_far : Passes all first whole before old mid) where
+    part_there : (start : SessionStart D) (held : Option (List ℕ)) (script : Option Course) (rest : List Wanted) →
+        GoingAt start held (standing script first (all ++ rest)) old
+        → GoingAt start held (standing script before (some ++ (left ++ rest))) mid
+    part_there start held script rest going = subst (λ (l : List Wanted). GoingAt start held (standing script
         before l) mid) (ap (λ (l : List Wanted). l ++ rest) is ∙ append_assoc some left rest) (so_far start held script
         rest going)
 
-    pub part_serves : (after : List ℕ) (new : ScriptServer D) → Passes disk some before [] after mid new → Passes disk
+    pub part_serves : (after : List ℕ) (new : ScriptServer D) → Passes some before [] after mid new → Passes
         all first left after old new
     part_serves after new serves = λ start held script rest going. serves start held script (left ++ rest) (part_there
         start held script rest going)
 
-    pub part_ends : (new : ScriptServer D) → EndsAt disk some before mid new → EndsAt disk all first old new
+    pub part_ends : (new : ScriptServer D) → EndsAt some before mid new → EndsAt all first old new
     part_ends new ends = λ start held script rest going. ends start held script (left ++ rest) (part_there start held
         script rest going)
 
   pub left_none : (F : Bor (List ℕ) → List Wanted) (all : List Wanted) (first before : List ℕ) (old mid : ScriptServer
-      D) (rest : Option (Bor (List ℕ))) → rest ≡ None → Passes disk all first (option_map_or F rest []) before old mid
-      → Passes disk all first [] before old mid
-  left_none F all first before old mid rest none passes = subst (λ (o : Option (Bor (List ℕ))). Passes disk all first
+      D) (rest : Option (Bor (List ℕ))) → rest ≡ None → Passes all first (option_map_or F rest []) before old mid
+      → Passes all first [] before old mid
+  left_none F all first before old mid rest none passes = subst (λ (o : Option (Bor (List ℕ))). Passes all first
       (option_map_or F o []) before old mid) none passes
 
   pub left_some : (F : Bor (List ℕ) → List Wanted) (all : List Wanted) (first before : List ℕ) (old mid : ScriptServer
-      D) (rest : Option (Bor (List ℕ))) (text : Bor (List ℕ)) → rest ≡ Some text → Passes disk all first (option_map_or
-      F rest []) before old mid → Passes disk all first (F text) before old mid
-  left_some F all first before old mid rest text some passes = subst (λ (o : Option (Bor (List ℕ))). Passes disk all
+      D) (rest : Option (Bor (List ℕ))) (text : Bor (List ℕ)) → rest ≡ Some text → Passes all first (option_map_or
+      F rest []) before old mid → Passes all first (F text) before old mid
+  left_some F all first before old mid rest text some passes = subst (λ (o : Option (Bor (List ℕ))). Passes all
       first (option_map_or F o []) before old mid) some passes
 
 -- ---- from the beginning to the end
@@ -644,19 +638,18 @@ none_left (w ∷ waited) is = absurd (cc)
 no_item : (w : Waited) → ◌≡◌ {A = Option Waited} None (Some w) → ⊥
 no_item w is = cc
 
-module _ {D : Type 0} (disk : Ghosts D) where
+module _ {D : Type 0} where
   -- nothing was met yet
-  pub met_start : (script : List Wanted) (t : ScriptServer D) (bases : List ℕ) → HasServedNothing disk t bases
-      → MetAt script (numbers_had t.engine.memory) (script ++ []) t.held t
-  met_start script t bases ready = (
+  pub met_start : (script : List Wanted) (t : ScriptServer D) (bases : List ℕ) → HasServedNothing t bases
+      → MetAt script (numbers_had t.session.engine.memory) (script ++ []) t.held t
+  met_start script t bases ready = let m = t.session.engine.memory in (
     [],
     (
       record {
         memory = ready.memory;
-        lines = ap (lines_had t.engine.memory (numbers_had t.engine.memory)) (sym (append-nil script));
-        names = ap (waits_had t.engine.memory (numbers_had t.engine.memory)) (sym (append-nil script))
-            ∙ ap (λ (l : List Waited). map who_of l ++ waits_had t.engine.memory (numbers_had t.engine.memory) (script
-            ++ [])) (sym ready.waited);
+        lines = ap (lines_had m (numbers_had m)) (sym (append-nil script));
+        names = ap (waits_had m (numbers_had m)) (sym (append-nil script))
+            ∙ ap (λ (l : List Waited). map who_of l ++ waits_had m (numbers_had m) (script ++ [])) (sym ready.waited);
         marked = λ at w is. absurd (no_item w (ap (λ (l : List Waited). slice_get l at) (sym ready.waited) ∙ is));
         passed = λ at w is. absurd (no_item w (ap (λ (l : List Waited). slice_get l at) (sym ready.waited) ∙ is));
       },
@@ -664,88 +657,80 @@ module _ {D : Type 0} (disk : Ghosts D) where
     ),
   )
 
-  -- a server that was made of this engine
-  pub ready_of : (start engine : EngineState D) (held : Option (List ℕ)) (before lines : Lines) (waited : List Waited)
-      (marks : List Mark) (bases : List ℕ) → start.failed ≡ false
-      → (disk.honest start.disk → LeavesNow (disk.now start.disk) (MeansState start))
-      → IsMemory (length start.memory.cells) (length start.memory.windows) start.memory
-      → before.pending.items ≡ [] → waited ≡ [] → bases ≡ [] → engine ≡ start → lines ≡ before
-      → HasServedNothing disk (server_of engine held lines waited marks) bases
-  ready_of start engine held before lines waited marks bases works means memory pending none no_bases engines line =
+  -- a server that was made of this session
+  pub ready_of : (session same : SessionState D) (held : Option (List ℕ)) (before lines : Lines) (waited : List Waited)
+      (marks : List Mark) (bases : List ℕ) → IsFresh session → session.engine.failed ≡ false
+      → (let m = session.engine.memory in IsMemory (length m.cells) (length m.windows) m)
+      → before.pending.items ≡ [] → waited ≡ [] → bases ≡ [] → same ≡ session → lines ≡ before
+      → HasServedNothing (server_of same held lines waited marks) bases
+  ready_of session same held before lines waited marks bases fresh works memory pending none no_bases sessions line =
       record {
-        works = ap (λ (e : EngineState D). e.failed) engines ∙ works;
-        means = subst (λ (e : EngineState D). disk.honest e.disk → LeavesNow (disk.now e.disk) (MeansState e)) (sym
-            engines) means;
-        memory = subst (λ (e : EngineState D). IsMemory (length e.memory.cells) (length e.memory.windows) e.memory) (sym
-            engines) memory;
+        fresh = subst (λ (t : SessionState D). IsFresh t) (sym sessions) fresh;
+        works = ap (λ (t : SessionState D). t.engine.failed) sessions ∙ works;
+        memory = subst (λ (t : SessionState D). let m = t.engine.memory in
+            IsMemory (length m.cells) (length m.windows) m) (sym sessions) memory;
         waited = none;
         bases_is = no_bases;
         pending = ap (λ (l : Lines). l.pending.items) line ∙ pending;
       }
 
   -- it was ended before the first request
-  unbegun : (script : List Wanted) (old new : ScriptServer D) (bases : List ℕ) → HasServedNothing disk old bases
-      → new.engine ≡ old.engine → (it : BrokenAt script old.held new)
-      → FitsScript old.engine.memory script ⊎ ((it.0 ≡ []) × (new.waited ≡ []))
-      → EndedOnce disk old.engine script old.held new
-  unbegun script old new bases ready same it fit =
-      let c : Course = record {
-        first = bases_had (numbers_had old.engine.memory) 0 script;
-        wanted = new_of old.engine.memory script;
-        earlier = map who_of new.waited;
-      } in
-      let broken = subst (λ (e : EngineState D). HasBroken e.memory script it.0 new.waited) same it.1.0 in (
-        c,
-        (
-          it.0,
-          (
-            record { first = refl; wanted = refl; had_is = broken.lines; earlier_is = broken.names },
-            (
-              [],
-              (
-                subst (λ (e : EngineState D). HaltsOnce disk old.engine script c it.0 e [] new.waited) (sym same) (λ
-                    h. (
-                      h,
-                      (
-                        [],
-                        (
-                          [],
-                          (
-                            sym (append-nil (map who_of new.waited)),
-                            (
-                              halts disk.now disk.past disk.failures old.engine old.engine [] [] [] (goes_none disk.now
-                                  disk.past disk.failures old.engine ready.works (ready.means h)),
-                              (
-                                record {
-                                  left = c.wanted;
-                                  leads = refl;
-                                  done = [];
-                                  doubt = [];
-                                  split = refl;
-                                  few = omega arith;
-                                  sure = λ works. refl;
-                                  memory = refl;
-                                  known = broken.known;
-                                },
-                                (inr refl, ⊎_elim (λ is. inl is) (λ none. inr (refl, none)) fit),
-                              ),
-                            ),
-                          ),
-                        ),
-                      ),
-                    )),
-                subst (Prints old.held new.held new.lines) (sym (append-nil it.0)) it.1.1,
-              ),
-            ),
-          ),
-        ),
-      )
+  module _ (script : List Wanted) (old new : ScriptServer D) (bases : List ℕ) (ready : HasServedNothing old bases)
+      (same : new.session ≡ old.session) (text : List ℕ)
+      (broken : HasBroken old.session.engine.memory script text new.waited) where
+    abbrev begun : SessionState D
+    begun = session_of (start_at old.session.start.disk old.session.engine) [] [] old.session.engine
+
+    abbrev m : Contents
+    m = old.session.start.memory
+
+    session_is : new.session ≡ begun
+    session_is = same ∙ ready.fresh
+
+    at_start : HasBroken m script text new.waited
+    at_start = subst (λ (x : Contents). HasBroken x script text new.waited)
+        (sym (ap (λ (t : SessionState D). t.start.memory) ready.fresh)) broken
+
+    abbrev course_met : Course
+    course_met = record {
+      first = bases_had (numbers_had m) 0 script;
+      wanted = new_of m script;
+      earlier = map who_of new.waited;
+    }
+
+    unbegun : Prints old.held new.held new.lines text
+        → FitsScript m script ⊎ ((text ≡ []) × (new.waited ≡ [])) → EndedOnce old.session.start script old.held new
+    unbegun printed fit = record {
+      course = course_met;
+      had = text;
+      course_is = record { first = refl; wanted = refl; had_is = at_start.lines; earlier_is = at_start.names };
+      text = [];
+      over = subst (λ (t : SessionState D). IsOver old.session.start t (Some course_met) [] new.waited) (sym session_is)
+          (record {
+            start_is = sym (ap (λ (t : SessionState D). t.start) ready.fresh);
+            told = [];
+            others = [];
+            split = refl;
+            lines = refl;
+            many = 0;
+            names = sym (append-nil (map who_of new.waited));
+            few = omega arith;
+            left = new_of m script;
+            leads = refl;
+            known = at_start.known;
+          });
+      once = subst (λ (t : SessionState D). IsMadeOnce m t script text new.waited) (sym session_is) (record {
+        made = inr refl;
+        fit = ⊎_elim (λ is. inl is) (λ none. inr (refl, none)) fit;
+      });
+      printed = subst (Prints old.held new.held new.lines) (sym (append-nil text)) printed;
+    }
 
   -- nothing was printed
-  untold : (script : List Wanted) (old new : ScriptServer D) (bases : List ℕ) → HasServedNothing disk old bases
-      → new ≡ old → EndedOnce disk old.engine script old.held new
+  untold : (script : List Wanted) (old new : ScriptServer D) (bases : List ℕ) → HasServedNothing old bases
+      → new ≡ old → EndedOnce old.session.start script old.held new
   untold script old new bases ready same =
-      let m = old.engine.memory in
+      let m = old.session.engine.memory in
       let broken : HasBroken m script [] old.waited = record {
         lines = (lines_had m (numbers_had m) script, refl);
         names = (
@@ -754,314 +739,233 @@ module _ {D : Type 0} (disk : Ghosts D) where
         );
         known = λ at w is. absurd (no_item w (ap (λ (l : List Waited). slice_get l at) (sym ready.waited) ∙ is));
       } in
-      subst (λ (t : ScriptServer D). EndedOnce disk old.engine script old.held t) (sym same)
-      (unbegun script old old bases ready refl ([], (broken, prints_none old.held old.lines ready.pending))
+      subst (λ (t : ScriptServer D). EndedOnce old.session.start script old.held t) (sym same)
+      (unbegun script old old bases ready refl [] broken (prints_none old.held old.lines ready.pending)
       (inr (refl, ready.waited)))
+
+  fits_start : (script : List Wanted) (old : ScriptServer D) (bases : List ℕ) → HasServedNothing old bases
+      → FitsScript old.session.engine.memory script → FitsScript old.session.start.memory script
+  fits_start script old bases ready fit = subst (λ (m : Contents). FitsScript m script)
+      (sym (ap (λ (t : SessionState D). t.start.memory) ready.fresh)) fit
 
   -- it failed before the first request
   pub once_unbegun : (T : Type 0) {E : Type 0} (e : E) (script : List Wanted) (old new : ScriptServer D)
       (bases : List ℕ)
-      → new.engine ≡ old.engine → Breaks (numbers_had old.engine.memory) script old new
-      → FitsScript old.engine.memory script ⊎ (new ≡ old)
-      → HasServedOnce disk {T = T} script bases (Err e) old new
+      → new.session ≡ old.session → Breaks (numbers_had old.session.engine.memory) script old new
+      → FitsScript old.session.engine.memory script ⊎ (new ≡ old)
+      → HasServedOnce {T = T} script bases (Err e) old new
   once_unbegun T e script old new bases same breaks fit = λ ready. (
     ⊎_elim
-        (λ is. unbegun script old new bases ready same (breaks script [] old.held (met_start script old bases ready))
-        (inl is))
+        (λ is.
+        let it = breaks script [] old.held (met_start script old bases ready) in
+        unbegun script old new bases ready same it.0
+        (subst (λ (t : SessionState D). HasBroken t.engine.memory script it.0 new.waited) same it.1.0) it.1.1
+        (inl (fits_start script old bases ready is)))
         (untold script old new bases ready)
         fit,
     tt,
   )
 
   module _ (script : List Wanted) (bases known : List ℕ) (old mid : ScriptServer D) (it : HasShown script bases known
-      old mid) (fit : FitsScript old.engine.memory script) where
+      old mid) (fit : FitsScript old.session.engine.memory script) where
     -- and then it was ended
-    pub shown_ends : (T : Type 0) {E : Type 0} (e : E) → HasServedOnce disk {T = T} script bases (Err e) old mid
-    shown_ends T e = once_unbegun T e script old mid bases it.engine (breaks_here (numbers_had old.engine.memory)
-        it.later
-        script [] old mid it.meets) (inl fit)
+    pub shown_ends : (T : Type 0) {E : Type 0} (e : E) → HasServedOnce {T = T} script bases (Err e) old mid
+    shown_ends T e = once_unbegun T e script old mid bases it.session (breaks_here
+        (numbers_had old.session.engine.memory) it.later script [] old mid it.meets) (inl fit)
 
-    shown_at : HasServedNothing disk old bases → MetAt script it.later [] old.held mid
+    shown_at : HasServedNothing old bases → MetAt script it.later [] old.held mid
     shown_at ready = it.meets script [] old.held (met_start script old bases ready)
 
+    abbrev m : Contents
+    m = old.session.start.memory
+
     abbrev course : Course
-    course = course_of old.engine.memory script
+    course = course_of m script
+
+    m_is : HasServedNothing old bases → old.session.engine.memory ≡ m
+    m_is ready = sym (ap (λ (t : SessionState D). t.start.memory) ready.fresh)
+
+    met_there : (ready : HasServedNothing old bases)
+        → HasMet m script it.later [] (shown_at ready).0 mid.waited mid.marks
+    met_there ready = subst (λ (x : Contents). HasMet x script it.later [] (shown_at ready).0 mid.waited mid.marks)
+        (ap (λ (t : SessionState D). t.engine.memory) it.session ∙ m_is ready) (shown_at ready).1.0
 
     -- the text of what the image has, as it was printed
-    shown_text : (ready : HasServedNothing disk old bases) → (shown_at ready).0
-        ≡ lines_had old.engine.memory (numbers_had old.engine.memory) script
-    shown_text ready = sym ((subst (λ (e : EngineState D). HasMet e.memory script it.later [] (shown_at ready).0
-        mid.waited mid.marks) it.engine (shown_at ready).1.0).lines ∙ append-nil (shown_at ready).0)
+    shown_text : (ready : HasServedNothing old bases) → (shown_at ready).0 ≡ lines_had m (numbers_had m) script
+    shown_text ready = sym ((met_there ready).lines ∙ append-nil (shown_at ready).0)
 
-    pub shown_written : HasServedNothing disk old bases
-        → Appends old.held mid.held (lines_had old.engine.memory (numbers_had old.engine.memory) script)
+    pub shown_written : HasServedNothing old bases → Appends old.held mid.held (lines_had m (numbers_had m) script)
     shown_written ready = subst (Appends old.held mid.held) (shown_text ready) (prints_all old.held mid.held mid.lines
         (shown_at ready).0 it.works it.pending (shown_at ready).1.1)
 
-    shown_going : HasServedNothing disk old bases
-        → GoingAt disk old.engine mid.held (standing (Some course) known (course.wanted ++ [])) mid
+    shown_going : HasServedNothing old bases
+        → GoingAt old.session.start mid.held (standing (Some course) known (course.wanted ++ [])) mid
     shown_going ready =
-        let met = subst (λ (e : EngineState D). HasMet e.memory script it.later [] (shown_at ready).0 mid.waited
-        mid.marks) it.engine (shown_at ready).1.0 in
-        let names : known ≡ course.first = it.names ∙ ap (λ (l : List ℕ). l ++ course.first) ready.bases_is in
-        subst (λ (b : List ℕ). GoingAt disk old.engine mid.held (standing (Some course) b (course.wanted ++ [])) mid)
+        let met = met_there ready in
+        let names : known ≡ course.first = it.names ∙ ap (λ (l : List ℕ). l ++ bases_had (numbers_had
+        old.session.engine.memory) 0 script) ready.bases_is
+        ∙ ap (λ (x : Contents). bases_had (numbers_had x) 0 script) (m_is ready) in
+        subst (λ (b : List ℕ). GoingAt old.session.start mid.held (standing (Some course) b (course.wanted ++ [])) mid)
         (sym names)
-        (subst (λ (e : EngineState D). GoingAt disk old.engine mid.held (standing (Some course) course.first
-        (course.wanted ++ [])) (server_of e mid.held mid.lines mid.waited mid.marks)) (sym it.engine)
-        (going_from disk course old.engine mid.held mid.lines mid.waited mid.marks ready.works ready.means (record {
-          memory = ready.memory;
+        (subst (λ (t : SessionState D). GoingAt old.session.start mid.held (standing (Some course) course.first
+        (course.wanted ++ [])) (server_of t mid.held mid.lines mid.waited mid.marks)) (sym it.session)
+        (going_from course old.session mid.held mid.lines mid.waited mid.marks ready.fresh ready.works (record {
+          memory = met.memory;
           noted = λ at w is. inr (met.marked at w is);
         }) (sym (met.names ∙ append-nil (map who_of mid.waited))) it.pending))
 
+    made_there : HasServedNothing old bases → HasMade m script
+    made_there ready = subst (λ (x : Contents). HasMade x script) (m_is ready) it.made
+
     -- and the rest was served
     pub shown_serves : {T E : Type 0} (r : Result T E) (last : List ℕ) (new : ScriptServer D) (wanted : List Wanted)
-        → wanted ≡ new_of old.engine.memory script → HasServed disk wanted known last r mid new
-        → HasServedOnce disk script bases r old new
+        → wanted ≡ new_of old.session.engine.memory script → HasServed wanted known last r mid new
+        → HasServedOnce script bases r old new
     shown_serves r last new wanted same served = λ ready.
-        let served_now = subst (λ (l : List Wanted). HasServed disk l known last r mid new) same served in
+        let served_now = subst (λ (l : List Wanted). HasServed l known last r mid new)
+        (same ∙ ap (λ (x : Contents). new_of x script) (m_is ready)) served in
         let going = shown_going ready in
-        let ends = served_now.ends old.engine mid.held (Some course) [] going in (
-          (
-            course,
-            (
-              lines_had old.engine.memory (numbers_had old.engine.memory) script,
-              (
-                record {
-                  first = refl;
-                  wanted = refl;
-                  had_is = ([], sym (append-nil (lines_had old.engine.memory (numbers_had old.engine.memory) script)));
-                  earlier_is = (
-                    [],
-                    sym (append-nil (waits_had old.engine.memory (numbers_had old.engine.memory)
-                        script)),
-                  );
-                },
-                (
-                  ends.0,
-                  (
-                    λ h.
-                        let all = ends.1.0 h in
-                        let rest = all.1.1.1 in
-                        (all.0, (all.1.0, (all.1.1.0, (rest.0, (rest.1.0, (rest.1.1, (inl it.made, inl fit))))))),
-                    prints_after old.held mid.held new.held new.lines _ ends.0 (shown_written ready)
-                        ends.1.1,
-                  ),
-                ),
-              ),
-            ),
-          ),
-          by_result r served_now.serves going (shown_written ready),
+        let ends = served_now.ends old.session.start mid.held (Some course) [] going in (
+          record {
+            course = course;
+            had = lines_had m (numbers_had m) script;
+            course_is = record {
+              first = refl;
+              wanted = refl;
+              had_is = ([], sym (append-nil (lines_had m (numbers_had m) script)));
+              earlier_is = ([], sym (append-nil (waits_had m (numbers_had m) script)));
+            };
+            text = ends.text;
+            over = ends.over;
+            once = record { made = inl (made_there ready); fit = inl (fits_start script old bases ready fit) };
+            printed = prints_after old.held mid.held new.held new.lines _ ends.text (shown_written ready) ends.printed;
+          },
+          by_result r served_now.serves ready going,
         )
       where
-        by_result : {T E : Type 0} (r : Result T E) → OnOk r (Passes disk course.wanted known [] last mid new)
-            → GoingAt disk old.engine mid.held (standing (Some course) known (course.wanted ++ [])) mid
-            → Appends old.held mid.held (lines_had old.engine.memory (numbers_had old.engine.memory) script)
-            → OnOk r (DoneOnce disk old.engine script old.held new)
-        by_result (Ok x) serves going written =
-            let done = serves old.engine mid.held (Some course) [] going in (
-              (it.made, fit),
-              (
-                last,
-                (
-                  done.0,
-                  (done.1.0, prints_after old.held mid.held new.held new.lines _ done.0 written done.1.1),
-                ),
-              ),
-            )
-        by_result (Err e) serves going written = tt
+        by_result : {T E : Type 0} (r : Result T E) → OnOk r (Passes course.wanted known [] last mid new)
+            → HasServedNothing old bases
+            → GoingAt old.session.start mid.held (standing (Some course) known (course.wanted ++ [])) mid
+            → OnOk r (DoneOnce old.session.start script old.held new)
+        by_result (Ok x) serves ready going =
+            let done = serves old.session.start mid.held (Some course) [] going in record {
+              made = made_there ready;
+              fit = fits_start script old bases ready fit;
+              bases = last;
+              text = done.text;
+              serving = done.serving;
+              printed = prints_after old.held mid.held new.held new.lines _ done.text (shown_written ready) done.printed;
+            }
+        by_result (Err e) serves ready going = tt
 
   -- ---- the end
 
-  -- what was told, by what was put and printed
-  told_once : (start engine : EngineState D) (script : List Wanted) (put : List Command) (text : List ℕ) (names : List
-      Waiter) (status : ℕ) (was is : Option (List ℕ)) (waited : List Waited) (many : ℕ) (last : List ℕ) (done doubt :
-      List Command) (had : List ℕ) (earlier : List Waiter)
-      → FitsScript start.memory script ⊎ ((put ≡ []) × ((had ≡ []) × (waited ≡ [])))
-      → HaltsWith disk.now disk.past disk.failures start engine put text names
-      → IsPrefix had (lines_had start.memory (numbers_had start.memory) script)
-      → IsPrefix earlier (waits_had start.memory (numbers_had start.memory) script)
-      → map who_of waited ≡ earlier ++ names → put ≡ done ++ doubt → length doubt ≤ 1 → AreLast start.memory done waited
-      → IsLast last → Begins was is (((had ++ text) ++ nows waited many) ++ last)
-      → (status ≡ 0 → (doubt ≡ []) × (had ≡ lines_had start.memory (numbers_had start.memory) script)
-      × (map who_of waited ≡ waits_had start.memory (numbers_had start.memory) script ++ waits start.memory put)
-      × Appends was is (had ++ replies start.memory put ++ nows waited (length waited)))
-      → ToldOnce disk.now start script put engine.disk was is status
-  told_once start engine script put text names status was is waited many last done doubt had earlier fit it had_is
-      earlier_is same parts few entries last_is begins whole = record {
-        had = had;
-        had_is = had_is;
-        told = it.told;
-        others = it.others;
-        split = it.split;
-        kept = it.kept;
-        earlier = earlier;
-        earlier_is = earlier_is;
-        waited = waited;
-        waiting = (it.many, same ∙ ap (λ (l : List Waiter). earlier ++ l) it.waiting);
-        done = done;
-        doubt = doubt;
-        apart = parts;
-        few = few;
-        last_entries = entries;
-        fit = fit;
-        many = many;
-        last = last;
-        last_is = last_is;
-        begins = subst (λ (t : List ℕ). Begins was is (((had ++ t) ++ nows waited many) ++ last)) it.lines begins;
-        whole = whole;
-      }
-
-  closed_with : (script : List ℕ) (start engine : EngineState D) (put : List Command) (text : List ℕ) (names : List
-      Waiter) (status : ℕ) (was is : Option (List ℕ)) → HaltsWith disk.now disk.past disk.failures start engine put text
-      names → (status ≡ 0 → engine.failed ≡ false)
-      → (engine.failed ≡ false → LeavesNow (disk.now engine.disk) (MeansState engine))
-      → IsAskedOnce start.memory (wanted_of script) put status
-      → HasMade start.memory (wanted_of script) ⊎ ((put ≡ []) × (status ≡ 0 → ⊥))
-      → ToldOnce disk.now start (wanted_of script) put engine.disk was is status
-      → ClosedOnce disk.now disk.past disk.failures script start engine.disk was is status
-  closed_with script start engine put text names status was is it works means asked made told = record {
-    put = put;
-    asked = asked;
-    made = made;
-    accepted = it.has.accepted;
-    leaves = it.has.leaves;
-    doubt = λ file left. doubt_by (engine.failed ≡ true) (Rises (disk.failures start.disk) (disk.failures engine.disk))
-        start put file it.has.rose (it.has.doubt file left);
-    done = λ zero file left. put_all disk.now disk.past disk.failures start engine put it.has (works zero) file (means
-        (works zero) file left);
-    printed = told;
-  }
-
-  pub closed_once : (script : List ℕ) (start engine : EngineState D) (end : D) (status : ℕ) (held mid is was : Option
-      (List ℕ)) (before later final : Lines) (noted waited : List Waited) (marks : List Mark)
-      → EndedOnce disk start (wanted_of script) was (server_of engine held before noted marks) → (status ≡ 0
-      → DoneOnce disk start (wanted_of script) was (server_of engine held before noted marks))
-      → map who_of waited ≡ map who_of noted → ((m : Contents) (put : List Command) → engine.memory ≡ after m put
-      → AreKnown m put noted → AreLast m put waited)
-      → PrintsNows held before mid later waited → (status ≡ 0
-      → PrintsMore held before mid later (nows waited (length waited)))
-      → ((from : Option (List ℕ)) (text : List ℕ) → Prints from mid later text
+  module _ (disk : Ghosts D) (script : List ℕ) (t : SessionState D) (end : D) (status : ℕ)
+      (held mid is was : Option (List ℕ)) (before later final : Lines) (noted waited : List Waited) (marks : List Mark)
+      (kept : SessionKept disk t) (at_end : end ≡ t.engine.disk) (works : status ≡ 0 → t.engine.failed ≡ false)
+      (ended : EndedOnce t.start (wanted_of script) was (server_of t held before noted marks))
+      (done : status ≡ 0 → DoneOnce t.start (wanted_of script) was (server_of t held before noted marks))
+      (same : map who_of waited ≡ map who_of noted)
+      (learn : (m : Contents) (put : List Command) → t.engine.memory ≡ after m put → AreKnown m put noted
+      → AreLast m put waited)
+      (some : PrintsNows held before mid later waited)
+      (all : status ≡ 0 → PrintsMore held before mid later (nows waited (length waited)))
+      (last : (from : Option (List ℕ)) (text : List ℕ) → Prints from mid later text
       → (last : List ℕ) × (IsLast last × Prints from is final (text ++ last)))
-      → (status ≡ 0 → (from : Option (List ℕ)) (text : List ℕ) → Prints from mid later text → Appends from is text)
-      → end ≡ engine.disk → (status ≡ 0 → engine.failed ≡ false) → (disk.honest engine.disk → engine.failed ≡ false
-      → LeavesNow (disk.now engine.disk) (MeansState engine)) → disk.honest end
-      → disk.honest start.disk × ClosedOnce disk.now disk.past disk.failures script start end was is status
-  closed_once script start engine end status held mid is was before later final noted waited marks reached going same
-      learn some all last whole at_end works means h =
-      let there : disk.honest engine.disk = subst disk.honest at_end h in
-      subst (λ (d : D). disk.honest start.disk × ClosedOnce disk.now disk.past disk.failures script start d was is
-      status) (sym at_end) (by_status there status refl)
-    where
-      by_status : disk.honest engine.disk → (n : ℕ) → status ≡ n
-          → disk.honest start.disk × ClosedOnce disk.now disk.past disk.failures script start engine.disk was is status
-      by_status there zero zero_is =
-          let made = (going zero_is).0.0 in
-          let fit = (going zero_is).0.1 in
-          let g = (going zero_is).1 in
-          let text = g.1.0 in
-          let it = g.1.1.0 there in
-          let put = it.1.0 in
-          let names = it.1.1.0 in
-          let goes = it.1.1.1.1.0 in
-          let u = it.1.1.1.1.1 in
-          let m = start.memory in
-          let lines = lines_had m (numbers_had m) (wanted_of script) in
-          let early = waits_had m (numbers_had m) (wanted_of script) in
-          let on = halts disk.now disk.past disk.failures start engine put text names goes in
-          let told = some.2 was (lines ++ text) g.1.1.1 in
-          let end = last was ((lines ++ text) ++ nows waited some.0) told in
-          let full = whole zero_is was ((lines ++ text) ++ nows waited (length waited)) (all zero_is was (lines ++ text)
-          g.1.1.1) in (
-            it.0,
-            closed_with script start engine put text names status was is on works (means there)
-                (record {
-                  left = [];
-                  leads = stands_here m (standing (Some (course_of m (wanted_of script))) g.0 []) put u.reached;
-                  all = λ z. refl;
-                })
-                (inl made)
-                (told_once start engine (wanted_of script) put text names status was is waited some.0 end.0 put []
-                lines early (inl fit) on ([], sym (append-nil lines)) ([], sym (append-nil early)) (same ∙ it.1.1.1.0)
-                (sym
-                (append-nil put)) (omega arith) (learn m put (goes.has.memory goes.works) (noted_known m put 0 0 marks
-                noted u.recorded.noted)) end.1.0 (prints_begins was is final (((lines ++ text) ++ nows waited some.0) ++
-                end.0) end.1.1)
-                (λ z. (
-                  refl,
-                  refl,
-                  same ∙ it.1.1.1.0 ∙ ap (λ (l : List Waiter). early ++ l) goes.waiting,
-                  subst (λ (t : List ℕ). Appends was is ((lines ++ t) ++ nows waited (length waited))) goes.lines full,
-                ))),
-          )
-      by_status there (suc n) more =
-          let c = reached.0 in
-          let had = reached.1.0 in
-          let is_course = reached.1.1.0 in
-          let text = reached.1.1.1.0 in
-          let it = reached.1.1.1.1.0 there in
-          let put = it.1.0 in
-          let names = it.1.1.0 in
-          let halted = it.1.1.1.1.0 in
-          let o = it.1.1.1.1.1.0 in
-          let made = it.1.1.1.1.1.1.0 in
-          let fit = it.1.1.1.1.1.1.1 in
-          let m = start.memory in
-          let told = some.2 was (had ++ text) reached.1.1.1.1.1 in
-          let end = last was ((had ++ text) ++ nows waited some.0) told in (
-            it.0,
-            closed_with script start engine put text names status was is halted works (means there)
-                (record {
-                  left = o.left;
-                  leads = subst (λ (b : List ℕ). Leads m b (new_of m (wanted_of script)) put o.left) is_course.first
-                      (subst (λ (w : List Wanted). Leads m c.first w put o.left) is_course.wanted o.leads);
-                  all = λ z. absurd (omega arith);
-                })
-                (⊎_elim (λ all. inl all) (λ none. inr (none, λ z. absurd (omega arith))) made)
-                (told_once start engine (wanted_of script) put text names status was is waited some.0 end.0 o.done
-                o.doubt had c.earlier (⊎_elim (λ is. inl is) (λ none. inr (
-                  none.0,
-                  (none.1.0, none_left waited (same ∙ ap (map who_of) none.1.1)),
-                )) fit) halted is_course.had_is is_course.earlier_is (same ∙ it.1.1.1.0) o.split o.few
-                (learn m o.done o.memory o.known) end.1.0 (prints_begins was is final (((had ++ text) ++ nows waited
-                some.0) ++ end.0) end.1.1) (λ z. absurd (omega arith))),
-          )
+      (whole : status ≡ 0 → (from : Option (List ℕ)) (text : List ℕ) → Prints from mid later text
+      → Appends from is text) where
+    abbrev m : Contents
+    m = t.start.memory
 
-  -- an opening leaves nothing new, and what it found was there
-  pub opened_once : (text : List ℕ) (old : D) (start : EngineState D) (new : D) (was is : Option (List ℕ)) (status : ℕ)
-      → Leaves (disk.now old) (disk.now start.disk) (disk.past old) (disk.past start.disk) (Left (disk.now old))
-      → LeavesNow (disk.now start.disk) (MeansState start) → disk.failures start.disk ≡ disk.failures old
-      → ClosedOnce disk.now disk.past disk.failures text start new was is status
-      → ServedOnce disk.now disk.past disk.failures text old new was is status
-  opened_once text old start new was is status opened means same it =
-      let now = disk.now in
-      let past = disk.past in
-      let failures = disk.failures in
-      let found : (file : List ℕ) × Left (now old) file × MeansState start file = (
-        (now start.disk).bytes,
-        ⊎_elim (λ left. left) (λ left. left) (leaves_now (now old) (now start.disk) (past old) (past start.disk) (Left
-            (now old)) opened (now start.disk).bytes (left_now (now start.disk))),
-        means (now start.disk).bytes (left_now (now start.disk)),
-      ) in
-      record {
-        start = start;
-        put = it.put;
-        asked = it.asked;
-        made = it.made;
-        once = λ limits before. went_on limits text (now old) start it.put status before found it.asked it.accepted
-            it.made;
-        found = found;
-        accepted = it.accepted;
-        leaves = leaves_then (now old) (now start.disk) (now new) (past old) (past start.disk) (past new) (λ file. ⊥)
-            (MeansBeginning start it.put) (MeansBeginning start it.put)
-            (record {
-              later = opened.later;
-              each = λ t c le left. ⊎_elim (λ before. inl before) (λ here. inl (inl (
-                le,
-                here,
-              ))) (opened.each t c le left);
-            }) it.leaves (λ file no. absurd no) (λ file is. is);
-        doubt = λ file left. doubt_by (Rises (failures start.disk) (failures new)) (Rises (failures old) (failures new))
-            start it.put file (λ rose. subst (λ (n : ℕ). Rises n (failures new)) same rose) (it.doubt file left);
-        done = it.done;
-        printed = it.printed;
-      }
+    abbrev wanted : List Wanted
+    wanted = wanted_of script
+
+    abbrev lines : List ℕ
+    lines = lines_had m (numbers_had m) wanted
+
+    abbrev early : List Waiter
+    early = waits_had m (numbers_had m) wanted
+
+    served : IsAskedOnce m wanted (t.put ++ t.doubt) status → length t.doubt ≤ 1
+        → HasMade m wanted ⊎ ((t.put ++ t.doubt ≡ []) × (status ≡ 0 → ⊥))
+        → FitsScript m wanted ⊎ (t.put ++ t.doubt ≡ []) → ToldOnce m wanted t.put was is status
+        → ServedOnce disk script t.start.disk end was is status
+    served asked few made fit told = record {
+      session = t;
+      opened = refl;
+      closed = at_end;
+      kept = kept;
+      asked = asked;
+      few = few;
+      works = works;
+      made = made;
+      fit = fit;
+      once = λ h limits begun. went_on disk limits script t status kept (subst disk.honest at_end h) begun asked made;
+      printed = told;
+    }
+
+    -- what was told, by the lines that were printed
+    told_once : (c : Course) (text had : List ℕ) → IsOver t.start t (Some c) text noted → IsPrefix had lines
+        → IsPrefix c.earlier early → FitsScript m wanted ⊎ ((had ≡ []) × (waited ≡ []))
+        → Prints was held before (had ++ text)
+        → (status ≡ 0 → (had ≡ lines) × (map who_of waited ≡ early ++ waits m t.put)
+        × Appends was is (had ++ replies m t.put ++ nows waited (length waited)))
+        → ToldOnce m wanted t.put was is status
+    told_once c text had over had_is earlier_is fit prints all_of =
+        let end = last was ((had ++ text) ++ nows waited some.0) (some.2 was (had ++ text) prints) in record {
+          had = had;
+          had_is = had_is;
+          told = over.told;
+          others = over.others;
+          split = over.split;
+          earlier = c.earlier;
+          earlier_is = earlier_is;
+          waited = waited;
+          waiting = (over.many, same ∙ over.names);
+          last_entries = learn m t.put kept.memory over.known;
+          fit = fit;
+          many = some.0;
+          last = end.0;
+          last_is = end.1.0;
+          begins = subst (λ (l : List ℕ). Begins was is (((had ++ l) ++ nows waited some.0) ++ end.0)) over.lines
+              (prints_begins was is final (((had ++ text) ++ nows waited some.0) ++ end.0) end.1.1);
+          whole = all_of;
+        }
+
+    by_status : (n : ℕ) → status ≡ n → ServedOnce disk script t.start.disk end was is status
+    unfolding over_here
+    by_status zero none =
+        let g = done none in
+        let s = standing (Some (course_of m wanted)) g.bases [] in
+        let over = over_here t.start t s g.text (notes noted marks) g.serving in
+        let full = whole none was ((lines ++ g.text) ++ nows waited (length waited)) (all none was (lines ++ g.text)
+        g.printed) in
+        served (record { left = []; leads = over.leads; all = λ z. refl }) over.few (inl g.made) (inl g.fit)
+        (told_once (course_of m wanted) g.text lines over ([], sym (append-nil lines)) ([], sym (append-nil early))
+        (inl g.fit) g.printed (λ z. (
+          refl,
+          same ∙ g.serving.names,
+          subst (λ (l : List ℕ). Appends was is ((lines ++ l) ++ nows waited (length waited))) g.serving.lines full,
+        )))
+    by_status (suc n) more =
+        let c = ended.course in
+        let is_course = ended.course_is in
+        let over = ended.over in
+        let all_put : List Command = t.put ++ t.doubt in
+        served
+        (record {
+          left = over.left;
+          leads = subst (λ (b : List ℕ). Leads m b (new_of m wanted) all_put over.left) is_course.first
+              (subst (λ (w : List Wanted). Leads m c.first w all_put over.left) is_course.wanted over.leads);
+          all = λ z. absurd (omega arith);
+        })
+        over.few
+        (⊎_elim (λ made. inl made) (λ none. inr (none, λ z. absurd (omega arith))) ended.once.made)
+        (⊎_elim (λ fit. inl fit) (λ none. inr none.0) ended.once.fit)
+        (told_once c ended.text ended.had over is_course.had_is is_course.earlier_is
+        (⊎_elim (λ fit. inl fit)
+        (λ none. inr (none.1.0, none_left waited (same ∙ ap (map who_of) none.1.1))) ended.once.fit)
+        ended.printed (λ z. absurd (omega arith)))
+
+    pub closed_once : ServedOnce disk script t.start.disk end was is status
+    closed_once = by_status status refl

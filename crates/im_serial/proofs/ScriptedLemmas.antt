@@ -1,8 +1,7 @@
 -- A server that serves a script: what it put is what the script asks for. (Own.)
-use Rattle.std.proofs.Common.{◌≡◌, ◌∙◌, ℕ, zero, suc, ◌⊎◌, inl, inr, Bool, true, false, ◌&&◌, List, [], ◌∷◌, ◌++◌}
-use Rattle.std.proofs.Common.{length, refl, sym, ap, ap₂, subst}
-use Rattle.std.proofs.Common.{append_assoc, append-nil, arith, ◌≤◌}
-use Rattle.std.specs.Prelude.{Option, Some, None, Result, Ok, Err, IsOk, IfOk, IfSome, OnOk, map}
+use Rattle.std.proofs.Common.{◌≡◌, ◌∙◌, ℕ, zero, suc, ◌⊎◌, ⊎_elim, inl, inr, Bool, true, false, List, [], ◌∷◌, ◌++◌}
+use Rattle.std.proofs.Common.{length, take, refl, sym, ap, subst, append_assoc, append-nil, arith, ◌≤◌}
+use Rattle.std.specs.Prelude.{Option, Some, None, Result, Ok, Err, IsOk, IfOk, IfSome, OnErr, OnOk, map}
 use Rattle.std.specs.Prelude.{slice_get, if◌then◌else◌}
 use Rattle.std.specs.Borrow.{Bor}
 use Rattle.std.specs.Io.KnownBytes.{Appends}
@@ -17,50 +16,48 @@ use Rattle.im_types.specs.declared.operations.Entry.TheVariants.{Waiting, Answer
 use Rattle.im_types.specs.declared.operations.Op.{Op}
 use Rattle.im_types.specs.declared.operations.Waiter.{Waiter}
 use Rattle.im_types.specs.declared.refusals.Refusal.{Refusal}
-use Rattle.im_types.specs.declared.refusals.Refusal.TheVariants.{Device}
+use Rattle.im_types.specs.declared.refusals.Refusal.TheVariants.{Failed}
 use Rattle.im_types.specs.Contents.{Contents, Window}
 use Rattle.im_types.specs.Agreement.{WaitingAgrees}
 use Rattle.im_types.specs.Memory.{IsMemory, IsWindow}
 use Rattle.im_types.specs.Window.{bounds, confirm_window}
 use Rattle.im_types.specs.Step.{step, step_confirm, is_accepted, asker}
-use Rattle.im_types.specs.Run.{after}
-use Rattle.im_laws.proofs.AcceptLemmas.{accepted-ok, unaccepted-leaves}
+use Rattle.im_types.specs.Run.{accepted, after}
+use Rattle.im_laws.proofs.AcceptLemmas.{unaccepted-leaves}
 use Rattle.im_laws.proofs.MemoryLemmas.{after-memory}
+use Rattle.im_laws.proofs.RunLemmas.{after-append}
+use Rattle.im_laws.proofs.Tests.{true_or_false}
 use Rattle.im_disk.specs.declared.disk.Disk.{Ghosts}
-use Rattle.im_disk.specs.Moment.{Faults}
-use Rattle.im_disk.specs.Since.{Leaves, LeavesNow}
-use Rattle.im_checkpoint.specs.declared.checkpoint.TurnDone.{TurnDone}
-use Rattle.im_engine.specs.State.{EngineState, MeansState, MeansEither, with_command}
-use Rattle.im_engine.specs.Run.{Answered, TurnAnswered, TurnTaken, may_be_put, put_by_command}
+use Rattle.im_session.specs.Kept.{IsFresh, Kept, SessionStart, SessionState}
+use Rattle.im_session.specs.Serving.{CommandRefused, CommandServed, Rests}
 use Rattle.im_script.specs.declared.script.Said.{Said}
 use Rattle.im_script.specs.Places.{action_op}
 use Rattle.im_script.specs.Script.{Draft, lines_of}
 use Rattle.im_text.specs.declared.lines.Lines.{Lines}
 use Rattle.im_text.specs.declared.replies.Waited.{Waited}
-use Rattle.im_text.specs.Printing.{IsLast, Prints, PrintsMore, PrintsNows, PrintsOn, nows, told_line, waits_if, who_of}
-use Rattle.im_text.proofs.PrintingLemmas.{prints_begins, prints_none, true_false}
+use Rattle.im_text.specs.Printing.{Begins, IsLast, Prints, PrintsMore, PrintsNows, PrintsOn, nows, replies, reply_line}
+use Rattle.im_text.specs.Printing.{told_line, waits, waits_by, waits_if, who_of}
+use Rattle.im_text.proofs.PrintingLemmas.{prints_begins, prints_none, replies_more, take-all, take-prefix, true_false}
+use Rattle.im_text.proofs.PrintingLemmas.{waits_more}
 use Rattle.im_serial.specs.declared.waits.Mark.{Mark}
 use Rattle.im_serial.specs.declared.waits.Mark.TheVariants.{Here}
 use Rattle.im_serial.specs.Noted.{AreKnown, AreLast, AreNoted, Notes, learnt, noted_if, notes, mark_place}
 use Rattle.im_serial.specs.Asked.{Course, HasNamed, HasReached, LeadsIf, Standing, Wanted, bases_by, earlier_in}
-use Rattle.im_serial.specs.Asked.{said_at, standing, wanted_by, wanted_in, wanted_of, whole_course}
-use Rattle.im_serial.specs.Serving.{GoesWith, HaltsWith, GoesAt, HaltsAt, GoesOn, Halts, Keeps, Drops, Prepares}
-use Rattle.im_serial.specs.Serving.{ScriptServer, server_of}
-use Rattle.im_serial.specs.Serving.{AreWaited, IsOver, IsRecorded, IsServing}
-use Rattle.im_serial.specs.Serving.{GoingAt, EndedAt, Passes, EndsAt, HasAsked, HasServed, Closed}
-use Rattle.im_serial.proofs.AskedLemmas.{named_asked, named_confirmed, named_first, put_or_not, request_is}
+use Rattle.im_serial.specs.Asked.{request_in, said_at, standing, wanted_by, wanted_in, wanted_of, whole_course}
+use Rattle.im_serial.specs.Serving.{AreWaited, EndedAt, EndsAt, GoingAt, HasAsked, HasServed, IsOver, IsRecorded}
+use Rattle.im_serial.specs.Serving.{IsServing, Passes, MakesPlace, ScriptServer, ServedScript, Told, server_of}
+use Rattle.im_serial.proofs.AskedLemmas.{named_asked, named_confirmed, named_first, request_is}
 use Rattle.im_serial.proofs.AskedLemmas.{stands_asked, stands_confirmed, stands_first, stands_here, stands_last}
 use Rattle.im_serial.proofs.AskedLemmas.{wanted_line}
 use Rattle.im_serial.proofs.NotedLemmas.{known_asked, noted_asked, noted_confirmed, noted_known, noted_same}
 use Rattle.im_serial.proofs.NotedLemmas.{noted_waits}
-use Rattle.im_serial.proofs.ServingLemmas.{answered, asked, closed_by, confirmed, goes_none, halts, next_is_new}
-use Rattle.im_serial.proofs.ServingLemmas.{served_halts, told_by, turn_halts, turned, unnoted}
+use Rattle.im_serial.proofs.ServingLemmas.{lines_confirmed, next_is_new, waits_confirmed}
 
 on_ok : {T E : Type 0} (r : Result T E) (P : Type 0) → P → OnOk r P
 on_ok (Ok x) P it = it
 on_ok (Err e) P it = tt
 
--- the same of an engine and lines that are equal
+-- the same of a session and lines that are equal
 pub as_of : {A B : Type 0} (P : A → B → Type 0) (a same : A) (b kept : B) → same ≡ a → kept ≡ b → P a b → P same kept
 as_of P a same b kept first second it = subst (λ (x : _). P x kept) (sym first) (subst (P a) (sym second) it)
 
@@ -85,80 +82,7 @@ confirm_says m element upto o is = by_window (confirm_window upto (slice_get m.w
     by_window (Ok w) is = refl
     by_window (Err e) is = absurd (cc)
 
--- a command that is refused leaves the memory; if the engine works then, it wasn't put
-err_stays : {D : Type 0} (mid new : EngineState D) (c : Command) (e : Refusal) → Answered mid c (Err e) new
-    → mid.failed ≡ false
-    → (new.memory ≡ mid.memory) × (new.failed ≡ false → put_by_command mid.memory c (Err e) ≡ [])
-err_stays {D} mid new c e it works = by_accepted (is_accepted mid.memory c) refl
-  where
-    by_put : is_accepted mid.memory c ≡ true
-        → ((◌≡◌ {A = Result Outcome Refusal} (Err e) (step mid.memory c).answer) × (new
-        ≡ record (with_command mid c) { disk = new.disk; pages = new.pages }))
-        ⊎ ((◌≡◌ {A = Result Outcome Refusal} (Err e) (Err Device)) × (new
-        ≡ record mid { disk = new.disk; failed = true }))
-        → (new.memory ≡ mid.memory) × (new.failed ≡ false → put_by_command mid.memory c (Err e) ≡ [])
-    by_put t (inl p) = absurd (no_ok (subst IsOk (sym p.0) (accepted-ok mid.memory c t)))
-      where
-        no_ok : IsOk {T = Outcome} {E = Refusal} (Err e) → ⊥
-        no_ok ok = true_false false ok refl
-    by_put t (inr q) = (
-      ap (λ (s : EngineState D). s.memory) q.1,
-      λ alive. absurd (true_false new.failed (ap (λ (s : EngineState D). s.failed) q.1) alive),
-    )
-
-    by_room : is_accepted mid.memory c ≡ true → (room : ℕ) → mid.room ≡ room
-        → (new.memory ≡ mid.memory) × (new.failed ≡ false → put_by_command mid.memory c (Err e) ≡ [])
-    by_room t zero none =
-        let full = it.full works t none in (
-          ap (λ (s : EngineState D). s.memory) full.1,
-          λ alive. ap₂ (λ (b : Bool) (a : Result Outcome Refusal). if b && may_be_put a then c ∷ [] else []) t full.0,
-        )
-    by_room t (suc room) some = by_put t (it.put works t (omega arith))
-
-    by_accepted : (b : Bool) → is_accepted mid.memory c ≡ b
-        → (new.memory ≡ mid.memory) × (new.failed ≡ false → put_by_command mid.memory c (Err e) ≡ [])
-    by_accepted true t = by_room t mid.room refl
-    by_accepted false t =
-        let same = it.unaccepted works t in (
-          ap (λ (s : EngineState D). s.memory) same.1,
-          λ alive. ap (λ (b : Bool). if b && may_be_put (Err e) then c ∷ [] else []) t,
-        )
-
-turn_stays : {D : Type 0} (mid new : EngineState D) (a : Result TurnDone Refusal) → TurnAnswered mid a new
-    → mid.failed ≡ false → new.memory ≡ mid.memory
-turn_stays {D} mid new a it works = by_answer (it.alive works)
-  where
-    by_answer : ((done : TurnDone) × (a ≡ Ok done) × TurnTaken mid done new)
-        ⊎ ((a ≡ Err Device) × (new ≡ record mid { disk = new.disk; failed = true })) → new.memory ≡ mid.memory
-    by_answer (inl took) = took.2.memory
-    by_answer (inr fault) = ap (λ (s : EngineState D). s.memory) fault.1
-
 -- ---- what is recorded of the requests that had to wait
-
--- the entries that were learnt are dropped
-confirm_recorded : (m : Contents) (put : List Command) (element upto : ℕ) (waited : List Waited) (marks : List Mark) (a
-    : Result Outcome Refusal) (o : Outcome)
-    → a ≡ Ok o → (step (after m put) (Confirm element upto)).answer ≡ Ok o
-    → IsRecorded m put (learnt waited marks element upto)
-    → IsRecorded m (put ++ put_by_command (after m put) (Confirm element upto) a) (notes waited marks)
-confirm_recorded m put element upto waited marks a o is answer it =
-    by_test (is_accepted (after m put) (Confirm element upto)) (may_be_put a) refl (ap may_be_put is)
-  where
-    by_test : (b p : Bool) → is_accepted (after m put) (Confirm element upto) ≡ b → p ≡ true
-        → IsRecorded m (put ++ (if b && p then Confirm element upto ∷ [] else [])) (notes waited marks)
-    by_test true true t put_is = record {
-      memory = it.memory;
-      noted = noted_confirmed m put element upto marks waited (after-memory (length m.cells) (length m.windows) m put
-          it.memory).agrees (confirm_says (after m put) element upto o answer) it.noted;
-    }
-    by_test true false t put_is = absurd (true_false false put_is refl)
-    by_test false p t put_is = subst (λ (l : List Command). IsRecorded m l (notes waited marks)) (sym (append-nil put))
-        (record {
-          memory = it.memory;
-          noted = noted_same m put element upto marks waited (after-memory (length m.cells) (length m.windows) m put
-              it.memory).agrees (confirm_says (after m put) element upto o answer) it.noted (unaccepted-leaves (after m
-              put) (Confirm element upto) t);
-        })
 
 -- a request more
 module _ (m : Contents) (put : List Command) (r : Request) (base : ℕ) (entry : Entry) (waited : List Waited) (marks :
@@ -195,337 +119,425 @@ module _ (m : Contents) (put : List Command) (r : Request) (base : ℕ) (entry :
           ∙ append-nil waited))
           (noted_asked m put r base entry agrees next ok marks later waited few others it.noted)
 
-module _ {D : Type 0} (disk : Ghosts D) where
-  -- ---- engines, one after another
+-- ---- a session, one call after another
 
-  pub goes_halt : (old mid new : EngineState D) → GoesOn disk old mid → Halts disk mid new → Halts disk old new
-  goes_halt old mid new first second = λ start s text n goes. second start s text n (first start s text n goes)
+-- the script leads to what was put, and to the one command that may be in doubt
+record Doubted {D : Type 0} (start : SessionStart D) (t : SessionState D) (script : Option Course) : Type 0 where
+  few : length t.doubt ≤ 1
+  left : List Wanted
+  leads : LeadsIf start.memory script (t.put ++ t.doubt) left
 
-  pub then_drops : {T E : Type 0} (element upto : ℕ) (r : Result T E) (old mid new : EngineState D)
-      → GoesOn disk old mid → Drops disk element upto r mid new → Drops disk element upto r old new
-  then_drops element upto (Ok x) old mid new first later = λ start s text waited marks goes. later start s text waited
-      marks (first start s text (learnt waited marks element upto) goes)
-  then_drops element upto (Err e) old mid new first later = goes_halt old mid new first later
+module _ {D : Type 0} (start : SessionStart D) where
+  -- what is known, by other words for what was put
+  serving_with : (t : SessionState D) (s : Standing) (text : List ℕ) (n : Notes) (put : List Command) → t.put ≡ put
+      → t.start ≡ start → t.engine.failed ≡ false → t.doubt ≡ [] → t.engine.memory ≡ after start.memory put
+      → text ≡ replies start.memory put → AreWaited s.script n.waited (waits start.memory put)
+      → HasReached start.memory s put → HasNamed start.memory s put
+      → IfSome s.script (λ _. IsRecorded start.memory put n) → IsServing start t s text n
+  serving_with t s text n put same start_is works sure memory lines names reached named recorded = record {
+    start_is = start_is;
+    works = works;
+    sure = sure;
+    memory = memory ∙ ap (after start.memory) (sym same);
+    lines = lines ∙ ap (replies start.memory) (sym same);
+    names = names ∙ ap (λ (l : List Command). earlier_in s.script ++ waits start.memory l) (sym same);
+    reached = subst (HasReached start.memory s) (sym same) reached;
+    named = subst (HasNamed start.memory s) (sym same) named;
+    recorded = subst (λ (l : List Command). IfSome s.script (λ _. IsRecorded start.memory l n)) (sym same) recorded;
+  }
 
-  halted_at : (start engine : EngineState D) (s : Standing) (text : List ℕ) (n : Notes)
-      → GoesAt disk start s engine text n → HaltsAt disk start s.script engine text n.waited
-  halted_at start engine s text n goes = λ h.
-      let it = goes h in
-      let put = it.1.0 in
-      let names = it.1.1.0 in
-      let g = it.1.1.1.1.0 in
-      let u = it.1.1.1.1.1 in (
-        it.0,
-        (
-          put,
-          (
-            names,
-            (
-              it.1.1.1.0,
-              (
-                halts disk.now disk.past disk.failures start engine put text names g,
-                record {
-                  left = s.left;
-                  leads = stands_here start.memory s put u.reached;
-                  done = put;
-                  doubt = [];
-                  split = sym (append-nil put);
-                  few = omega arith;
-                  sure = λ works. refl;
-                  memory = g.has.memory g.works;
-                  known = if_any s.script (IsRecorded start.memory put n) (AreKnown start.memory put n.waited) (λ r.
-                      noted_known start.memory put n.element n.upto n.marks n.waited r.noted) u.recorded;
-                },
-              ),
-            ),
-          ),
-        ),
-      )
+  -- nothing was put
+  pub rests_serving : (old new : SessionState D) → Rests old new → new.engine.failed ≡ old.engine.failed
+      → (s : Standing) (text : List ℕ) (n : Notes) → IsServing start old s text n → IsServing start new s text n
+  rests_serving old new rests works s text n was = serving_with new s text n old.put
+      (ap (λ (t : SessionState D). t.put) rests.same) (ap (λ (t : SessionState D). t.start) rests.same ∙ was.start_is)
+      (works ∙ was.works) (ap (λ (t : SessionState D). t.doubt) rests.same ∙ was.sure) (rests.memory ∙ was.memory)
+      was.lines was.names was.reached was.named was.recorded
 
-  pub halts_here : (engine : EngineState D) → Halts disk engine engine
-  halts_here engine = λ start s text n goes. halted_at start engine s text n goes
+  known_if : (s : Standing) (put : List Command) (n : Notes) → IfSome s.script (λ _. IsRecorded start.memory put n)
+      → IfSome s.script (λ _. AreKnown start.memory put n.waited)
+  known_if s put n it = if_any s.script (IsRecorded start.memory put n) (AreKnown start.memory put n.waited)
+      (λ r. noted_known start.memory put n.element n.upto n.marks n.waited r.noted) it
 
-  -- a command, its answer, and the engine after it
-  pub record HasDone (mid new : EngineState D) (c : Command) (a : Result Outcome Refusal) : Type 0 where
-    pub answered : Answered mid c a new
-    pub was : disk.honest new.disk → disk.honest mid.disk
-    pub leaves : disk.honest new.disk → mid.failed ≡ false → Leaves (disk.now mid.disk) (disk.now new.disk) (disk.past
-        mid.disk) (disk.past new.disk) (MeansEither mid c)
-    pub doubt : disk.honest new.disk → mid.failed ≡ false → LeavesNow (disk.now new.disk) (MeansEither mid c)
-    pub means : disk.honest new.disk → new.failed ≡ false → LeavesNow (disk.now new.disk) (MeansState new)
-    pub cause : Faults (λ e. Unit {0}) a (disk.failures mid.disk) (disk.failures new.disk)
+  -- a command is refused: the script leads to what was put with the command, and without it
+  pub refused_over : (old new : SessionState D) (c : Command) → CommandRefused old c new
+      → (s : Standing) (text : List ℕ) (n : Notes) → IsServing start old s text n
+      → (last : List Wanted) × LeadsIf start.memory s.script (old.put ++ c ∷ []) last
+      → IsOver start new s.script text n.waited
+  refused_over old new c it s text n was one = record {
+    start_is = it.start ∙ was.start_is;
+    told = old.put;
+    others = [];
+    split = it.put ∙ sym (append-nil old.put);
+    lines = was.lines;
+    many = length (waits start.memory old.put);
+    names = was.names ∙ ap (λ (l : List Waiter). earlier_in s.script ++ l) (sym (take-all (waits start.memory old.put)));
+    few = doubted.few;
+    left = doubted.left;
+    leads = doubted.leads;
+    known = subst (λ (l : List Command). IfSome s.script (λ _. AreKnown start.memory l n.waited)) (sym it.put)
+        (known_if s old.put n was.recorded);
+  }
+    where
+      by_list : (l : List Command) → new.doubt ≡ l → length l ≤ 1 → (last : List Wanted)
+          → LeadsIf start.memory s.script (old.put ++ l) last → Doubted start new s.script
+      by_list l same few last leads = record {
+        few = subst (λ (k : List Command). length k ≤ 1) (sym same) few;
+        left = last;
+        leads = subst (λ (k : List Command). LeadsIf start.memory s.script (k ++ new.doubt) last) (sym it.put)
+            (subst (λ (k : List Command). LeadsIf start.memory s.script (old.put ++ k) last) (sym same) leads);
+      }
 
-  -- it is refused: the script leads to what was put with the command, and without it
-  pub refused_halts : (mid new : EngineState D) (c : Command) (e : Refusal) → HasDone mid new c (Err e)
-      → (start : EngineState D) (s : Standing) (text : List ℕ) (n : Notes)
-      → ((put : List Command) → mid.failed ≡ false → mid.memory ≡ after start.memory put
-      → HasReached start.memory s put → (last : List Wanted) × LeadsIf start.memory s.script (put ++ c ∷ []) last)
-      → GoesAt disk start s mid text n → HaltsAt disk start s.script new text n.waited
-  refused_halts mid new c e it start s text n one goes = λ h.
-      let before = goes (it.was h) in
-      let put = before.1.0 in
-      let names = before.1.1.0 in
-      let g = before.1.1.1.1.0 in
-      let u = before.1.1.1.1.1 in
-      let m = after start.memory put in
-      let same : mid.memory ≡ m = g.has.memory g.works in
-      let stays = err_stays mid new c e it.answered g.works in
-      let leads = put_or_not (λ (more : List Command). (last : List Wanted) × LeadsIf start.memory s.script (put ++
-      more) last) c (is_accepted m c && may_be_put (Err e)) (
-        s.left,
-        subst (λ (l : List Command). LeadsIf start.memory s.script l s.left) (sym (append-nil put))
-            (stands_here start.memory s put u.reached),
-      ) (one put g.works same u.reached) in (
-        before.0,
-        (
-          put ++ put_by_command m c (Err e),
-          (
-            names,
-            (
-              before.1.1.1.0,
-              (
-                served_halts disk.now disk.past disk.failures start mid new put text names c (Err e) g
-                    it.answered (it.leaves h) (it.doubt h) (it.means h) it.cause,
-                record {
-                  left = leads.0;
-                  leads = leads.1;
-                  done = put;
-                  doubt = put_by_command m c (Err e);
-                  split = refl;
-                  few = put_or_not (λ (more : List Command). length more ≤ 1) c (is_accepted m c && may_be_put (Err e))
-                      (omega arith) (omega arith);
-                  sure = λ works. subst (λ (x : Contents). put_by_command x c (Err e) ≡ []) same (stays.1 works);
-                  memory = stays.0 ∙ same;
-                  known = if_any s.script (IsRecorded start.memory put n) (AreKnown start.memory put n.waited) (λ r.
-                      noted_known start.memory put n.element n.upto n.marks n.waited r.noted) u.recorded;
-                },
-              ),
-            ),
-          ),
-        ),
-      )
+      doubted : Doubted start new s.script
+      doubted = ⊎_elim
+          (λ same. by_list [] (same ∙ was.sure) (omega arith) s.left
+          (subst (λ (l : List Command). LeadsIf start.memory s.script l s.left) (sym (append-nil old.put))
+          (stands_here start.memory s old.put was.reached)))
+          (λ more. by_list (c ∷ []) (more.1 ∙ ap (λ (l : List Command). l ++ c ∷ []) was.sure) (omega arith) one.0 one.1)
+          it.doubt
 
-  pub confirm_halts : (mid new : EngineState D) (element upto : ℕ) (e : Refusal)
-      → HasDone mid new (Confirm element upto) (Err e) → Halts disk mid new
-  confirm_halts mid new element upto e it = λ start s text n goes. refused_halts mid new (Confirm element upto) e it
-      start s text n
-      (λ put works same reached. (
-        s.left,
-        stands_here start.memory s (put ++ Confirm element upto ∷ [])
-            (stands_confirmed start.memory s put element upto reached),
-      )) goes
+  -- it is ended where it goes on
+  unfoldable pub over_here : (t : SessionState D) (s : Standing) (text : List ℕ) (n : Notes) → IsServing start t s text n
+      → IsOver start t s.script text n.waited
+  over_here t s text n was = record {
+    start_is = was.start_is;
+    told = t.put;
+    others = [];
+    split = sym (append-nil t.put);
+    lines = was.lines;
+    many = length (waits start.memory t.put);
+    names = was.names ∙ ap (λ (l : List Waiter). earlier_in s.script ++ l) (sym (take-all (waits start.memory t.put)));
+    few = subst (λ (l : List Command). length l ≤ 1) (sym was.sure) (omega arith);
+    left = s.left;
+    leads = subst (λ (l : List Command). LeadsIf start.memory s.script l s.left)
+        (sym (append-nil t.put) ∙ ap (λ (l : List Command). t.put ++ l) (sym was.sure))
+        (stands_here start.memory s t.put was.reached);
+    known = known_if s t.put n was.recorded;
+  }
 
-  pub confirm_goes : (mid new : EngineState D) (element upto : ℕ) (a : Result Outcome Refusal) (o : Outcome) → a
-      ≡ Ok o → HasDone mid new (Confirm element upto) a
-      → (start : EngineState D) (s : Standing) (text : List ℕ) (waited : List Waited) (marks : List Mark)
-      → GoesAt disk start s mid text (learnt waited marks element upto)
-      → GoesAt disk start s new text (notes waited marks)
-  confirm_goes mid new element upto a o is it start s text waited marks goes = λ h.
-      let before = goes (it.was h) in
-      let put = before.1.0 in
-      let names = before.1.1.0 in
-      let g = before.1.1.1.1.0 in
-      let u = before.1.1.1.1.1 in
-      let c = Confirm element upto in
-      let m = after start.memory put in
-      let went = answered disk.now disk.past disk.failures mid new c a o it.answered g.works is in
-      let answer : (step m c).answer ≡ Ok o = subst (λ (x : Contents). (step x c).answer
-      ≡ Ok o) (g.has.memory g.works) went.1 in (
-        before.0,
-        (
-          put ++ put_by_command m c a,
-          (
-            names,
-            (
-              before.1.1.1.0,
-              (
-                confirmed disk.now disk.past disk.failures start mid new put text names element upto a o g
-                    it.answered (it.leaves h) (it.doubt h) (it.means h) it.cause is,
-                record {
-                  reached = put_or_not (λ (more : List Command). HasReached start.memory s (put ++ more)) c
-                      (is_accepted m c && may_be_put a)
-                      (subst (HasReached start.memory s) (sym (append-nil put)) u.reached)
-                      (stands_confirmed start.memory s put element upto u.reached);
-                  named = put_or_not (λ (more : List Command). HasNamed start.memory s (put ++ more)) c
-                      (is_accepted m c && may_be_put a)
-                      (subst (HasNamed start.memory s) (sym (append-nil put)) u.named)
-                      (named_confirmed start.memory s put element upto u.named);
-                  recorded = if_any s.script (IsRecorded start.memory put (learnt waited marks element upto))
-                      (IsRecorded start.memory (put ++ put_by_command m c a) (notes waited marks))
-                      (confirm_recorded start.memory put element upto waited marks a o is answer) u.recorded;
-                },
-              ),
-            ),
-          ),
-        ),
-      )
-
-  -- an engine after one turn
-  module _ (mid new : EngineState D) (a : Result TurnDone Refusal) (it : TurnAnswered mid a new) (was : disk.honest
-      new.disk → disk.honest mid.disk)
-      (leaves : disk.honest new.disk → mid.failed ≡ false → Leaves (disk.now mid.disk) (disk.now new.disk) (disk.past
-      mid.disk) (disk.past new.disk) (MeansState mid))
-      (means : disk.honest new.disk → mid.failed ≡ false → LeavesNow (disk.now new.disk) (MeansState mid))
-      (works : disk.honest new.disk → new.failed ≡ false → LeavesNow (disk.now new.disk) (MeansState new)) (cause :
-      Faults (λ e. Unit {0}) a (disk.failures mid.disk) (disk.failures new.disk)) where
-    pub turn_goes : (done : TurnDone) → a ≡ Ok done → GoesOn disk mid new
-    turn_goes done is = λ start s text n goes. λ h.
-        let before = goes (was h) in (
-          before.0,
-          (
-            before.1.0,
-            (
-              before.1.1.0,
-              (
-                before.1.1.1.0,
-                (
-                  turned disk.now disk.past disk.failures start mid new before.1.0 text before.1.1.0 a done
-                      before.1.1.1.1.0 it (leaves h) (means h) (works h) cause is,
-                  before.1.1.1.1.1,
-                ),
-              ),
-            ),
-          ),
-        )
-
-    pub turn_ends : Halts disk mid new
-    turn_ends = λ start s text n goes. λ h.
-        let before = goes (was h) in
-        let put = before.1.0 in
-        let names = before.1.1.0 in
-        let g = before.1.1.1.1.0 in
-        let u = before.1.1.1.1.1 in (
-          before.0,
-          (
-            put,
-            (
-              names,
-              (
-                before.1.1.1.0,
-                (
-                  turn_halts disk.now disk.past disk.failures start mid new put text names a g it
-                      (leaves h) (means h) (works h) cause,
-                  record {
-                    left = s.left;
-                    leads = stands_here start.memory s put u.reached;
-                    done = put;
-                    doubt = [];
-                    split = sym (append-nil put);
-                    few = omega arith;
-                    sure = λ works. refl;
-                    memory = turn_stays mid new a it g.works ∙ g.has.memory g.works;
-                    known = if_any s.script (IsRecorded start.memory put n) (AreKnown start.memory put n.waited) (λ r.
-                        noted_known start.memory put n.element n.upto n.marks n.waited r.noted) u.recorded;
-                  },
-                ),
-              ),
-            ),
-          ),
-        )
-
-  -- the notes change, and the engine goes on
-  pub prepares_then : {T E : Type 0} (r : Result T E) (old mid new : EngineState D) (waited learned : List Waited)
-      (marks later : List Mark)
-      → ((start : EngineState D) (s : Standing) (text : List ℕ) → GoesAt disk start s old text (notes waited marks)
-      → GoesAt disk start s mid text (notes learned later)) → Keeps disk r mid new
-      → Prepares disk r old waited marks new learned later
-  prepares_then (Ok x) old mid new waited learned marks later first second = λ start s text goes. second start s text
-      (notes learned later) (first start s text goes)
-  prepares_then (Err e) old mid new waited learned marks later first second = λ start s text goes. second start s text
-      (notes learned later) (first start s text goes)
-
-  pub drops_then : {T E : Type 0} (r : Result T E) (element upto : ℕ) (old new : EngineState D) (waited learned : List
-      Waited) (marks later : List Mark)
-      → ((start : EngineState D) (s : Standing) (text : List ℕ) → GoesAt disk start s old text (notes waited marks)
-      → GoesAt disk start s old text (learnt learned later element upto)) → Drops disk element upto r old new
-      → Prepares disk r old waited marks new learned later
-  drops_then (Ok x) element upto old new waited learned marks later first second = λ start s text goes. second start s
-      text learned later (first start s text goes)
-  drops_then (Err e) element upto old new waited learned marks later first second = λ start s text goes. second start s
-      text (learnt learned later element upto) (first start s text goes)
-
-  -- the entries of an element are learnt
-  pub learns : (engine : EngineState D) (element upto base next : ℕ) (waited learned : List Waited) (marks later : List
-      Mark) → map who_of learned ≡ map who_of waited → (engine.failed ≡ false → bounds engine.memory.windows element
-      ≡ Ok (base, next))
-      → ((m : Contents) (put : List Command) → engine.memory ≡ after m put
-      → IsMemory (length m.cells) (length m.windows) m → bounds (after m put).windows element ≡ Ok (base, next)
-      → AreNoted m put 0 0 marks waited → AreNoted m put element upto later learned)
-      → (start : EngineState D) (s : Standing) (text : List ℕ)
-      → GoesAt disk start s engine text (notes waited marks)
-      → GoesAt disk start s engine text (learnt learned later element upto)
-  learns engine element upto base next waited learned marks later names found learn start s text goes = λ h.
-      let it = goes h in
-      let put = it.1.0 in
-      let g = it.1.1.1.1.0 in
-      let u = it.1.1.1.1.1 in
-      let same : engine.memory ≡ after start.memory put = g.has.memory g.works in (
-        it.0,
-        (
-          put,
-          (
-            it.1.1.0,
-            (
-              names ∙ it.1.1.1.0,
-              (
-                g,
-                record {
-                  reached = u.reached;
-                  named = u.named;
-                  recorded = if_any s.script (IsRecorded start.memory put (notes waited marks))
-                      (IsRecorded start.memory put (learnt learned later element upto))
-                      (λ r. record {
-                        memory = r.memory;
-                        noted = learn start.memory put same r.memory (subst (λ (m : Contents).
-                            bounds m.windows element ≡ Ok (base, next)) same (found g.works)) r.noted;
-                      }) u.recorded;
-                },
-              ),
-            ),
-          ),
-        ),
-      )
-
-  -- ---- servers, one after another
-
-  going_ended : (start : EngineState D) (held : Option (List ℕ)) (s : Standing) (server : ScriptServer D) → GoingAt disk
-      start held s server → EndedAt disk start held s.script server
-  going_ended start held s server going = (
-    going.0,
-    (
-      halted_at start server.engine s going.0 (notes server.waited server.marks)
-          going.1.0,
-      going.1.1,
-    ),
+  -- a confirmation is refused
+  pub confirm_over : (old new : SessionState D) (element upto : ℕ) → CommandRefused old (Confirm element upto) new
+      → (s : Standing) (text : List ℕ) (n : Notes) → IsServing start old s text n
+      → IsOver start new s.script text n.waited
+  confirm_over old new element upto it s text n was = refused_over old new (Confirm element upto) it s text n was (
+    s.left,
+    stands_here start.memory s (old.put ++ Confirm element upto ∷ [])
+        (stands_confirmed start.memory s old.put element upto was.reached),
   )
 
-  pub passes_refl : (wanted : List Wanted) (bases : List ℕ) (s : ScriptServer D) → Passes disk wanted bases wanted bases s s
+  -- a confirmation is served: the entries that were learnt are dropped
+  module _ (old new : SessionState D) (element upto : ℕ) (o : Outcome)
+      (it : CommandServed old (Confirm element upto) o new) (s : Standing) (text : List ℕ) (waited : List Waited)
+      (marks : List Mark) (was : IsServing start old s text (learnt waited marks element upto)) where
+    abbrev confirm : Command
+    confirm = Confirm element upto
+
+    abbrev found : Contents
+    found = old.engine.memory
+
+    abbrev learning : Notes
+    learning = learnt waited marks element upto
+
+    agrees : IsRecorded start.memory old.put learning → WaitingAgrees (after start.memory old.put)
+    agrees r = (after-memory (length start.memory.cells) (length start.memory.windows) start.memory old.put
+        r.memory).agrees
+
+    says : (step (after start.memory old.put) confirm).answer ≡ Ok Confirmed
+    says = confirm_says (after start.memory old.put) element upto o
+        (subst (λ (x : Contents). (step x confirm).answer ≡ Ok o) was.memory it.answer)
+
+    put_by : (l : List Command) → accepted found (confirm ∷ []) ≡ l → new.put ≡ old.put ++ l
+    put_by l is = ap (λ (t : SessionState D). t.put) it.same ∙ ap (λ (k : List Command). old.put ++ k) is
+
+    begun_is : new.start ≡ start
+    begun_is = ap (λ (t : SessionState D). t.start) it.same ∙ was.start_is
+
+    undoubted : new.doubt ≡ []
+    undoubted = ap (λ (t : SessionState D). t.doubt) it.same ∙ was.sure
+
+    dropped : is_accepted found confirm ≡ true → IsServing start new s text (notes waited marks)
+    dropped e = serving_with new s text (notes waited marks) (old.put ++ confirm ∷ [])
+        (put_by (confirm ∷ []) (ap (λ (b : Bool). if b then confirm ∷ [] else []) e)) begun_is it.works undoubted
+        (it.memory ∙ ap (λ (x : Contents). (step x confirm).contents) was.memory
+        ∙ sym (after-append start.memory old.put (confirm ∷ [])))
+        (was.lines ∙ lines_confirmed start.memory old.put element upto)
+        (was.names ∙ ap (λ (l : List Waiter). earlier_in s.script ++ l) (waits_confirmed start.memory old.put element
+        upto))
+        (stands_confirmed start.memory s old.put element upto was.reached)
+        (named_confirmed start.memory s old.put element upto was.named)
+        (if_any s.script (IsRecorded start.memory old.put learning)
+        (IsRecorded start.memory (old.put ++ confirm ∷ []) (notes waited marks))
+        (λ r. record {
+          memory = r.memory;
+          noted = noted_confirmed start.memory old.put element upto marks waited (agrees r) says r.noted;
+        }) was.recorded)
+
+    nothing : is_accepted found confirm ≡ false → IsServing start new s text (notes waited marks)
+    nothing e =
+        let still : (step found confirm).contents ≡ found = unaccepted-leaves found confirm e in
+        serving_with new s text (notes waited marks) old.put
+        (put_by [] (ap (λ (b : Bool). if b then confirm ∷ [] else []) e) ∙ append-nil old.put) begun_is it.works undoubted
+        (it.memory ∙ still ∙ was.memory) was.lines was.names was.reached was.named
+        (if_any s.script (IsRecorded start.memory old.put learning) (IsRecorded start.memory old.put (notes waited marks))
+        (λ r. record {
+          memory = r.memory;
+          noted = noted_same start.memory old.put element upto marks waited (agrees r) says r.noted
+              (subst (λ (x : Contents). (step x confirm).contents ≡ x) was.memory still);
+        }) was.recorded)
+
+    pub confirm_serving : IsServing start new s text (notes waited marks)
+    confirm_serving = ⊎_elim dropped nothing (true_or_false (is_accepted old.engine.memory (Confirm element upto)))
+
+  -- the entries of an element are learnt
+  pub learns : (t : SessionState D) (element upto base next : ℕ) (waited learned : List Waited) (marks later : List Mark)
+      → map who_of learned ≡ map who_of waited → bounds t.engine.memory.windows element ≡ Ok (base, next)
+      → ((m : Contents) (put : List Command) → t.engine.memory ≡ after m put
+      → IsMemory (length m.cells) (length m.windows) m → bounds (after m put).windows element ≡ Ok (base, next)
+      → AreNoted m put 0 0 marks waited → AreNoted m put element upto later learned)
+      → (s : Standing) (text : List ℕ) → IsServing start t s text (notes waited marks)
+      → IsServing start t s text (learnt learned later element upto)
+  learns t element upto base next waited learned marks later names found learn s text was = record {
+    start_is = was.start_is;
+    works = was.works;
+    sure = was.sure;
+    memory = was.memory;
+    lines = was.lines;
+    names = names ∙ was.names;
+    reached = was.reached;
+    named = was.named;
+    recorded = if_any s.script (IsRecorded start.memory t.put (notes waited marks))
+        (IsRecorded start.memory t.put (learnt learned later element upto))
+        (λ r. record {
+          memory = r.memory;
+          noted = learn start.memory t.put was.memory r.memory
+              (subst (λ (x : Contents). bounds x.windows element ≡ Ok (base, next)) was.memory found) r.noted;
+        }) was.recorded;
+  }
+
+  -- ---- a request
+
+  module _ (old new : SessionState D) (r : Request) (base : ℕ)
+      (next : bounds old.engine.memory.windows r.element ≡ Ok (base, r.number)) (w : Wanted) (bases : List ℕ)
+      (element : w.element ≡ r.element) (op : action_op bases w.action ≡ Some r.op) (script : Option Course)
+      (rest : List Wanted) (text : List ℕ) (waited : List Waited) (marks : List Mark)
+      (was : IsServing start old (standing script bases (w ∷ rest)) text (notes waited marks)) where
+    abbrev c : Command
+    c = Asks r
+
+    abbrev here : Contents
+    here = after start.memory old.put
+
+    next_is : bounds here.windows r.element ≡ Ok (base, r.number)
+    next_is = subst (λ (x : Contents). bounds x.windows r.element ≡ Ok (base, r.number)) was.memory next
+
+    asked : request_in here bases w ≡ Some r
+    asked = request_is here bases w r base element op next_is
+
+    leads : (last : List Wanted) × LeadsIf start.memory script (old.put ++ c ∷ []) last
+    leads = stands_last start.memory script bases w rest old.put r was.reached asked
+
+    -- it is refused
+    pub ask_refused : CommandRefused old c new → IsOver start new script text waited
+    ask_refused it = refused_over old new c it (standing script bases (w ∷ rest)) text (notes waited marks) was leads
+
+    module _ (entry : Entry) (it : CommandServed old c (Tells entry) new) where
+      abbrev line : List ℕ
+      line = told_line r.element r.number entry
+
+      abbrev who : List Waiter
+      who = waits_if (asker r) entry
+
+      put_is : new.put ≡ old.put ++ c ∷ []
+      put_is = ap (λ (t : SessionState D). t.put) it.same ∙ ap (λ (b : Bool). old.put ++ (if b then c ∷ [] else []))
+          (next_is_new old.engine.memory r base (Tells entry) next it.answer)
+
+      start_is : new.start ≡ start
+      start_is = ap (λ (t : SessionState D). t.start) it.same ∙ was.start_is
+
+      sure : new.doubt ≡ []
+      sure = ap (λ (t : SessionState D). t.doubt) it.same ∙ was.sure
+
+      answer : (step here c).answer ≡ Ok (Tells entry)
+      answer = subst (λ (x : Contents). (step x c).answer ≡ Ok (Tells entry)) was.memory it.answer
+
+      lines : text ++ line ≡ replies start.memory (old.put ++ c ∷ [])
+      lines = replies_more start.memory old.put c text line was.lines (ap (reply_line c) answer)
+
+      names : waits start.memory old.put ++ who ≡ waits start.memory (old.put ++ c ∷ [])
+      names = waits_more start.memory old.put c (waits start.memory old.put) who refl (ap (waits_by c) answer)
+
+      known_before : IfSome script (λ _. AreKnown start.memory (old.put ++ c ∷ []) waited)
+      known_before = if_any script (IsRecorded start.memory old.put (notes waited marks))
+          (AreKnown start.memory (old.put ++ c ∷ []) waited)
+          (λ rec. before_known start.memory old.put r base entry waited marks next_is answer rec) was.recorded
+
+      over : (told others : List Command) → old.put ++ c ∷ [] ≡ told ++ others → (said : List ℕ)
+          → said ≡ replies start.memory told → (many : ℕ) (noted : List Waited)
+          → AreWaited script noted (take many (waits start.memory told))
+          → IfSome script (λ _. AreKnown start.memory (old.put ++ c ∷ []) noted) → IsOver start new script said noted
+      over told others split said said_is many noted names known = record {
+        start_is = start_is;
+        told = told;
+        others = others;
+        split = put_is ∙ split;
+        lines = said_is;
+        many = many;
+        names = names;
+        few = subst (λ (l : List Command). length l ≤ 1) (sym sure) (omega arith);
+        left = leads.0;
+        leads = subst (λ (l : List Command). LeadsIf start.memory script l leads.0)
+            (sym (append-nil (old.put ++ c ∷ [])) ∙ ap (λ (l : List Command). l ++ []) (sym put_is)
+            ∙ ap (λ (l : List Command). new.put ++ l) (sym sure)) leads.1;
+        known = subst (λ (l : List Command). IfSome script (λ _. AreKnown start.memory l noted)) (sym put_is) known;
+      }
+
+      -- its line isn't printed
+      pub ask_unprinted : IsOver start new script text waited
+      ask_unprinted = over old.put (c ∷ []) refl text was.lines (length (waits start.memory old.put)) waited
+          (was.names ∙ ap (λ (l : List Waiter). earlier_in script ++ l) (sym (take-all (waits start.memory old.put))))
+          known_before
+
+      -- its line is printed, but it isn't noted
+      pub ask_unnoted : IsOver start new script (text ++ line) waited
+      ask_unnoted = over (old.put ++ c ∷ []) [] (sym (append-nil (old.put ++ c ∷ []))) (text ++ line) lines
+          (length (waits start.memory old.put)) waited
+          (was.names ∙ ap (λ (l : List Waiter). earlier_in script ++ l)
+          (sym (ap (take (length (waits start.memory old.put))) (sym names)
+          ∙ take-prefix (waits start.memory old.put) who)))
+          known_before
+
+      module _ (noted : List Waited) (marked : List Mark) (pushed : noted ≡ waited ++ noted_if (asker r) entry)
+          (others : (i : ℕ) → (i ≡ mark_place (asker r) → ⊥) → slice_get marked i ≡ slice_get marks i)
+          (mark : entry ≡ Waiting → slice_get marked (mark_place (asker r)) ≡ Some (Here (length waited)))
+          (named_more : map who_of noted ≡ map who_of waited ++ who) where
+        recorded : IfSome script (λ _. IsRecorded start.memory (old.put ++ c ∷ []) (notes noted marked))
+        recorded = if_any script (IsRecorded start.memory old.put (notes waited marks))
+            (IsRecorded start.memory (old.put ++ c ∷ []) (notes noted marked))
+            (λ rec. asked_recorded start.memory old.put r base entry waited marks next_is answer rec noted marked pushed
+            others mark) was.recorded
+
+        waited_more : AreWaited script noted (waits start.memory (old.put ++ c ∷ []))
+        waited_more = named_more ∙ ap (λ (l : List Waiter). l ++ who) was.names
+            ∙ append_assoc (earlier_in script) (waits start.memory old.put) who
+            ∙ ap (λ (l : List Waiter). earlier_in script ++ l) names
+
+        -- its line is printed, and it is noted if it has to wait
+        pub ask_serving : (added : List ℕ) → bases_by w (Ok (Tells entry)) ≡ Some added
+            → IsServing start new (standing script (bases ++ added) rest) (text ++ line) (notes noted marked)
+        ask_serving added made = serving_with new (standing script (bases ++ added) rest) (text ++ line)
+            (notes noted marked) (old.put ++ c ∷ []) put_is start_is it.works sure
+            (it.memory ∙ ap (λ (x : Contents). (step x c).contents) was.memory
+            ∙ sym (after-append start.memory old.put (c ∷ []))) lines waited_more
+            (stands_asked start.memory script bases added w rest old.put r was.reached asked
+            (ap (bases_by w) answer ∙ made))
+            (named_asked start.memory script bases added w rest old.put r was.named (ap (bases_by w) answer ∙ made))
+            recorded
+
+        -- the same, and it is ended there
+        pub ask_told : IsOver start new script (text ++ line) noted
+        ask_told = over (old.put ++ c ∷ []) [] (sym (append-nil (old.put ++ c ∷ []))) (text ++ line) lines
+            (length (waits start.memory (old.put ++ c ∷ []))) noted
+            (waited_more ∙ ap (λ (l : List Waiter). earlier_in script ++ l)
+            (sym (take-all (waits start.memory (old.put ++ c ∷ [])))))
+            (if_any script (IsRecorded start.memory (old.put ++ c ∷ []) (notes noted marked))
+            (AreKnown start.memory (old.put ++ c ∷ []) noted)
+            (λ rec. noted_known start.memory (old.put ++ c ∷ []) 0 0 marked noted rec.noted) recorded)
+
+  -- what is known when it has ended stays so behind a call that puts nothing
+  over_rests : (old new : SessionState D) → Rests old new → (script : Option Course) (text : List ℕ) (waited : List
+      Waited) → IsOver start old script text waited → IsOver start new script text waited
+  over_rests old new rests script text waited was =
+      let put_is : new.put ≡ old.put = ap (λ (t : SessionState D). t.put) rests.same in
+      let doubt_is : new.doubt ≡ old.doubt = ap (λ (t : SessionState D). t.doubt) rests.same in
+      record {
+        start_is = ap (λ (t : SessionState D). t.start) rests.same ∙ was.start_is;
+        told = was.told;
+        others = was.others;
+        split = put_is ∙ was.split;
+        lines = was.lines;
+        many = was.many;
+        names = was.names;
+        few = subst (λ (l : List Command). length l ≤ 1) (sym doubt_is) was.few;
+        left = was.left;
+        leads = subst (λ (l : List Command). LeadsIf start.memory script (l ++ new.doubt) was.left) (sym put_is)
+            (subst (λ (l : List Command). LeadsIf start.memory script (old.put ++ l) was.left) (sym doubt_is) was.leads);
+        known = subst (λ (l : List Command). IfSome script (λ _. AreKnown start.memory l waited)) (sym put_is) was.known;
+      }
+
+-- ---- room for a request
+
+-- room is made in the journal, behind a place in the window
+pub room_then : {D T E : Type 0} (r : Result T E) (old mid new : SessionState D) (waited learned : List Waited)
+    (marks later : List Mark)
+    → ((start : SessionStart D) (s : Standing) (text : List ℕ) → IsServing start old s text (notes waited marks)
+    → IsServing start mid s text (notes learned later)) → Rests mid new
+    → OnOk r (new.engine.failed ≡ mid.engine.failed) → MakesPlace r old waited marks new learned later
+room_then (Ok x) old mid new waited learned marks later first rests works = λ start s text was.
+    rests_serving start mid new rests works s text (notes learned later) (first start s text was)
+room_then (Err e) old mid new waited learned marks later first rests works = λ start s text was.
+    over_rests start mid new rests s.script text learned
+    (over_here start mid s text (notes learned later) (first start s text was))
+
+-- entries are learnt, and then dropped
+pub drops_then : {D T E : Type 0} (r : Result T E) (element upto : ℕ) (old new : SessionState D)
+    (waited learned : List Waited) (marks later : List Mark)
+    → ((start : SessionStart D) (s : Standing) (text : List ℕ) → IsServing start old s text (notes waited marks)
+    → IsServing start old s text (learnt learned later element upto))
+    → OnOk r ((o : Outcome) × CommandServed old (Confirm element upto) o new)
+    → OnErr r (CommandRefused old (Confirm element upto) new) → MakesPlace r old waited marks new learned later
+drops_then (Ok x) element upto old new waited learned marks later first served refused = λ start s text was.
+    confirm_serving start old new element upto served.0 served.1 s text learned later (first start s text was)
+drops_then (Err e) element upto old new waited learned marks later first served refused = λ start s text was.
+    confirm_over start old new element upto refused s text (learnt learned later element upto) (first start s text was)
+
+-- nothing changes, and it is ended
+pub unprepared : {D : Type 0} (T : Type 0) {E : Type 0} (e : E) (t : SessionState D) (waited : List Waited) (marks : List Mark)
+    → MakesPlace {T = T} (Err e) t waited marks t waited marks
+unprepared T e t waited marks = λ start s text was. over_here start t s text (notes waited marks) was
+
+-- what a window is found to be, unless the engine has failed
+pub window_found : {X : Type 0} (failed : Bool) (result found : Result X Refusal) (x : X)
+    → (failed ≡ true → result ≡ Err Failed) → (failed ≡ false → result ≡ found) → result ≡ Ok x → found ≡ Ok x
+window_found true result found x dead alive is = let none = dead refl in absurd (cc)
+window_found false result found x dead alive is = sym (alive refl) ∙ is
+
+-- ---- servers, one after another
+
+module _ {D : Type 0} where
+  going_ended : (start : SessionStart D) (held : Option (List ℕ)) (s : Standing) (t : ScriptServer D)
+      → GoingAt start held s t → EndedAt start held s.script t
+  going_ended start held s t going = record {
+    text = going.text;
+    over = over_here start t.session s going.text (notes t.waited t.marks) going.serving;
+    printed = going.printed;
+  }
+
+  pub passes_refl : (wanted : List Wanted) (bases : List ℕ) (s : ScriptServer D) → Passes wanted bases wanted bases s s
   passes_refl wanted bases s = λ start held script rest going. going
 
   -- it is ended there
-  pub ends_here : (wanted later : List Wanted) (before after : List ℕ) (old new : ScriptServer D) → Passes disk wanted before
-      later after old new → EndsAt disk wanted before old new
+  pub ends_here : (wanted later : List Wanted) (before after : List ℕ) (old new : ScriptServer D) → Passes wanted before
+      later after old new → EndsAt wanted before old new
   ends_here wanted later before after old new passes = λ start held script rest going.
       going_ended start held (standing script after (later ++ rest)) new (passes start held script rest going)
 
   pub has_served : {T E : Type 0} (r : Result T E) (wanted : List Wanted) (before after : List ℕ) (old new : ScriptServer D)
-      → Passes disk wanted before [] after old new → HasServed disk wanted before after r old new
+      → Passes wanted before [] after old new → HasServed wanted before after r old new
   has_served r wanted before after old new passes = record {
-    serves = on_ok r (Passes disk wanted before [] after old
+    serves = on_ok r (Passes wanted before [] after old
         new) passes;
     ends = ends_here wanted [] before after old new passes;
   }
 
   -- nothing was served, and it is ended
-  pub unserved : {T E : Type 0} (e : E) (wanted : List Wanted) (before after : List ℕ) (s : ScriptServer D) → HasServed disk
-      {T = T} wanted before after (Err e) s s
+  pub unserved : {T E : Type 0} (e : E) (wanted : List Wanted) (before after : List ℕ) (s : ScriptServer D) → HasServed {T = T} wanted before after (Err e) s s
   unserved e wanted before after s = record {
     serves = tt;
     ends = ends_here wanted wanted before before s s
         (passes_refl wanted before s);
   }
 
-  pub unasked : {E : Type 0} (e : E) (element : ℕ) (op : Op) (s : ScriptServer D) → HasAsked disk element op (Err e) s s
+  pub unasked : {E : Type 0} (e : E) (element : ℕ) (op : Op) (s : ScriptServer D) → HasAsked element op (Err e) s s
   unasked e element op s = record {
     serves = tt;
     ends = λ w before is asks. ends_here (w ∷ []) (w ∷ []) before before s
@@ -534,33 +546,33 @@ module _ {D : Type 0} (disk : Ghosts D) where
 
   -- a request of the script was asked
   pub asked_serves : {T E F : Type 0} (x : T) (w : Wanted) (bases added : List ℕ) (op : Op) (entry : Entry) (old new :
-      ScriptServer D) → action_op bases w.action ≡ Some op → bases_by w (Ok (Tells entry)) ≡ Some added → HasAsked disk {E = E}
+      ScriptServer D) → action_op bases w.action ≡ Some op → bases_by w (Ok (Tells entry)) ≡ Some added → HasAsked {E = E}
       w.element op (Ok entry) old new
-      → HasServed disk {E = F} (w ∷ []) bases (bases ++ added) (Ok x) old new
+      → HasServed {E = F} (w ∷ []) bases (bases ++ added) (Ok x) old new
   asked_serves x w bases added op entry old new asks made it = has_served (Ok x) (w ∷ []) bases (bases ++ added) old
       new (it.serves w bases added refl asks made)
 
   pub asked_ends : {T E F : Type 0} (e : F) (w : Wanted) (bases last : List ℕ) (op : Op) (r : Result Entry E) (old new
-      : ScriptServer D) → action_op bases w.action ≡ Some op → HasAsked disk w.element op r old new → HasServed disk {T = T} (w ∷
+      : ScriptServer D) → action_op bases w.action ≡ Some op → HasAsked w.element op r old new → HasServed {T = T} (w ∷
       []) bases last (Err e) old new
   asked_ends e w bases last op r old new asks it = record { serves = tt; ends = it.ends w bases refl asks }
 
   -- a line that asks for nothing
   pub quiet : {T E : Type 0} (x : T) (wanted : List Wanted) (bases : List ℕ) (s : ScriptServer D) → wanted ≡ [] → HasServed
-      disk {E = E} wanted bases bases (Ok x) s s
-  quiet {E = E} x wanted bases s none = subst (λ (l : List Wanted). HasServed disk {E = E} l bases bases (Ok x) s s)
+      {E = E} wanted bases bases (Ok x) s s
+  quiet {E = E} x wanted bases s none = subst (λ (l : List Wanted). HasServed {E = E} l bases bases (Ok x) s s)
       (sym none) (has_served (Ok x) [] bases bases s s (passes_refl [] bases s))
 
   pub served_with : {T E : Type 0} (r : Result T E) (wanted : List Wanted) (before last later : List ℕ) (old new :
-      ScriptServer D) → later ≡ last → HasServed disk wanted before last r old new → HasServed disk wanted before later r old
+      ScriptServer D) → later ≡ last → HasServed wanted before last r old new → HasServed wanted before later r old
       new
-  served_with r wanted before last later old new same it = subst (λ (b : List ℕ). HasServed disk wanted before b r old
+  served_with r wanted before last later old new same it = subst (λ (b : List ℕ). HasServed wanted before b r old
       new) (sym same) it
 
   -- a request is asked after that
   pub asked_then : {E : Type 0} (r : Result Entry E) (element : ℕ) (op : Op) (old mid new : ScriptServer D) → ((wanted : List
-      Wanted) (bases : List ℕ) → Passes disk wanted bases wanted bases old mid) → HasAsked disk element op r mid new →
-      HasAsked disk element op r old new
+      Wanted) (bases : List ℕ) → Passes wanted bases wanted bases old mid) → HasAsked element op r mid new →
+      HasAsked element op r old new
   asked_then r element op old mid new first second = record {
     serves = by_result r second.serves;
     ends = λ w before is asks start held script rest going. second.ends w before is asks start held script rest (first
@@ -570,471 +582,286 @@ module _ {D : Type 0} (disk : Ghosts D) where
       by_result : {E : Type 0} (r : Result Entry E)
           → IfOk r (λ entry. (w : Wanted) (before more : List ℕ) → w.element ≡ element
           → action_op before w.action ≡ Some
-          op → bases_by w (Ok (Tells entry)) ≡ Some more → Passes disk (w ∷ []) before [] (before ++ more) mid new)
+          op → bases_by w (Ok (Tells entry)) ≡ Some more → Passes (w ∷ []) before [] (before ++ more) mid new)
           → IfOk r (λ entry. (w : Wanted) (before more : List ℕ) → w.element ≡ element
           → action_op before w.action ≡ Some
-          op → bases_by w (Ok (Tells entry)) ≡ Some more → Passes disk (w ∷ []) before [] (before ++ more) old new)
+          op → bases_by w (Ok (Tells entry)) ≡ Some more → Passes (w ∷ []) before [] (before ++ more) old new)
       by_result (Ok entry) later = λ w before more is asks made start held script rest going. later w before more is
           asks made start held script rest (first (w ∷ []) before start held script rest going)
       by_result (Err e) later = tt
 
   pub served_then : {T E : Type 0} (r : Result T E) (wanted : List Wanted) (before between after : List ℕ) (old mid new
-      : ScriptServer D) → Passes disk wanted before [] between old mid → HasServed disk [] between after r mid new →
-      HasServed disk wanted before after r old new
+      : ScriptServer D) → Passes wanted before [] between old mid → HasServed [] between after r mid new →
+      HasServed wanted before after r old new
   served_then r wanted before between after old mid new first second = record {
     serves = by_result r second.serves;
     ends = λ start held script rest going. second.ends start held script rest (first start held script rest going);
   }
     where
-      by_result : {T E : Type 0} (r : Result T E) → OnOk r (Passes disk [] between [] after mid new) → OnOk r (Passes
-          disk wanted before [] after old new)
+      by_result : {T E : Type 0} (r : Result T E) → OnOk r (Passes [] between [] after mid new) → OnOk r (Passes
+          wanted before [] after old new)
       by_result (Ok x) later = λ start held script rest going. later start held script rest (first start held script
           rest going)
       by_result (Err e) later = tt
 
   -- what is kept back is written
-  pub prints_on : (bases : List ℕ) (engine : EngineState D) (held later : Option (List ℕ)) (before last : Lines)
+  pub prints_on : (bases : List ℕ) (session : SessionState D) (held later : Option (List ℕ)) (before last : Lines)
       (waited : List Waited) (marks : List Mark) → PrintsOn held before later last
-      → Passes disk [] bases [] bases (server_of engine held before waited marks) (server_of engine later last waited marks)
-  prints_on bases engine held later before last waited marks prints = λ start from script rest going. (
-    going.0,
-    (going.1.0, prints from going.0 going.1.1),
-  )
+      → Passes [] bases [] bases (server_of session held before waited marks) (server_of session later last waited marks)
+  prints_on bases session held later before last waited marks prints = λ start from script rest going. record {
+    text = going.text;
+    serving = going.serving;
+    printed = prints from going.text going.printed;
+  }
 
-  -- room is made, and nothing is printed
-  pub prepared_goes : (old new : EngineState D) (waited learned : List Waited) (marks later : List Mark) (held : Option
+  -- a place is made for a request, and nothing is printed
+  pub prepared_goes : (old new : SessionState D) (waited learned : List Waited) (marks later : List Mark) (held : Option
       (List ℕ)) (before last : Lines)
-      → ((start : EngineState D) (s : Standing) (text : List ℕ) → GoesAt disk start s old text (notes waited marks)
-      → GoesAt disk start s new text (notes learned later)) → last ≡ before
-      → (wanted : List Wanted) (bases : List ℕ) → Passes disk wanted bases wanted bases (server_of old held before waited
+      → ((start : SessionStart D) (s : Standing) (text : List ℕ) → IsServing start old s text (notes waited marks)
+      → IsServing start new s text (notes learned later)) → last ≡ before
+      → (wanted : List Wanted) (bases : List ℕ) → Passes wanted bases wanted bases (server_of old held before waited
       marks) (server_of new held last learned later)
-  prepared_goes old new waited learned marks later held before last goes lines wanted bases = λ start from script rest
-      going. (
-        going.0,
-        (
-          goes start (standing script bases (wanted ++ rest)) going.0 going.1.0,
-          subst (λ (l : Lines). Prints
-              from held l going.0) (sym lines) going.1.1,
-        ),
-      )
+  prepared_goes old new waited learned marks later held before last goes lines wanted bases =
+      λ start from script rest going. record {
+        text = going.text;
+        serving = goes start (standing script bases (wanted ++ rest)) going.text going.serving;
+        printed = subst (λ (l : Lines). Prints from held l going.text) (sym lines) going.printed;
+      }
 
-  -- ---- a request
+  -- ---- a request, by a server
 
-  module _ (mid new : EngineState D) (r : Request) (next : mid.failed ≡ false
-      → (base : ℕ) × (bounds mid.memory.windows r.element ≡ Ok (base, r.number))) (w : Wanted) (bases : List ℕ)
-      (element : w.element ≡ r.element) (op : action_op bases w.action ≡ Some r.op) where
-    last_leads : (start : EngineState D) (script : Option Course) (rest : List Wanted) (put : List Command)
-        → mid.failed ≡ false → mid.memory ≡ after start.memory put
-        → HasReached start.memory (standing script bases (w ∷ rest)) put
-        → (last : List Wanted) × LeadsIf start.memory script (put ++ Asks r ∷ []) last
-    last_leads start script rest put works memory reached =
-        let n = next works in
-        stands_last start.memory script bases w rest put r reached
-        (request_is (after start.memory put) bases w r n.0 element op (subst (λ (m : Contents). bounds m.windows
-        r.element ≡ Ok (n.0, r.number)) memory n.1))
+  module _ (old new : SessionState D) (r : Request) (base : ℕ)
+      (next : bounds old.engine.memory.windows r.element ≡ Ok (base, r.number)) (w : Wanted) (bases : List ℕ)
+      (element : w.element ≡ r.element) (op : action_op bases w.action ≡ Some r.op) (waited : List Waited)
+      (marks : List Mark) (held later : Option (List ℕ)) (before last : Lines) where
+    abbrev was : ScriptServer D
+    was = server_of old held before waited marks
 
     -- it is refused
-    pub ask_refused : (e : Refusal) → HasDone mid new (Asks r) (Err e)
-        → (held : Option (List ℕ)) (lines : Lines) (waited : List Waited) (marks : List Mark)
-        → EndsAt disk (w ∷ []) bases (server_of mid held lines waited marks) (server_of new held lines waited marks)
-    ask_refused e it held lines waited marks = λ start from script rest going. (
-      going.0,
-      (
-        refused_halts mid new (Asks r) e it start (standing script bases (w ∷ rest)) going.0 (notes waited marks)
-            (last_leads start script rest) going.1.0,
-        going.1.1,
-      ),
-    )
+    pub refused_ends : CommandRefused old (Asks r) new → EndsAt (w ∷ []) bases was (server_of new held before waited marks)
+    refused_ends it = λ start from script rest going. record {
+      text = going.text;
+      over = ask_refused start old new r base next w bases element op script rest going.text waited marks going.serving
+          it;
+      printed = going.printed;
+    }
 
-    module _ (a : Result Outcome Refusal) (it : HasDone mid new (Asks r) a) (entry : Entry) (is : a
-        ≡ Ok (Tells entry)) (waited : List Waited) (marks : List Mark) where
-      -- what was put then, what it was answered, and what was known before it
-      pub record HasTold (start : EngineState D) (s : Standing) (text : List ℕ) : Type 0 where
-        pub put : List Command
-        pub names : List Waiter
-        pub waited_is : AreWaited s.script waited names
-        pub goes : GoesWith disk.now disk.past disk.failures start new (put ++ Asks r ∷ []) (text ++ told_line
-            r.element r.number entry) (names ++ waits_if (asker r) entry)
-        pub halts : HaltsWith disk.now disk.past disk.failures start new (put ++ Asks r ∷ []) text names
-        pub under_way : IsServing start.memory s put (notes waited marks)
-        pub base : ℕ
-        pub next_is : bounds (after start.memory put).windows r.element ≡ Ok (base, r.number)
-        pub answer : (step (after start.memory put) (Asks r)).answer ≡ Ok (Tells entry)
+    module _ (entry : Entry) (it : CommandServed old (Asks r) (Tells entry) new) where
+      -- its line isn't printed
+      pub unprinted_ends : (kept : List Mark) → PrintsOn held before later last
+          → EndsAt (w ∷ []) bases was (server_of new later last waited kept)
+      unprinted_ends kept prints = λ start from script rest going. record {
+        text = going.text;
+        over = ask_unprinted start old new r base next w bases element op script rest going.text waited marks
+            going.serving entry it;
+        printed = prints from going.text going.printed;
+      }
 
-      told : (start : EngineState D) (s : Standing) (text : List ℕ)
-          → GoesAt disk start s mid text (notes waited marks) → disk.honest new.disk
-          → disk.honest start.disk × HasTold start s text
-      told start s text goes h =
-          let before = goes (it.was h) in
-          let put = before.1.0 in
-          let names = before.1.1.0 in
-          let g = before.1.1.1.1.0 in
-          let n = next g.works in
-          let c = Asks r in
-          let m = after start.memory put in
-          let same : mid.memory ≡ m = g.has.memory g.works in
-          let went = answered disk.now disk.past disk.failures mid new c a (Tells entry) it.answered g.works is in
-          let accepted : is_accepted m c ≡ true = subst (λ (x : Contents). is_accepted x c
-          ≡ true) same (next_is_new mid.memory r n.0 (Tells entry) n.1 went.1) in
-          let one : put_by_command m c a ≡ c ∷ [] = ap₂ (λ (b p : Bool). if b && p then c ∷ [] else []) accepted (ap
-          may_be_put is) in (
-            before.0,
-            record {
-              put = put;
-              names = names;
-              waited_is = before.1.1.1.0;
-              goes = asked disk.now disk.past disk.failures start mid new put text names r entry a g it.answered
-                  (it.leaves h) (it.doubt h) (it.means h) it.cause is (next_is_new mid.memory r n.0 (Tells entry) n.1);
-              halts = subst (λ (more : List Command). HaltsWith disk.now disk.past disk.failures start new (put ++
-                  more) text names) one
-                  (served_halts disk.now disk.past disk.failures start mid new put text names c a g it.answered
-                  (it.leaves h) (it.doubt h) (it.means h) it.cause);
-              under_way = before.1.1.1.1.1;
-              base = n.0;
-              next_is = subst (λ (x : Contents). bounds x.windows r.element ≡ Ok (n.0, r.number)) same n.1;
-              answer = subst (λ (x : Contents). (step x c).answer ≡ Ok (Tells entry)) same went.1;
-            },
-          )
+      module _ (prints : PrintsMore held before later last (told_line r.element r.number entry)) where
+        -- it isn't noted
+        pub unnoted_ends : (kept : List Mark) → EndsAt (w ∷ []) bases was (server_of new later last waited kept)
+        unnoted_ends kept = λ start from script rest going. record {
+          text = going.text ++ told_line r.element r.number entry;
+          over = ask_unnoted start old new r base next w bases element op script rest going.text waited marks
+              going.serving entry it;
+          printed = prints from going.text going.printed;
+        }
 
-      -- it is over after that
-      over : (start : EngineState D) (script : Option Course) (rest : List Wanted) (text : List ℕ) (t : HasTold
-          start (standing script bases (w ∷ rest)) text) (noted : List Waited)
-          → IfSome script (λ x. AreKnown start.memory (t.put ++ Asks r ∷ []) noted)
-          → IsOver start.memory script new (t.put ++ Asks r ∷ []) noted
-      over start script rest text t noted known =
-          let leads = stands_last start.memory script bases w rest t.put r t.under_way.reached (request_is (after
-          start.memory t.put) bases w r t.base element op t.next_is) in
-          record {
-            left = leads.0;
-            leads = leads.1;
-            done = t.put ++ Asks r ∷ [];
-            doubt = [];
-            split = sym (append-nil (t.put ++ Asks r ∷ []));
-            few = omega arith;
-            sure = λ works. refl;
-            memory = t.goes.has.memory t.goes.works;
-            known = known;
+        module _ (noted : List Waited) (marked : List Mark) (pushed : noted ≡ waited ++ noted_if (asker r) entry)
+            (others : (i : ℕ) → (i ≡ mark_place (asker r) → ⊥) → slice_get marked i ≡ slice_get marks i)
+            (mark : entry ≡ Waiting → slice_get marked (mark_place (asker r)) ≡ Some (Here (length waited)))
+            (names : map who_of noted ≡ map who_of waited ++ waits_if (asker r) entry) where
+          pub asked_passes : (added : List ℕ) → bases_by w (Ok (Tells entry)) ≡ Some added
+              → Passes (w ∷ []) bases [] (bases ++ added) was (server_of new later last noted marked)
+          asked_passes added made = λ start from script rest going. record {
+            text = going.text ++ told_line r.element r.number entry;
+            serving = ask_serving start old new r base next w bases element op script rest going.text waited marks
+                going.serving entry it noted marked pushed others mark names added made;
+            printed = prints from going.text going.printed;
           }
 
-      before_over : (start : EngineState D) (script : Option Course) (rest : List Wanted) (text : List ℕ) (t :
-          HasTold start (standing script bases (w ∷ rest)) text)
-          → IsOver start.memory script new (t.put ++ Asks r ∷ []) waited
-      before_over start script rest text t = over start script rest text t waited
-          (if_any script (IsRecorded start.memory t.put (notes waited marks)) (AreKnown start.memory (t.put ++ Asks r ∷
-          []) waited)
-          (λ rec. before_known start.memory t.put r t.base entry waited marks t.next_is t.answer rec)
-          t.under_way.recorded)
-
-      -- its line isn't printed
-      pub ask_unprinted : (held later : Option (List ℕ)) (before last : Lines) (kept : List Mark)
-          → PrintsOn held before later last → EndsAt disk (w ∷ []) bases (server_of mid held before waited marks) (server_of new
-          later last waited kept)
-      ask_unprinted held later before last kept prints = λ start from script rest going. (
-        going.0,
-        (
-          (λ h. let t = told start (standing script bases (w ∷ rest)) going.0 going.1.0 h in (
-            t.0,
-            (
-              t.1.put ++ Asks r ∷
-                  [],
-              (t.1.names, (t.1.waited_is, (t.1.halts, before_over start script rest going.0 t.1))),
-            ),
-          )),
-          prints from going.0 going.1.1,
-        ),
-      )
-
-      module _ (held later : Option (List ℕ)) (before last : Lines) (prints : PrintsMore held before later last
-          (told_line r.element r.number entry)) where
-        -- its line is printed, but it isn't noted
-        pub ask_unnoted : (kept : List Mark) → EndsAt disk (w ∷ []) bases (server_of mid held before waited marks) (server_of new
-            later last waited kept)
-        ask_unnoted kept = λ start from script rest going.
-            let text = going.0 ++ told_line r.element r.number entry in (
-              text,
-              (
-                (λ h. let t = told start (standing script bases (w ∷ rest)) going.0 going.1.0 h in (
-                  t.0,
-                  (
-                    t.1.put ++ Asks r ∷ [],
-                    (
-                      t.1.names,
-                      (
-                        t.1.waited_is,
-                        (
-                          unnoted disk.now disk.past disk.failures start new (t.1.put ++ Asks r ∷ []) text t.1.names
-                              (waits_if (asker r) entry) t.1.goes,
-                          before_over start script rest going.0 t.1,
-                        ),
-                      ),
-                    ),
-                  ),
-                )),
-                prints from going.0 going.1.1,
-              ),
-            )
-
-        module _ (noted : List Waited) (marked : List Mark) (pushed : noted
-            ≡ waited ++ noted_if (asker r) entry) (others : (i : ℕ) → (i ≡ mark_place (asker r) → ⊥)
-            → slice_get marked i ≡ slice_get marks i)
-            (mark : entry ≡ Waiting → slice_get marked (mark_place (asker r))
-            ≡ Some (Here (length waited))) (names : map who_of noted
-            ≡ map who_of waited ++ waits_if (asker r) entry) where
-          recorded : (start : EngineState D) (s : Standing) (text : List ℕ) (t : HasTold start s text)
-              → IfSome s.script (λ x. IsRecorded start.memory (t.put ++ Asks r ∷ []) (notes noted marked))
-          recorded start s text t = if_any s.script (IsRecorded start.memory t.put (notes waited marks)) (IsRecorded
-              start.memory (t.put ++ Asks r ∷ []) (notes noted marked))
-              (λ rec. asked_recorded start.memory t.put r t.base entry waited marks t.next_is t.answer rec noted marked
-              pushed others mark) t.under_way.recorded
-
-          -- those that had to wait, with it
-          waited_more : (start : EngineState D) (s : Standing) (text : List ℕ) (t : HasTold start s text)
-              → AreWaited s.script noted (t.names ++ waits_if (asker r) entry)
-          waited_more start s text t = names ∙ ap (λ (l : List Waiter). l ++ waits_if (asker r) entry) t.waited_is
-              ∙ append_assoc (earlier_in s.script) t.names (waits_if (asker r) entry)
-
-          -- its line is printed, and it is noted if it has to wait
-          pub ask_serves : (added : List ℕ) → bases_by w (Ok (Tells entry)) ≡ Some added
-              → Passes disk (w ∷ []) bases [] (bases ++ added) (server_of mid held before waited marks) (server_of new later last
-              noted marked)
-          ask_serves added made = λ start from script rest going.
-              let text = going.0 ++ told_line r.element r.number entry in
-              let s = standing script bases (w ∷ rest) in (
-                text,
-                (
-                  (λ h. let t = told start s going.0 going.1.0 h in (
-                    t.0,
-                    (
-                      t.1.put ++ Asks r ∷ [],
-                      (
-                        t.1.names ++ waits_if (asker r) entry,
-                        (
-                          waited_more start s going.0 t.1,
-                          (
-                            t.1.goes,
-                            record {
-                              reached = stands_asked start.memory script bases added w rest t.1.put r t.1.under_way.reached
-                                  (request_is (after start.memory t.1.put) bases w r t.1.base element op t.1.next_is) (ap
-                                  (bases_by w) t.1.answer ∙ made);
-                              named = named_asked start.memory script bases added w rest t.1.put r
-                                  t.1.under_way.named (ap (bases_by w) t.1.answer ∙ made);
-                              recorded = recorded start s going.0 t.1;
-                            },
-                          ),
-                        ),
-                      ),
-                    ),
-                  )),
-                  prints from going.0 going.1.1,
-                ),
-              )
-
-          -- the same, and it is ended there
-          pub ask_told : EndsAt disk (w ∷ []) bases (server_of mid held before waited marks) (server_of new later last noted
-              marked)
-          ask_told = λ start from script rest going.
-              let text = going.0 ++ told_line r.element r.number entry in
-              let s = standing script bases (w ∷ rest) in (
-                text,
-                (
-                  (λ h. let t = told start s going.0 going.1.0 h in (
-                    t.0,
-                    (
-                      t.1.put ++ Asks r ∷ [],
-                      (
-                        t.1.names ++ waits_if (asker r) entry,
-                        (
-                          waited_more start s going.0 t.1,
-                          (
-                            halts disk.now disk.past disk.failures start new (t.1.put ++ Asks r ∷ []) text (t.1.names ++
-                                waits_if (asker r) entry) t.1.goes,
-                            over start script rest going.0 t.1 noted (if_any script (IsRecorded start.memory (t.1.put ++ Asks r ∷
-                                []) (notes noted marked)) (AreKnown start.memory (t.1.put ++ Asks r ∷ []) noted)
-                                (λ rec. noted_known start.memory (t.1.put ++ Asks r ∷ []) 0 0 marked noted rec.noted) (recorded start
-                                s going.0 t.1)),
-                          ),
-                        ),
-                      ),
-                    ),
-                  )),
-                  prints from going.0 going.1.1,
-                ),
-              )
+          pub told_ends : EndsAt (w ∷ []) bases was (server_of new later last noted marked)
+          told_ends = λ start from script rest going. record {
+            text = going.text ++ told_line r.element r.number entry;
+            over = ask_told start old new r base next w bases element op script rest going.text waited marks
+                going.serving entry it noted marked pushed others mark names;
+            printed = prints from going.text going.printed;
+          }
 
   -- ---- lines of a script
 
   module _ (all : List Wanted) (first before : List ℕ) (old mid : ScriptServer D) (d next : Draft) (said : Said) (text line :
       List ℕ) (behind : Option (Bor (List ℕ)))
       (lines : lines_of text ≡ line ∷ option_map_or (λ rest. lines_of rest.now) behind []) (read : said_at d line ≡
-      Some (next, said)) (so_far : Passes disk all first (wanted_in d (lines_of text)) before old mid) where
+      Some (next, said)) (so_far : Passes all first (wanted_in d (lines_of text)) before old mid) where
     abbrev left : List Wanted
     left = option_map_or (λ rest. wanted_in next (lines_of rest.now)) behind []
 
-    there : (start : EngineState D) (held : Option (List ℕ)) (script : Option Course) (rest : List Wanted) →
-        GoingAt disk start held (standing script first (all ++ rest)) old
-        → GoingAt disk start held (standing script before (wanted_by said ++ (left ++ rest))) mid
+    there : (start : SessionStart D) (held : Option (List ℕ)) (script : Option Course) (rest : List Wanted) →
+        GoingAt start held (standing script first (all ++ rest)) old
+        → GoingAt start held (standing script before (wanted_by said ++ (left ++ rest))) mid
     there start held script rest going =
         let is : wanted_in d (lines_of text) ≡ wanted_by said ++ left =
         ap (wanted_in d) lines ∙ wanted_line d next said line (option_map_or (λ rest. lines_of rest.now) behind [])
         read ∙ ap (λ (l : List Wanted). wanted_by said ++ l) (behind_it next behind) in
-        subst (λ (l : List Wanted). GoingAt disk start held (standing script before l) mid) (ap (λ (l : List Wanted). l
+        subst (λ (l : List Wanted). GoingAt start held (standing script before l) mid) (ap (λ (l : List Wanted). l
         ++ rest) is ∙ append_assoc (wanted_by said) left rest) (so_far start held script rest going)
 
-    pub line_serves : (after : List ℕ) (new : ScriptServer D) → Passes disk (wanted_by said) before [] after mid new → Passes
-        disk all first left after old new
+    pub line_serves : (after : List ℕ) (new : ScriptServer D) → Passes (wanted_by said) before [] after mid new → Passes
+        all first left after old new
     line_serves after new serves = λ start held script rest going. serves start held script (left ++ rest) (there start
         held script rest going)
 
-    pub line_ends : (new : ScriptServer D) → EndsAt disk (wanted_by said) before mid new → EndsAt disk all first old new
+    pub line_ends : (new : ScriptServer D) → EndsAt (wanted_by said) before mid new → EndsAt all first old new
     line_ends new ends = λ start held script rest going. ends start held script (left ++ rest) (there start held script
         rest going)
 
   -- the lines that are left
   pub lines_end : (all : List Wanted) (first before : List ℕ) (old mid : ScriptServer D) (d : Draft) (rest : Option (Bor
-      (List ℕ))) → rest ≡ None → Passes disk all first (option_map_or (λ text. wanted_in d (lines_of text.now)) rest
-      []) before old mid → Passes disk all first [] before old mid
-  lines_end all first before old mid d rest none passes = subst (λ (o : Option (Bor (List ℕ))). Passes disk all first
+      (List ℕ))) → rest ≡ None → Passes all first (option_map_or (λ text. wanted_in d (lines_of text.now)) rest
+      []) before old mid → Passes all first [] before old mid
+  lines_end all first before old mid d rest none passes = subst (λ (o : Option (Bor (List ℕ))). Passes all first
       (option_map_or (λ text. wanted_in d (lines_of text.now)) o []) before old mid) none passes
 
   pub lines_left : (all : List Wanted) (first before : List ℕ) (old mid : ScriptServer D) (d : Draft) (rest : Option (Bor
-      (List ℕ))) (text : Bor (List ℕ)) → rest ≡ Some text → Passes disk all first (option_map_or (λ text. wanted_in d
-      (lines_of text.now)) rest []) before old mid → Passes disk all first (wanted_in d (lines_of text.now)) before old
+      (List ℕ))) (text : Bor (List ℕ)) → rest ≡ Some text → Passes all first (option_map_or (λ text. wanted_in d
+      (lines_of text.now)) rest []) before old mid → Passes all first (wanted_in d (lines_of text.now)) before old
       mid
-  lines_left all first before old mid d rest text some passes = subst (λ (o : Option (Bor (List ℕ))). Passes disk all
+  lines_left all first before old mid d rest text some passes = subst (λ (o : Option (Bor (List ℕ))). Passes all
       first (option_map_or (λ text. wanted_in d (lines_of text.now)) o []) before old mid) some passes
 
   -- ---- the beginning and the end
 
   -- nothing of a script was put yet
-  pub going_from : (c : Course) (start : EngineState D) (held : Option (List ℕ)) (lines : Lines) (waited : List Waited)
-      (marks : List Mark) → start.failed ≡ false
-      → (disk.honest start.disk → LeavesNow (disk.now start.disk) (MeansState start))
-      → IsRecorded start.memory [] (notes waited marks) → map who_of waited ≡ c.earlier → lines.pending.items ≡ []
-      → GoingAt disk start held (standing (Some c) c.first (c.wanted ++ [])) (server_of start held lines waited marks)
-  going_from c start held lines waited marks works means recorded names pending = (
-    [],
-    (
-      (λ h. (
-        h,
-        (
-          [],
-          (
-            [],
-            (
-              names ∙ sym (append-nil c.earlier),
-              (
-                goes_none disk.now disk.past disk.failures start works (means h),
-                record {
-                  reached = subst (λ (l : List Wanted). HasReached start.memory (standing (Some c) c.first l) []) (sym
-                      (append-nil c.wanted)) (stands_first start.memory c);
-                  named = subst (λ (l : List Wanted). HasNamed start.memory (standing (Some c) c.first l) []) (sym
-                      (append-nil c.wanted)) (named_first start.memory c);
-                  recorded = recorded;
-                },
-              ),
-            ),
-          ),
-        ),
-      )),
-      prints_none held lines pending,
-    ),
-  )
+  pub going_from : (c : Course) (session : SessionState D) (held : Option (List ℕ)) (lines : Lines) (waited : List Waited)
+      (marks : List Mark) → IsFresh session → session.engine.failed ≡ false
+      → IsRecorded session.start.memory [] (notes waited marks) → map who_of waited ≡ c.earlier
+      → lines.pending.items ≡ []
+      → GoingAt session.start held (standing (Some c) c.first (c.wanted ++ [])) (server_of session held lines waited marks)
+  going_from c session held lines waited marks fresh works recorded names pending =
+      let m = session.start.memory in record {
+        text = [];
+        serving = serving_with session.start session (standing (Some c) c.first (c.wanted ++ [])) []
+            (notes waited marks) [] (ap (λ (t : SessionState D). t.put) fresh) refl works
+            (ap (λ (t : SessionState D). t.doubt) fresh) (sym (ap (λ (t : SessionState D). t.start.memory) fresh)) refl
+            (names ∙ sym (append-nil c.earlier))
+            (subst (λ (l : List Wanted). HasReached m (standing (Some c) c.first l) []) (sym (append-nil c.wanted))
+            (stands_first m c))
+            (subst (λ (l : List Wanted). HasNamed m (standing (Some c) c.first l) []) (sym (append-nil c.wanted))
+            (named_first m c))
+            recorded;
+        printed = prints_none held lines pending;
+      }
 
-  -- a server of this engine that has served nothing of a script yet
-  pub going_first : (script : List Wanted) (start engine : EngineState D) (held : Option (List ℕ)) (before lines :
-      Lines) (waited : List Waited) (marks : List Mark) (bases : List ℕ) → start.failed ≡ false
-      → (disk.honest start.disk → LeavesNow (disk.now start.disk) (MeansState start))
-      → IsMemory (length start.memory.cells) (length start.memory.windows) start.memory
-      → before.pending.items ≡ [] → waited ≡ [] → bases ≡ [] → engine ≡ start → lines ≡ before
-      → GoingAt disk start held (standing (Some (whole_course script)) bases (script ++ [])) (server_of engine held
+  -- a server of this session that has served nothing of a script yet
+  pub going_first : (script : List Wanted) (session same : SessionState D) (held : Option (List ℕ)) (before lines :
+      Lines) (waited : List Waited) (marks : List Mark) (bases : List ℕ) → IsFresh session
+      → session.engine.failed ≡ false
+      → (let m = session.engine.memory in IsMemory (length m.cells) (length m.windows) m)
+      → before.pending.items ≡ [] → waited ≡ [] → bases ≡ [] → same ≡ session → lines ≡ before
+      → GoingAt session.start held (standing (Some (whole_course script)) bases (script ++ [])) (server_of same held
       lines waited marks)
-  going_first script start engine held before lines waited marks bases works means memory pending none no_bases engines
+  going_first script session same held before lines waited marks bases fresh works memory pending none no_bases sessions
       line =
-      subst (λ (b : List ℕ). GoingAt disk start held (standing (Some (whole_course script)) b (script ++ []))
-      (server_of engine held lines waited marks)) (sym no_bases)
-      (as_of (λ (e : EngineState D) (l : Lines). GoingAt disk start held (standing (Some (whole_course script)) []
-      (script ++ [])) (server_of e held l waited marks)) start engine before lines engines line
-      (subst (λ (l : List Waited). GoingAt disk start held (standing (Some (whole_course script)) [] (script ++ []))
-      (server_of start held before l marks)) (sym none) (going_from (whole_course script) start held before [] marks
-      works means (record { memory = memory; noted = λ at w is. absurd (no_item w is) }) refl pending)))
+      subst (λ (b : List ℕ). GoingAt session.start held (standing (Some (whole_course script)) b (script ++ []))
+      (server_of same held lines waited marks)) (sym no_bases)
+      (as_of (λ (t : SessionState D) (l : Lines). GoingAt session.start held (standing (Some (whole_course script)) []
+      (script ++ [])) (server_of t held l waited marks)) session same before lines sessions line
+      (subst (λ (l : List Waited). GoingAt session.start held (standing (Some (whole_course script)) [] (script ++ []))
+      (server_of session held before l marks)) (sym none) (going_from (whole_course script) session held before [] marks
+      fresh works (record { memory = memory_at; noted = λ at w is. absurd (no_item w is) }) refl pending)))
     where
       no_item : (w : Waited) → ◌≡◌ {A = Option Waited} None (Some w) → ⊥
       no_item w is = cc
 
+      memory_at : let m = session.start.memory in IsMemory (length m.cells) (length m.windows) m
+      memory_at = subst (λ (m : Contents). IsMemory (length m.cells) (length m.windows) m)
+          (sym (ap (λ (t : SessionState D). t.start.memory) fresh)) memory
+
   pub ends_served : {T E : Type 0} (r : Result T E) (wanted : List Wanted) (before last : List ℕ) (old new : ScriptServer D)
-      → HasServed disk wanted before last r old new → IsOk r → Passes disk wanted before [] last old new
+      → HasServed wanted before last r old new → IsOk r → Passes wanted before [] last old new
   ends_served (Ok x) wanted before last old new it ok = it.serves
   ends_served (Err e) wanted before last old new it ok = absurd (true_false false ok refl)
 
-  pub closed : (script : List ℕ) (bases : List ℕ) (start engine : EngineState D) (end : D) (status : ℕ) (held mid is
-      was : Option (List ℕ)) (before later final : Lines) (noted waited : List Waited) (marks : List Mark)
-      → EndedAt disk start was (Some (whole_course (wanted_of script))) (server_of engine held before noted marks) → (status ≡ 0
-      → GoingAt disk start was (standing (Some (whole_course (wanted_of script))) bases []) (server_of engine held before noted marks))
-      → map who_of waited ≡ map who_of noted → ((m : Contents) (put : List Command) → engine.memory ≡ after m put
+  -- what was told, by the lines that were printed
+  told_by : (start : SessionStart D) (t : SessionState D) (script : List Wanted) (text : List ℕ) (noted waited
+      : List Waited) (status : ℕ) (was is : Option (List ℕ)) (many : ℕ) (last : List ℕ)
+      → IsOver start t (Some (whole_course script)) text noted → map who_of waited ≡ map who_of noted
+      → AreLast start.memory t.put waited → IsLast last → Begins was is ((text ++ nows waited many) ++ last)
+      → (status ≡ 0 → (map who_of waited ≡ waits start.memory t.put)
+      × Appends was is (replies start.memory t.put ++ nows waited (length waited)))
+      → Told start.memory t.put was is status
+  told_by start t script text noted waited status was is many last it same entries last_is begins whole = record {
+    told = it.told;
+    others = it.others;
+    split = it.split;
+    waited = waited;
+    waiting = (it.many, same ∙ it.names);
+    last_entries = entries;
+    many = many;
+    last = last;
+    last_is = last_is;
+    begins = subst (λ (l : List ℕ). Begins was is ((l ++ nows waited many) ++ last)) it.lines begins;
+    whole = whole;
+  }
+
+  pub closed : (disk : Ghosts D) (script : List ℕ) (bases : List ℕ) (t : SessionState D) (end : D) (status : ℕ)
+      (held mid is was : Option (List ℕ)) (before later final : Lines) (noted waited : List Waited) (marks : List Mark)
+      → Kept disk t → end ≡ t.engine.disk → (status ≡ 0 → t.engine.failed ≡ false)
+      → EndedAt t.start was (Some (whole_course (wanted_of script))) (server_of t held before noted marks)
+      → (status ≡ 0 → GoingAt t.start was (standing (Some (whole_course (wanted_of script))) bases [])
+      (server_of t held before noted marks))
+      → map who_of waited ≡ map who_of noted → ((m : Contents) (put : List Command) → t.engine.memory ≡ after m put
       → AreKnown m put noted → AreLast m put waited)
-      → PrintsNows held before mid later waited → (status ≡ 0
-      → PrintsMore held before mid later (nows waited (length waited)))
+      → PrintsNows held before mid later waited
+      → (status ≡ 0 → PrintsMore held before mid later (nows waited (length waited)))
       → ((from : Option (List ℕ)) (text : List ℕ) → Prints from mid later text
       → (last : List ℕ) × (IsLast last × Prints from is final (text ++ last)))
       → (status ≡ 0 → (from : Option (List ℕ)) (text : List ℕ) → Prints from mid later text → Appends from is text)
-      → end ≡ engine.disk → (status ≡ 0 → engine.failed ≡ false) → (disk.honest engine.disk → engine.failed ≡ false
-      → LeavesNow (disk.now engine.disk) (MeansState engine)) → disk.honest end
-      → disk.honest start.disk × Closed disk.now disk.past disk.failures script start end was is status
-  closed script bases start engine end status held mid is was before later final noted waited marks reached going same
-      learn some all last whole at_end works means h =
-      let there : disk.honest engine.disk = subst disk.honest at_end h in
-      subst (λ (d : D). disk.honest start.disk × Closed disk.now disk.past disk.failures script start d was is status)
-      (sym at_end) (by_status there status refl)
+      → ServedScript disk script t.start.disk end was is status
+  unfolding over_here
+  closed disk script bases t end status held mid is was before later final noted waited marks kept at_end works ended
+      going same learn some all last whole = by_status status refl
     where
-      by_status : disk.honest engine.disk → (n : ℕ) → status ≡ n
-          → disk.honest start.disk × Closed disk.now disk.past disk.failures script start engine.disk was is status
-      by_status there zero zero_is =
-          let g = going zero_is in
-          let it = g.1.0 there in
-          let put = it.1.0 in
-          let names = it.1.1.0 in
-          let goes = it.1.1.1.1.0 in
-          let u = it.1.1.1.1.1 in
-          let on = halts disk.now disk.past disk.failures start engine put g.0 names goes in
-          let told = some.2 was g.0 g.1.1 in
-          let end = last was (g.0 ++ nows waited some.0) told in
-          let full = whole zero_is was (g.0 ++ nows waited (length waited)) (all zero_is was g.0 g.1.1) in (
-            it.0,
-            closed_by disk.now disk.past disk.failures script start engine put g.0 names status was is on
-                works (means there)
-                (record {
-                  left = [];
-                  leads = stands_here start.memory (standing (Some (whole_course (wanted_of script))) bases []) put
-                      u.reached;
-                  all = λ z. refl;
-                })
-                (told_by disk.now disk.past disk.failures start engine put g.0 names status was is waited
-                some.0 end.0 put [] on (same ∙ it.1.1.1.0) (sym (append-nil put)) (omega arith)
-                (learn start.memory put (goes.has.memory goes.works) (noted_known start.memory put 0 0 marks
-                noted u.recorded.noted)) end.1.0 (prints_begins was is final ((g.0 ++ nows waited some.0) ++ end.0)
-                end.1.1)
-                (λ z. (
-                  refl,
-                  goes.waiting,
-                  subst (λ (t : List ℕ). Appends was is (t ++ nows waited (length
-                      waited))) goes.lines full,
-                ))),
-          )
-      by_status there (suc n) more =
-          let it = reached.1.0 there in
-          let put = it.1.0 in
-          let names = it.1.1.0 in
-          let halted = it.1.1.1.1.0 in
-          let o = it.1.1.1.1.1 in
-          let told = some.2 was reached.0 reached.1.1 in
-          let end = last was (reached.0 ++ nows waited some.0) told in (
-            it.0,
-            closed_by disk.now disk.past disk.failures script start engine put reached.0 names status was
-                is halted works (means there)
-                (record { left = o.left; leads = o.leads; all = λ z. absurd (omega arith) })
-                (told_by disk.now disk.past disk.failures start engine put reached.0 names status was is
-                waited some.0 end.0 o.done o.doubt halted (same ∙ it.1.1.1.0) o.split o.few (learn start.memory o.done o.memory
-                o.known)
-                end.1.0 (prints_begins was is final ((reached.0 ++ nows waited some.0) ++ end.0) end.1.1)
-                (λ z. absurd (omega arith))),
-          )
+      printed : (text : List ℕ) → IsOver t.start t (Some (whole_course (wanted_of script))) text noted
+          → Prints was held before text → (status ≡ 0 → (map who_of waited ≡ waits t.start.memory t.put)
+          × Appends was is (replies t.start.memory t.put ++ nows waited (length waited))) → Told t.start.memory t.put was is status
+      printed text over prints all_of =
+          let end = last was (text ++ nows waited some.0) (some.2 was text prints) in
+          told_by t.start t (wanted_of script) text noted waited status was is some.0 end.0 over same
+          (learn t.start.memory t.put kept.memory over.known) end.1.0
+          (prints_begins was is final ((text ++ nows waited some.0) ++ end.0) end.1.1) all_of
+
+      by_status : (n : ℕ) → status ≡ n → ServedScript disk script t.start.disk end was is status
+      by_status zero none =
+          let g = going none in
+          let it = g.serving in
+          let s = standing (Some (whole_course (wanted_of script))) bases [] in
+          record {
+            session = t;
+            opened = refl;
+            closed = at_end;
+            kept = kept;
+            asked = record {
+              left = [];
+              leads = (over_here t.start t s g.text (notes noted marks) it).leads;
+              all = λ z. refl;
+            };
+            few = (over_here t.start t s g.text (notes noted marks) it).few;
+            works = works;
+            printed = printed g.text (over_here t.start t s g.text (notes noted marks) it) g.printed (λ z. (
+              same ∙ it.names,
+              subst (λ (l : List ℕ). Appends was is (l ++ nows waited (length waited))) it.lines
+                  (whole none was (g.text ++ nows waited (length waited)) (all none was g.text g.printed)),
+            ));
+          }
+      by_status (suc n) more = record {
+        session = t;
+        opened = refl;
+        closed = at_end;
+        kept = kept;
+        asked = record { left = ended.over.left; leads = ended.over.leads; all = λ z. absurd (omega arith) };
+        few = ended.over.few;
+        works = works;
+        printed = printed ended.text ended.over ended.printed (λ z. absurd (omega arith));
+      }

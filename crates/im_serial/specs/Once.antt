@@ -11,14 +11,10 @@ use Rattle.im_types.specs.declared.operations.Reply.TheVariants.{Base}
 use Rattle.im_types.specs.declared.operations.Waiter.{Waiter}
 use Rattle.im_types.specs.declared.sizes.Limits.{Limits}
 use Rattle.im_types.specs.Contents.{Contents, kept_for}
-use Rattle.im_types.specs.Meaning.{accept_each}
 use Rattle.im_types.specs.Memory.{IsMemory}
-use Rattle.im_types.specs.Run.{after}
-use Rattle.im_disk.specs.Moment.{Moment, Left, Rises}
-use Rattle.im_disk.specs.Since.{Leaves, LeavesNow}
+use Rattle.im_disk.specs.Since.{LeavesNow}
 use Rattle.im_disk.specs.declared.disk.Disk.{Ghosts}
-use Rattle.im_engine.specs.State.{EngineState, MeansState}
-use Rattle.im_engine.specs.Run.{MeansAfter, MeansBeginning, MeansAllOrInDoubt}
+use Rattle.im_session.specs.Kept.{IsFresh, Kept as SessionKept, SessionStart, SessionState}
 use Rattle.im_text.specs.declared.replies.Waited.{Waited}
 use Rattle.im_text.specs.declared.lines.Lines.{Lines}
 use Rattle.im_text.specs.Printing.{Begins, IsLast, Prints, PrintsMore, PrintsOn, nows, replies, told_line, waits}
@@ -32,7 +28,7 @@ use Rattle.im_serial.specs.Noted.{AreKnown, AreLast, IsMarked, noted_if, notes}
 use Rattle.im_serial.specs.Begun.{HasGoneOn, MeansBegun}
 use Rattle.im_serial.specs.Fitting.{FitsScript}
 use Rattle.im_serial.specs.Had.{bases_had, has_block, has_next, left_of, met, news, next_had, numbers_had, who_next}
-use Rattle.im_serial.specs.Serving.{AreWaited, GoesAt, HaltsWith, IsOver, MeansAtLeast, NotOpened, ScriptServer}
+use Rattle.im_serial.specs.Serving.{IsOver, IsServing, NotOpened, ScriptServer}
 
 -- ---- what is printed of it
 
@@ -126,12 +122,12 @@ module _ {D : Type 0} where
   -- these requests are left, and what was made of the others was printed
   abbrev pub MetAt : List Wanted → List ℕ → List Wanted → Option (List ℕ) → ScriptServer D → Type 0
   MetAt script many left held t = (text : List ℕ)
-      × (HasMet t.engine.memory script many left text t.waited t.marks × Prints held t.held t.lines text)
+      × (HasMet t.session.engine.memory script many left text t.waited t.marks × Prints held t.held t.lines text)
 
   -- it was ended, and what was made of them was printed
   abbrev pub BrokenAt : List Wanted → Option (List ℕ) → ScriptServer D → Type 0
   BrokenAt script held t = (text : List ℕ)
-      × (HasBroken t.engine.memory script text t.waited × Prints held t.held t.lines text)
+      × (HasBroken t.session.engine.memory script text t.waited × Prints held t.held t.lines text)
 
   -- from these requests it comes to those
   abbrev pub Meets : List ℕ → List Wanted → List ℕ → List Wanted → ScriptServer D → ScriptServer D → Type 0
@@ -156,11 +152,11 @@ Names many end wanted later behind left before after = (all : List ℕ) (rest : 
 
 -- What a memory has of a script was printed and written out: the bases of its blocks are known, and nothing was put.
 pub record HasShown {D : Type 0} (script : List Wanted) (bases known : List ℕ) (old mid : ScriptServer D) : Type 0 where
-  pub engine : mid.engine ≡ old.engine
+  pub session : mid.session ≡ old.session
   pub later : List ℕ
-  pub meets : Meets (numbers_had old.engine.memory) script later [] old mid
-  pub made : HasMade old.engine.memory script
-  pub names : known ≡ bases ++ bases_had (numbers_had old.engine.memory) 0 script
+  pub meets : Meets (numbers_had old.session.engine.memory) script later [] old mid
+  pub made : HasMade old.session.engine.memory script
+  pub names : known ≡ bases ++ bases_had (numbers_had old.session.engine.memory) 0 script
   pub pending : mid.lines.pending.items ≡ []
   pub works : mid.lines.broken ≡ false
 
@@ -168,12 +164,12 @@ pub record HasShown {D : Type 0} (script : List Wanted) (bases known : List ℕ)
 abbrev pub ShowsOrBreaks : {D T E : Type 0} → Result T E → List Wanted → List ℕ → List ℕ → ScriptServer D
     → ScriptServer D → Type 0
 ShowsOrBreaks result script bases known old new = MatchResult result (λ _. HasShown script bases known old new)
-    (λ _. Breaks (numbers_had old.engine.memory) script old new)
+    (λ _. Breaks (numbers_had old.session.engine.memory) script old new)
 
 -- A script fits a memory, or there is a refusal, and nothing was printed.
 abbrev pub FitsOrStays : {D T E : Type 0} → Result T E → List Wanted → ScriptServer D → ScriptServer D → Type 0
-FitsOrStays result script old new = MatchResult result (λ _. FitsScript old.engine.memory script)
-    (λ _. FitsScript old.engine.memory script ⊎ (new ≡ old))
+FitsOrStays result script old new = MatchResult result (λ _. FitsScript old.session.engine.memory script)
+    (λ _. FitsScript old.session.engine.memory script ⊎ (new ≡ old))
 
 -- The line of a request that a memory has was printed. At a refusal it may be printed.
 abbrev pub TellsPast : {T E : Type 0} → Result T E → Option (List ℕ) → Lines → Option (List ℕ) → Lines → List ℕ
@@ -209,42 +205,49 @@ pub record IsCourse (m : Contents) (script : List Wanted) (c : Course) (had : Li
   pub earlier_is : IsPrefix c.earlier (waits_had m (numbers_had m) script)
 
 -- a server that has served nothing
-pub record HasServedNothing {D : Type 0} (disk : Ghosts D) (t : ScriptServer D) (bases : List ℕ) : Type 0 where
-  pub works : t.engine.failed ≡ false
-  pub means : disk.honest t.engine.disk → LeavesNow (disk.now t.engine.disk) (MeansState t.engine)
-  pub memory : IsMemory (length t.engine.memory.cells) (length t.engine.memory.windows) t.engine.memory
+pub record HasServedNothing {D : Type 0} (t : ScriptServer D) (bases : List ℕ) : Type 0 where
+  pub fresh : IsFresh t.session
+  pub works : t.session.engine.failed ≡ false
+  pub memory : let m = t.session.engine.memory in IsMemory (length m.cells) (length m.windows) m
   pub waited : t.waited ≡ []
   pub bases_is : bases ≡ []
   pub pending : t.lines.pending.items ≡ []
 
-module _ {D : Type 0} (disk : Ghosts D) where
-  -- It goes on or was ended. Each block of the setup that the memory had was made, or nothing was put. What the memory
-  -- had fits the script, or nothing was put or printed.
-  abbrev pub HaltsOnce : EngineState D → List Wanted → Course → List ℕ → EngineState D → List ℕ → List Waited → Type 0
-  HaltsOnce start script c had engine text waited = disk.honest engine.disk → disk.honest start.disk
-      × ((put : List Command) × ((names : List Waiter) × (AreWaited (Some c) waited names
-      × (HaltsWith disk.now disk.past disk.failures start engine put text names
-      × (IsOver start.memory (Some c) engine put waited × ((HasMade start.memory script ⊎ (put ≡ []))
-      × (FitsScript start.memory script ⊎ ((put ≡ []) × ((had ≡ []) × (waited ≡ []))))))))))
+-- Each block of the setup that a memory had was made, or no command was put. What it had fits the script, or nothing
+-- was put, printed or noted.
+pub record IsMadeOnce {D : Type 0} (m : Contents) (t : SessionState D) (script : List Wanted) (had : List ℕ)
+    (waited : List Waited) : Type 0 where
+  pub made : HasMade m script ⊎ (t.put ++ t.doubt ≡ [])
+  pub fit : FitsScript m script ⊎ ((t.put ++ t.doubt ≡ []) × ((had ≡ []) × (waited ≡ [])))
 
+module _ {D : Type 0} where
   -- the script was ended, and what was told of it was printed
-  abbrev pub EndedOnce : EngineState D → List Wanted → Option (List ℕ) → ScriptServer D → Type 0
-  EndedOnce start script was t = (c : Course) × ((had : List ℕ) × (IsCourse start.memory script c had × ((text : List ℕ)
-      × (HaltsOnce start script c had t.engine text t.waited × Prints was t.held t.lines (had ++ text)))))
+  pub record EndedOnce (start : SessionStart D) (script : List Wanted) (was : Option (List ℕ)) (t : ScriptServer D)
+      : Type 0 where
+    pub course : Course
+    pub had : List ℕ
+    pub course_is : IsCourse start.memory script course had
+    pub text : List ℕ
+    pub over : IsOver start t.session (Some course) text t.waited
+    pub once : IsMadeOnce start.memory t.session script had t.waited
+    pub printed : Prints was t.held t.lines (had ++ text)
 
   -- nothing is left of the script, and what was told of it was printed
-  abbrev pub DoneOnce : EngineState D → List Wanted → Option (List ℕ) → ScriptServer D → Type 0
-  DoneOnce start script was t = (HasMade start.memory script × FitsScript start.memory script) × ((bases : List ℕ)
-      × ((text : List ℕ)
-      × (GoesAt disk start (standing (Some (course_of start.memory script)) bases []) t.engine text
-      (notes t.waited t.marks)
-      × Prints was t.held t.lines (lines_had start.memory (numbers_had start.memory) script ++ text))))
+  pub record DoneOnce (start : SessionStart D) (script : List Wanted) (was : Option (List ℕ)) (t : ScriptServer D)
+      : Type 0 where
+    pub made : HasMade start.memory script
+    pub fit : FitsScript start.memory script
+    pub bases : List ℕ
+    pub text : List ℕ
+    pub serving : IsServing start t.session (standing (Some (course_of start.memory script)) bases []) text
+        (notes t.waited t.marks)
+    pub printed : Prints was t.held t.lines (lines_had start.memory (numbers_had start.memory) script ++ text)
 
   -- the script was served once, if the call succeeded
   abbrev pub HasServedOnce : {T E : Type 0} → List Wanted → List ℕ → Result T E → ScriptServer D → ScriptServer D
       → Type 0
-  HasServedOnce script bases result old new = HasServedNothing disk old bases
-      → EndedOnce old.engine script old.held new × OnOk result (DoneOnce old.engine script old.held new)
+  HasServedOnce script bases result old new = HasServedNothing old bases
+      → EndedOnce old.session.start script old.held new × OnOk result (DoneOnce old.session.start script old.held new)
 
 -- The commands that were put are, confirmations aside, the first of these, in their order, each with its element's next
 -- number. The names stand for the blocks that the memory has and for those that were made.
@@ -252,79 +255,54 @@ abbrev pub IsAskedOnce : Contents → List Wanted → List Command → ℕ → T
 IsAskedOnce m script put status = IsAsked m (bases_had (numbers_had m) 0 script) (new_of m script) put status
 
 -- What was printed at the end, a prefix of this text, and all of it if the status is 0: the lines of what the memory
--- had of the script, as far as they were made; those of the first commands that were put, each of which is in every
--- file that a crash leaves; those of requests that had to wait, with their last entries; and that of a refusal. If what
--- the memory had doesn't fit the script, nothing was put, and no line but that of the refusal is printed.
-pub record ToldOnce {D : Type 0} (now : D → Moment) (start : EngineState D) (script : List Wanted) (put : List Command)
-    (disk : D) (was is : Option (List ℕ)) (status : ℕ) : Type 0 where
+-- had of the script, as far as they were made; those of the first commands that were put; those of requests that had to
+-- wait, with their last entries; and that of a refusal. If what the memory had doesn't fit the script, no line but that
+-- of the refusal is printed.
+pub record ToldOnce (m : Contents) (script : List Wanted) (put : List Command) (was is : Option (List ℕ))
+    (status : ℕ) : Type 0 where
   pub had : List ℕ
-  pub had_is : IsPrefix had (lines_had start.memory (numbers_had start.memory) script)
+  pub had_is : IsPrefix had (lines_had m (numbers_had m) script)
   pub told : List Command
   pub others : List Command
   pub split : put ≡ told ++ others
-  pub kept : LeavesNow (now disk) (MeansAtLeast start put (length told))
   pub earlier : List Waiter
-  pub earlier_is : IsPrefix earlier (waits_had start.memory (numbers_had start.memory) script)
+  pub earlier_is : IsPrefix earlier (waits_had m (numbers_had m) script)
   pub waited : List Waited
-  pub waiting : (many : ℕ) × (map who_of waited ≡ earlier ++ take many (waits start.memory told))
-  pub done : List Command
-  pub doubt : List Command
-  pub apart : put ≡ done ++ doubt
-  pub few : length doubt ≤ 1
-  pub last_entries : AreLast start.memory done waited
-  pub fit : FitsScript start.memory script ⊎ ((put ≡ []) × ((had ≡ []) × (waited ≡ [])))
+  pub waiting : (many : ℕ) × (map who_of waited ≡ earlier ++ take many (waits m told))
+  pub last_entries : AreLast m put waited
+  pub fit : FitsScript m script ⊎ ((had ≡ []) × (waited ≡ []))
   pub many : ℕ
   pub last : List ℕ
   pub last_is : IsLast last
-  pub begins : Begins was is (had ++ replies start.memory told ++ nows waited many ++ last)
-  pub whole : status ≡ 0 → (doubt ≡ []) × (had ≡ lines_had start.memory (numbers_had start.memory) script)
-      × (map who_of waited ≡ waits_had start.memory (numbers_had start.memory) script ++ waits start.memory put)
-      × Appends was is (had ++ replies start.memory put ++ nows waited (length waited))
+  pub begins : Begins was is (had ++ replies m told ++ nows waited many ++ last)
+  pub whole : status ≡ 0 → (had ≡ lines_had m (numbers_had m) script)
+      × (map who_of waited ≡ waits_had m (numbers_had m) script ++ waits m put)
+      × Appends was is (had ++ replies m put ++ nows waited (length waited))
 
--- An engine was closed, and this status was given, after these commands of a script were put on its disk.
-pub record ClosedOnce {D : Type 0} (now : D → Moment) (past : D → List Moment) (failures : D → ℕ) (text : List ℕ)
-    (start : EngineState D) (disk : D) (was is : Option (List ℕ)) (status : ℕ) : Type 0 where
-  pub put : List Command
-  pub asked : IsAskedOnce start.memory (wanted_of text) put status
-  pub made : HasMade start.memory (wanted_of text) ⊎ ((put ≡ []) × (status ≡ 0 → ⊥))
-  pub accepted : accept_each start.memory put ≡ Some (after start.memory put)
-  pub leaves : Leaves (now start.disk) (now disk) (past start.disk) (past disk) (MeansBeginning start put)
-  pub doubt : LeavesNow (now disk) (MeansAllOrInDoubt (Rises (failures start.disk) (failures disk)) start put)
-  pub done : status ≡ 0 → LeavesNow (now disk) (MeansAfter start put (length put))
-  pub printed : ToldOnce now start (wanted_of text) put disk was is status
-
--- The same of a disk that is honest at the end.
-abbrev pub ClosesOnce : {D : Type 0} → Ghosts D → List ℕ → EngineState D → D → Option (List ℕ) → Option (List ℕ) → ℕ
-    → Type 0
-ClosesOnce disk text start new was is status = disk.honest new
-    → ClosedOnce disk.now disk.past disk.failures text start new was is status
-
--- The image was opened, with the meaning of a file that a crash could leave then, and these commands were put on it:
--- those requests of this script that its memory didn't have, in their order, and confirmations. With status 0 they are
--- all of those. Nothing was put if a block of the setup that the memory had wasn't made. If each file that was left
--- meant
--- what runs of the script come to, those runs and this one are one run from a new image on. From then on a crash
--- leaves the memory after a prefix of them. At the end it leaves the memory after
--- all of them, or after all but the last if a call of the disk failed. If the status is 0, it is after all of them.
-pub record ServedOnce {D : Type 0} (now : D → Moment) (past : D → List Moment) (failures : D → ℕ) (text : List ℕ)
-    (old new : D) (was is : Option (List ℕ)) (status : ℕ) : Type 0 where
-  pub start : EngineState D
-  pub put : List Command
-  pub asked : IsAskedOnce start.memory (wanted_of text) put status
-  pub made : HasMade start.memory (wanted_of text) ⊎ ((put ≡ []) × (status ≡ 0 → ⊥))
-  pub once : (limits : Limits) → LeavesNow (now old) (MeansBegun limits (wanted_of text))
-      → HasGoneOn limits (wanted_of text) start.memory put status
-  pub found : (file : List ℕ) × Left (now old) file × MeansState start file
-  pub accepted : accept_each start.memory put ≡ Some (after start.memory put)
-  pub leaves : Leaves (now old) (now new) (past old) (past new) (MeansBeginning start put)
-  pub doubt : LeavesNow (now new) (MeansAllOrInDoubt (Rises (failures old) (failures new)) start put)
-  pub done : status ≡ 0 → LeavesNow (now new) (MeansAfter start put (length put))
-  pub printed : ToldOnce now start (wanted_of text) put new was is status
+-- The image was opened, and a session with it put these commands: with those in doubt, at most one, they are those
+-- requests of this script that its memory didn't have, in their order, and confirmations; with status 0 all of those,
+-- and no call of the disk failed. Nothing was put if a block of the setup that the memory had wasn't made, or what it
+-- had doesn't fit the script. If each file that was left meant what runs of the script come to, those runs and this one
+-- are one run from a new image on.
+pub record ServedOnce {D : Type 0} (disk : Ghosts D) (text : List ℕ) (old new : D) (was is : Option (List ℕ))
+    (status : ℕ) : Type 0 where
+  pub session : SessionState D
+  pub opened : session.start.disk ≡ old
+  pub closed : new ≡ session.engine.disk
+  pub kept : SessionKept disk session
+  pub asked : IsAskedOnce session.start.memory (wanted_of text) (session.put ++ session.doubt) status
+  pub few : length session.doubt ≤ 1
+  pub works : status ≡ 0 → session.engine.failed ≡ false
+  pub made : HasMade session.start.memory (wanted_of text) ⊎ ((session.put ++ session.doubt ≡ []) × (status ≡ 0 → ⊥))
+  pub fit : FitsScript session.start.memory (wanted_of text) ⊎ (session.put ++ session.doubt ≡ [])
+  pub once : disk.honest new → (limits : Limits) → LeavesNow (disk.now old) (MeansBegun limits (wanted_of text))
+      → HasGoneOn limits (wanted_of text) session.start.memory (session.put ++ session.doubt) status
+  pub printed : ToldOnce session.start.memory (wanted_of text) session.put was is status
 
 -- The script was served once on the image of a disk, or the image was not opened.
 abbrev pub SerialOnceOn : {D : Type 0} → Ghosts D → List ℕ → D → D → Option (List ℕ) → Option (List ℕ) → ℕ → Type 0
 SerialOnceOn disk text old new was is status = NotOpened disk.now disk.past old new was is status
-    ⊎ ServedOnce disk.now disk.past disk.failures text old new was is status
+    ⊎ ServedOnce disk text old new was is status
 
 -- The same of a disk that is honest at the end.
 abbrev pub ServesOnceOn : {D : Type 0} → Ghosts D → List ℕ → D → D → Option (List ℕ) → Option (List ℕ) → ℕ → Type 0

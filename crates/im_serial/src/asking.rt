@@ -1,11 +1,11 @@
 //! A server's requests, one after another: room is made for each, it is asked, and its line is printed.
-ghost use Rattle.std.specs.Prelude.{◌≡◌, ◌++◌, ◌∷◌, [], ℕ, false, Ok, OnOk};
+ghost use Rattle.std.specs.Prelude.{◌≡◌, ◌++◌, ◌∷◌, [], ℕ, Ok, OnOk};
 ghost use Rattle.im_types.specs.Window.{bounds};
 ghost use Rattle.im_serial.specs.Asked.{wanted_by, wanted_of};
-ghost use Rattle.im_serial.specs.Serving.{HasAsked, Prepares, ServedBy, seen_by};
+ghost use Rattle.im_serial.specs.Serving.{HasAsked, MakesPlace, ServedBy, seen_by};
 
 use crate::hearing::hear;
-use crate::room::{confirm, first_waiting, make_room, next_number, reason_of};
+use crate::room::{confirm, first_waiting, next_number, reason_of};
 use crate::server::Server;
 use crate::waits::learn;
 use im_disk::Disk;
@@ -22,50 +22,51 @@ impl<D: Disk> Server<D> {
         element: u16,
         observer: &mut N,
     ) -> Result<(), Refusal>
-        ensures goes { Prepares D.Disk result self.old.engine self.old.waited.items self.old.places.marks.items
-            self.new.engine self.new.waited.items self.new.places.marks.items }
+        ensures goes { MakesPlace result self.old.session self.old.waited.items self.old.places.marks.items
+            self.new.session self.new.waited.items self.new.places.marks.items }
         ensures lines { self.new.lines ≡ self.old.lines }
         ensures bases { self.new.bases.items ≡ self.old.bases.items }
     {
-        let (base, next) = match self.engine.window(element) {
+        let engine = self.session.engine();
+        let (base, next) = match engine.window(element) {
             Ok(bounds) => bounds,
             Err(refusal) => return Err(refusal),
         };
         if next.saturating_sub(base) < WINDOW {
             return Ok(());
         }
-        let upto = first_waiting(&self.engine, element, base, next);
+        let upto = first_waiting(engine, element, base, next);
         learn(
             self.waited.as_mut_slice(),
             &mut self.places,
-            self.engine.memory(),
+            self.session.memory(),
             (element, base, upto),
             observer,
         );
-        confirm(&mut self.engine, &mut self.progress, element, upto)
+        confirm(&mut self.session, &mut self.progress, element, upto)
     }
 
     // Makes a place in an element's window, and room in the journal, for its next request.
     fn prepare<N: Observer<News>>(&mut self, element: u16, observer: &mut N) -> Result<(), Refusal>
-        ensures goes { Prepares D.Disk result self.old.engine self.old.waited.items self.old.places.marks.items
-            self.new.engine self.new.waited.items self.new.places.marks.items }
+        ensures goes { MakesPlace result self.old.session self.old.waited.items self.old.places.marks.items
+            self.new.session self.new.waited.items self.new.places.marks.items }
         ensures lines { self.new.lines ≡ self.old.lines }
         ensures bases { self.new.bases.items ≡ self.old.bases.items }
     {
         self.make_place(element, observer)?;
-        make_room(&mut self.engine, &mut self.progress)
+        self.session.make_room(1, &mut self.progress)
     }
 
     // Serves an element's request, which has its next number, and prints what is kept for it.
     fn ask<W: Write>(&mut self, request: Request, out: &mut W) -> Result<Entry, Reason>
-        requires next { self.old.engine.failed ≡ false → (base : ℕ)
-            × (bounds self.old.engine.memory.windows request.element ≡ Ok (base, request.number)) }
-        ensures serves { HasAsked D.Disk request.element request.op result
+        requires next { (base : ℕ)
+            × (bounds self.old.session.engine.memory.windows request.element ≡ Ok (base, request.number)) }
+        ensures serves { HasAsked request.element request.op result
             (seen_by self.old (W.contents out.old)) (seen_by self.new (W.contents out.new)) }
         ensures bases { self.new.bases.items ≡ self.old.bases.items }
     {
         let who = (request.element, request.number);
-        match self.engine.serve(&Command::Request(request)) {
+        match self.session.serve(&Command::Request(request)) {
             Ok(Outcome::Entry(entry)) => match self.print(who, entry, out) {
                 Ok(()) => match self.note(who, entry) {
                     Ok(()) => Ok(entry),
@@ -74,17 +75,17 @@ impl<D: Disk> Server<D> {
                 Err(reason) => Err(reason),
             },
             Ok(Outcome::Confirmed) => Err(Reason::Request(who.0, Refusal::Failed)), // No request is answered so.
-            Err(refusal) => Err(reason_of(&self.engine, who.0, refusal)),
+            Err(refusal) => Err(reason_of(self.session.engine(), who.0, refusal)),
         }
     }
 
     // Serves an element's next request, for which there is room, and prints what is kept for it.
     fn ask_next<W: Write>(&mut self, element: u16, op: Op, out: &mut W) -> Result<Entry, Reason>
-        ensures serves { HasAsked D.Disk element op result
+        ensures serves { HasAsked element op result
             (seen_by self.old (W.contents out.old)) (seen_by self.new (W.contents out.new)) }
         ensures bases { self.new.bases.items ≡ self.old.bases.items }
     {
-        match next_number(&self.engine, element) {
+        match next_number(self.session.engine(), element) {
             Ok(number) => self.ask(
                 Request {
                     element,
@@ -105,13 +106,17 @@ impl<D: Disk> Server<D> {
         out: &mut W,
         observer: &mut N,
     ) -> Result<Entry, Reason>
-        ensures serves { HasAsked D.Disk element op result
+        ensures serves { HasAsked element op result
             (seen_by self.old (W.contents out.old)) (seen_by self.new (W.contents out.new)) }
         ensures bases { self.new.bases.items ≡ self.old.bases.items }
     {
         match self.prepare(element, observer) {
             Ok(()) => {
-                follow(&mut self.progress, self.engine.room(), observer);
+                follow(
+                    &mut self.progress.told,
+                    self.session.engine().room(),
+                    observer,
+                );
                 self.ask_next(element, op, out)
             }
             Err(refusal) => Err(Reason::Request(element, refusal)),
@@ -132,7 +137,7 @@ impl<D: Disk> Server<D> {
         out: &mut W,
         observer: &mut N,
     ) -> Result<(), Reason>
-        ensures served { ServedBy D.Disk (wanted_by (Said.Block block)) result self.old (W.contents out.old) self.new
+        ensures served { ServedBy (wanted_by (Said.Block block)) result self.old (W.contents out.old) self.new
             (W.contents out.new) }
         ensures named { OnOk result ((base : ℕ) × (self.new.bases.items ≡ self.old.bases.items ++ base ∷ [])) }
     {
@@ -156,7 +161,7 @@ impl<D: Disk> Server<D> {
         out: &mut W,
         observer: &mut N,
     ) -> Result<(), Reason>
-        ensures served { ServedBy D.Disk (wanted_by (Said.Asks line)) result self.old (W.contents out.old) self.new
+        ensures served { ServedBy (wanted_by (Said.Asks line)) result self.old (W.contents out.old) self.new
             (W.contents out.new) }
     {
         let Some(op) = line.action.op(self.bases.as_slice()) else {
@@ -175,7 +180,7 @@ impl<D: Disk> Server<D> {
         out: &mut W,
         observer: &mut N,
     ) -> Result<(), Reason>
-        ensures served { ServedBy D.Disk (wanted_by said) result self.old (W.contents out.old) self.new
+        ensures served { ServedBy (wanted_by said) result self.old (W.contents out.old) self.new
             (W.contents out.new) }
     {
         match said {
@@ -193,7 +198,7 @@ impl<D: Disk> Server<D> {
         out: &mut W,
         observer: &mut N,
     ) -> Result<(), Reason>
-        ensures served { ServedBy D.Disk (wanted_by said) result self.old (W.contents out.old) self.new
+        ensures served { ServedBy (wanted_by said) result self.old (W.contents out.old) self.new
             (W.contents out.new) }
     {
         match self.serve_said(said, out, observer) {
@@ -210,7 +215,7 @@ impl<D: Disk> Server<D> {
         out: &mut W,
         observer: &mut N,
     ) -> Result<(), Reason>
-        ensures served { ServedBy D.Disk (wanted_of script.now) result self.old (W.contents out.old) self.new
+        ensures served { ServedBy (wanted_of script.now) result self.old (W.contents out.old) self.new
             (W.contents out.new) }
     {
         let mut reader = Reader::new(alloc);

@@ -26,7 +26,7 @@ impl<D: Disk> Server<D> {
         observer: &mut N,
     ) -> Result<(), Reason>
         ensures many { past.new.many.items ≡ met_all past.old.many.items (wanted_by said) }
-        ensures served { ServedBy D.Disk (news past.old.many.items (wanted_by said)) result self.old
+        ensures served { ServedBy (news past.old.many.items (wanted_by said)) result self.old
             (W.contents out.old) self.new (W.contents out.new) }
     {
         if past.has(said) {
@@ -45,7 +45,7 @@ impl<D: Disk> Server<D> {
         out: &mut W,
         observer: &mut N,
     ) -> Result<(), Reason>
-        ensures served { ServedBy D.Disk (news past.old.many.items (wanted_of script.now)) result self.old
+        ensures served { ServedBy (news past.old.many.items (wanted_of script.now)) result self.old
             (W.contents out.old) self.new (W.contents out.new) }
     {
         let mut reader = Reader::new(alloc);
@@ -82,15 +82,15 @@ impl<D: Disk> Server<D> {
     ) -> Result<(), Reason>
         ensures shown { ShowsOrBreaks result (wanted_of script.now) self.old.bases.items self.new.bases.items
             (seen_by self.old (W.contents out.old)) (seen_by self.new (W.contents out.new)) }
-        ensures engine { self.new.engine ≡ self.old.engine }
+        ensures session { self.new.session ≡ self.old.session }
         ensures fit { FitsOrStays result (wanted_of script.now)
             (seen_by self.old (W.contents out.old)) (seen_by self.new (W.contents out.new)) }
     {
-        match compare_script(alloc, self.engine.memory(), script) {
+        match compare_script(alloc, self.session.memory(), script) {
             Ok(()) => {}
             Err(reason) => return Err(reason),
         }
-        let mut past = match Past::new(alloc, self.engine.memory()) {
+        let mut past = match Past::new(alloc, self.session.memory()) {
             Ok(past) => past,
             Err(_) => return Err(Reason::Memory),
         };
@@ -108,14 +108,14 @@ impl<D: Disk> Server<D> {
         out: &mut W,
         observer: &mut N,
     ) -> Result<(), Reason>
-        ensures served { HasServedOnce D.Disk (wanted_of script.now) self.old.bases.items result
+        ensures served { HasServedOnce (wanted_of script.now) self.old.bases.items result
             (seen_by self.old (W.contents out.old)) (seen_by self.new (W.contents out.new)) }
     {
         match self.show_past(alloc, script, out) {
             Ok(()) => {}
             Err(reason) => return Err(reason),
         }
-        let mut past = match Past::new(alloc, self.engine.memory()) {
+        let mut past = match Past::new(alloc, self.session.memory()) {
             Ok(past) => past,
             Err(_) => return Err(Reason::Memory),
         };

@@ -1,80 +1,50 @@
 //! Makes room for the next request: in the journal, and in its element's window. A server does so before each request.
-ghost use Rattle.std.specs.Prelude.{◌≡◌, ◌≤◌, ℕ, false, Ok, IfOk, OnOk};
+ghost use Rattle.std.specs.Prelude.{◌≡◌, ◌≤◌, ℕ, Ok, IfOk, OnErr, OnOk};
+ghost use Rattle.im_types.specs.declared.commands.Command.TheVariants.{Confirm};
+ghost use Rattle.im_types.specs.declared.commands.Outcome.{Outcome};
 ghost use Rattle.im_types.specs.Window.{bounds};
-ghost use Rattle.im_turning.specs.Turning.{HasMadeRoom, TurnsInto, point_of};
-ghost use Rattle.im_serial.specs.Serving.{Drops, Keeps};
+ghost use Rattle.im_session.specs.Serving.{CommandRefused, CommandServed};
 
 use im_checkpoint::TurnDone;
 use im_disk::Disk;
 use im_engine::Engine;
+use im_session::Session;
 use im_text::{Progress, Reason};
-use im_turning::MOST_TURNS;
-use im_types::{Command, Entry, Refusal};
+use im_types::{Command, Entry, Observer, Refusal};
 
-// Counts a checkpoint that came into force.
-fn count(progress: &mut Progress, done: TurnDone) {
-    if let TurnDone::InForce = done {
-        progress.checkpoints = progress.checkpoints.saturating_add(1);
-    }
+/// How far a server has come. It counts the checkpoints that come into force.
+#[derive(Drop)]
+pub(crate) struct ServerProgress {
+    pub(crate) told: Progress,
 }
 
-// Takes one turn of a checkpoint.
-fn take_turn<D: Disk>(engine: &mut Engine<D>, progress: &mut Progress) -> Result<TurnDone, Refusal>
-    ensures goes { Keeps D.Disk result engine.old engine.new }
-    ensures leads { IfOk result (λ done. TurnsInto (point_of engine.old) done (point_of engine.new)) }
-{
-    match engine.turn() {
-        Ok(done) => {
-            count(progress, done);
-            Ok(done)
+impl Observer<TurnDone> for ServerProgress {
+    fn tell(&mut self, done: TurnDone) {
+        if let TurnDone::InForce = done {
+            self.told.checkpoints = self.told.checkpoints.saturating_add(1);
         }
-        Err(refusal) => Err(refusal),
-    }
-}
-
-/// Takes turns of a checkpoint while there is no room for a command and something is left to do. At the end there is
-/// room for one, or the last turn had nothing to do, or [`MOST_TURNS`] turns were taken; a law of `im_turning` says how
-/// many are enough.
-pub fn make_room<D: Disk>(engine: &mut Engine<D>, progress: &mut Progress) -> Result<(), Refusal>
-    ensures goes { Keeps D.Disk result engine.old engine.new }
-    ensures room { OnOk result (HasMadeRoom 1 (point_of engine.old) (point_of engine.new)) }
-{
-    for _turn in 0..MOST_TURNS {
-        if engine.room() > 0 {
-            return Ok(());
-        }
-        let done = match take_turn(engine, progress) {
-            Ok(done) => done,
-            Err(refusal) => return Err(refusal),
-        };
-        if let TurnDone::Idle = done {
-            return Ok(());
-        }
-    }
-    Ok(())
-}
-
-// Confirms an element's entries below a number.
-fn serve_confirm<D: Disk>(engine: &mut Engine<D>, element: u16, upto: u64) -> Result<(), Refusal>
-    ensures goes { Drops D.Disk element upto result engine.old engine.new }
-{
-    match engine.serve(&Command::Confirm { element, upto }) {
-        Ok(_) => Ok(()),
-        Err(refusal) => Err(refusal),
     }
 }
 
 /// Makes room, and then confirms an element's entries below a number.
 pub fn confirm<D: Disk>(
-    engine: &mut Engine<D>,
-    progress: &mut Progress,
+    session: &mut Session<D>,
+    progress: &mut ServerProgress,
     element: u16,
     upto: u64,
 ) -> Result<(), Refusal>
-    ensures goes { Drops D.Disk element upto result engine.old engine.new }
+    ensures served { OnOk result ((outcome : Outcome)
+        × CommandServed session.old (Confirm element upto) outcome session.new) }
+    ensures refused { OnErr result (CommandRefused session.old (Confirm element upto) session.new) }
 {
-    make_room(engine, progress)?;
-    serve_confirm(engine, element, upto)
+    match session.make_room(1, progress) {
+        Ok(()) => {}
+        Err(refusal) => return Err(refusal),
+    }
+    match session.serve(&Command::Confirm { element, upto }) {
+        Ok(_) => Ok(()),
+        Err(refusal) => Err(refusal),
+    }
 }
 
 /// Returns the first number, from `base` on and before `next`, whose entry still waits. Returns `next` if none does.
@@ -117,8 +87,7 @@ pub fn reason_of<D: Disk>(engine: &Engine<D>, element: u16, refusal: Refusal) ->
 
 /// Returns the number of an element's next request.
 pub fn next_number<D: Disk>(engine: &Engine<D>, element: u16) -> Result<u64, Refusal>
-    ensures { IfOk result (λ next. engine.now.failed ≡ false
-        → (base : ℕ) × (bounds engine.now.memory.windows element ≡ Ok (base, next))) }
+    ensures { IfOk result (λ next. (base : ℕ) × (bounds engine.now.memory.windows element ≡ Ok (base, next))) }
 {
     match engine.window(element) {
         Ok((_, next)) => Ok(next),

@@ -1,15 +1,14 @@
 //! A script's requests, served one after another.
 ghost use Rattle.std.specs.Prelude.{◌≡◌, ◌≤◌, [], false, IsOk};
-ghost use Rattle.im_disk.specs.Since.{LeavesNow};
-ghost use Rattle.im_engine.specs.State.{MeansState};
+ghost use Rattle.im_session.specs.Kept.{IsFresh};
 ghost use Rattle.im_serial.specs.Begun.{KeepsOnce};
-ghost use Rattle.im_serial.specs.Once.{ClosesOnce, HasServedNothing, ServesOnceOn};
-ghost use Rattle.im_serial.specs.Serving.{ClosesScript, ServesScript, seen_by};
+ghost use Rattle.im_serial.specs.Once.{HasServedNothing, ServedOnce, ServesOnceOn};
+ghost use Rattle.im_serial.specs.Serving.{ServedScript, ServesScript, seen_by};
 
 use crate::server::{Desk, Server};
 use im_disk::Disk;
-use im_engine::Engine;
 use im_script::Script;
+use im_session::Session;
 use im_text::{News, Reason, diagnose, end, finish};
 use im_types::Observer;
 use std::alloc::Global;
@@ -40,15 +39,15 @@ use std::io::Write;
 /// - `status`: it is 0 or 1.
 /// - `served`, an image that isn't opened: a crash leaves nothing that it couldn't leave before. The status is 1, and
 ///   at most a refusal is printed.
-/// - `served`, what was put: the script's first requests, in their order, each with its element's next number, and
-///   confirmations. Element 0 asks for the blocks of the setup, and a name stands for the base in its block's answer.
-///   With status 0 they are all the script's requests.
-/// - `served`, a crash: from the opening on it leaves the memory after a prefix of the commands that were put. At the
-///   end it leaves the memory after all of them, or after all but the last if a call of the disk failed. With status 0
-///   it is after all of them.
-/// - `served`, what was written: a prefix of the lines. First come answers of commands that are in every file that a
-///   crash leaves, then `now` lines, then a refusal. A `now` line tells the entry that is kept at the end, or that was
-///   kept when it was confirmed. With status 0 all lines are written.
+/// - `served`, what was put, with the one command that may be in doubt: the script's first requests, in their order,
+///   each with its element's next number, and confirmations. Element 0 asks for the blocks of the setup, and a name
+///   stands for the base in its block's answer. With status 0 they are all the script's requests, and none is in doubt.
+/// - `served`, a crash: a session's record says it of the commands that were put, and of the one in doubt. From the
+///   opening on it leaves the memory after a prefix of them. At the end it leaves the memory after all that were put,
+///   with or without the one in doubt.
+/// - `served`, what was written: a prefix of the lines. First come answers of commands that were put, then `now` lines,
+///   then a refusal. A `now` line tells the entry that is kept at the end, or that was kept when it was confirmed. With
+///   status 0 all lines are written.
 /// - `honest`: the disk was honest at the start, if it is at the end. What `served` says holds of such a disk.
 pub fn serial_on<D: Disk, W: Write, N: Observer<News>>(
     alloc: Global,
@@ -65,8 +64,8 @@ pub fn serial_on<D: Disk, W: Write, N: Observer<News>>(
         Ok(desk) => desk,
         Err(_) => return (end(alloc, Err(Reason::Memory), out, observer), disk),
     };
-    match Engine::open(alloc, disk) {
-        Ok(engine) => serve_on(alloc, engine, desk, script, out, observer),
+    match Session::open(alloc, disk) {
+        Ok(session) => serve_on(alloc, session, desk, script, out, observer),
         Err((refusal, mut disk)) => {
             let reason = diagnose(alloc, &mut disk, refusal);
             (end(alloc, Err(reason), out, observer), disk)
@@ -74,27 +73,27 @@ pub fn serial_on<D: Disk, W: Write, N: Observer<News>>(
     }
 }
 
-// Serves a script on an engine. Returns the status and the engine's disk.
+// Serves a script with a session that has put nothing. Returns the status and the session's disk.
 fn serve_on<D: Disk, W: Write, N: Observer<News>>(
     alloc: Global,
-    engine: Engine<D>,
+    session: Session<D>,
     desk: Desk,
     script: &Script<'_>,
     out: &mut W,
     observer: &mut N,
 ) -> (u8, D)
-    requires works { engine.failed ≡ false }
-    requires means { D.honest engine.disk → LeavesNow (D.now engine.disk) (MeansState engine) }
+    requires fresh { IsFresh session }
+    requires works { session.engine.failed ≡ false }
     requires pending { desk.lines.pending.items ≡ [] }
     ensures status { result.0 ≤ 1 }
-    ensures closed { ClosesScript D.Disk script.now engine result.1 (W.contents out.old) (W.contents out.new) result.0 }
-    ensures honest { D.honest result.1 → D.honest engine.disk }
+    ensures served { ServedScript D.Disk script.now session.start.disk result.1 (W.contents out.old)
+        (W.contents out.new) result.0 }
 {
-    let mut server = Server::new(alloc, engine, desk);
+    let mut server = Server::new(alloc, session, desk);
     let served = server.serve(alloc, script, out, observer);
     server.learn_all(observer);
     let told = server.tell(out);
-    let (engine, mut paper) = server.leave();
+    let (session, mut paper) = server.leave();
     let status = finish(
         alloc,
         both(served, told),
@@ -104,8 +103,8 @@ fn serve_on<D: Disk, W: Write, N: Observer<News>>(
         observer,
     );
     // If the disk failed, a refusal was printed: the status is 1 already.
-    let failed = engine.failed();
-    (status_at(failed, status), engine.close())
+    let failed = session.engine().failed();
+    (status_at(failed, status), session.close())
 }
 
 /// Serves what the image of a disk doesn't have of a script, and gives the disk back: the n-th request of an element in
@@ -164,9 +163,9 @@ fn open_and_serve_once<D: Disk, W: Write, N: Observer<News>>(
         Ok(desk) => desk,
         Err(_) => return (end(alloc, Err(Reason::Memory), out, observer), disk),
     };
-    match Engine::open(alloc, disk) {
-        Ok(engine) => {
-            let server = Server::new(alloc, engine, desk);
+    match Session::open(alloc, disk) {
+        Ok(session) => {
+            let server = Server::new(alloc, session, desk);
             serve_once_on(alloc, server, script, out, observer)
         }
         Err((refusal, mut disk)) => {
@@ -176,7 +175,7 @@ fn open_and_serve_once<D: Disk, W: Write, N: Observer<News>>(
     }
 }
 
-// Serves what the engine of a server doesn't have of a script. Returns the status and the engine's disk.
+// Serves what the session of a server doesn't have of a script. Returns the status and the session's disk.
 fn serve_once_on<D: Disk, W: Write, N: Observer<News>>(
     alloc: Global,
     mut server: Server<D>,
@@ -184,16 +183,15 @@ fn serve_once_on<D: Disk, W: Write, N: Observer<News>>(
     out: &mut W,
     observer: &mut N,
 ) -> (u8, D)
-    requires works { HasServedNothing D.Disk (seen_by server (W.contents out.old)) server.bases.items }
+    requires nothing { HasServedNothing (seen_by server (W.contents out.old)) server.bases.items }
     ensures status { result.0 ≤ 1 }
-    ensures closed { ClosesOnce D.Disk script.now server.engine result.1 (W.contents out.old) (W.contents out.new)
-        result.0 }
-    ensures honest { D.honest result.1 → D.honest server.engine.disk }
+    ensures served { ServedOnce D.Disk script.now server.session.start.disk result.1 (W.contents out.old)
+        (W.contents out.new) result.0 }
 {
     let served = server.serve_once(alloc, script, out, observer);
     server.learn_all(observer);
     let told = server.tell(out);
-    let (engine, mut paper) = server.leave();
+    let (session, mut paper) = server.leave();
     let status = finish(
         alloc,
         both(served, told),
@@ -203,8 +201,8 @@ fn serve_once_on<D: Disk, W: Write, N: Observer<News>>(
         observer,
     );
     // If the disk failed, a refusal was printed: the status is 1 already.
-    let failed = engine.failed();
-    (status_at(failed, status), engine.close())
+    let failed = session.engine().failed();
+    (status_at(failed, status), session.close())
 }
 
 /// Returns the first refusal, if there is one: that of what was served, or that of telling it.

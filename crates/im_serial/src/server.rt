@@ -1,4 +1,4 @@
-//! An engine that serves requests one after another, and prints their lines.
+//! A session that serves requests one after another, and prints their lines.
 ghost use Rattle.std.specs.Prelude.{◌≡◌, ℕ, [], List, Some, OnOk, IfOk, length, map, slice_get};
 ghost use Rattle.im_types.specs.declared.commands.Command.{Command};
 ghost use Rattle.im_types.specs.declared.operations.Entry.TheVariants.{Waiting};
@@ -14,9 +14,10 @@ ghost use Rattle.im_serial.specs.Once.{done_line};
 ghost use Rattle.im_serial.specs.Serving.{ServedBy};
 
 use crate::past::make_done;
+use crate::room::ServerProgress;
 use crate::waits::{Places, learn_all, note, tell_earlier, waited_at};
 use im_disk::Disk;
-use im_engine::Engine;
+use im_session::Session;
 use im_text::{Lines, News, Progress, Reason, Waited, make_line, make_now};
 use im_types::{Entry, Observer};
 use std::alloc::{AllocError, Global};
@@ -56,11 +57,11 @@ pub struct Paper {
     pub line: String,
 }
 
-/// An engine that serves requests, and what is printed and noted of them.
+/// A session that serves requests, and what is printed and noted of them.
 #[derive(Drop)]
 pub struct Server<D: Disk> {
-    /// The engine.
-    pub engine: Engine<D>,
+    /// The session.
+    pub session: Session<D>,
     /// The base of each block of the setup.
     pub bases: Vec<u32>,
     /// The requests that had to wait, in order.
@@ -71,46 +72,48 @@ pub struct Server<D: Disk> {
     pub(crate) places: Places,
     // The room in which a line is made.
     pub(crate) line: String,
-    pub(crate) progress: Progress,
+    pub(crate) progress: ServerProgress,
 }
 
 impl<D: Disk> Server<D> {
-    /// Makes a server over an engine. It has served nothing yet, and marks the requests that already wait.
-    pub fn new(alloc: Global, engine: Engine<D>, desk: Desk) -> Server<D>
-        ensures engine { result.engine ≡ engine }
+    /// Makes a server over a session. It has served nothing yet, and marks the requests that already wait.
+    pub fn new(alloc: Global, session: Session<D>, desk: Desk) -> Server<D>
+        ensures session { result.session ≡ session }
         ensures lines { result.lines ≡ desk.lines }
         ensures waited { result.waited.items ≡ [] }
         ensures bases { result.bases.items ≡ [] }
-        ensures memory { let m = engine.memory in IsMemory (length m.cells) (length m.windows) m }
+        ensures memory { let m = session.engine.memory in IsMemory (length m.cells) (length m.windows) m }
     {
         let Desk {
             mut places,
             lines,
             line,
         } = desk;
-        places.mark_earlier(engine.memory());
+        places.mark_earlier(session.memory());
         Server {
-            engine,
+            session,
             bases: Vec::new(alloc),
             waited: Vec::new(alloc),
             lines,
             places,
             line,
-            progress: Progress {
-                served: 0,
-                room: 0,
-                checkpoints: 0,
+            progress: ServerProgress {
+                told: Progress {
+                    served: 0,
+                    room: 0,
+                    checkpoints: 0,
+                },
             },
         }
     }
 
-    /// Returns the engine, and where lines are printed.
-    pub fn leave(self) -> (Engine<D>, Paper)
-        ensures engine { result.0 ≡ self.engine }
+    /// Returns the session, and where lines are printed.
+    pub fn leave(self) -> (Session<D>, Paper)
+        ensures session { result.0 ≡ self.session }
         ensures lines { result.1.lines ≡ self.lines }
     {
         let Server {
-            engine,
+            session,
             bases: _,
             waited: _,
             lines,
@@ -118,7 +121,7 @@ impl<D: Disk> Server<D> {
             line,
             progress: _,
         } = self;
-        (engine, Paper { lines, line })
+        (session, Paper { lines, line })
     }
 
     // Prints a request's entry.
@@ -128,7 +131,7 @@ impl<D: Disk> Server<D> {
         entry: Entry,
         out: &mut W,
     ) -> Result<(), Reason>
-        ensures engine { self.new.engine ≡ self.old.engine }
+        ensures session { self.new.session ≡ self.old.session }
         ensures names { self.new.waited.items ≡ self.old.waited.items }
         ensures marks { self.new.places.marks.items ≡ self.old.places.marks.items }
         ensures bases { self.new.bases.items ≡ self.old.bases.items }
@@ -144,7 +147,7 @@ impl<D: Disk> Server<D> {
 
     // Notes a request that has to wait.
     pub(crate) fn note(&mut self, who: (u16, u64), entry: Entry) -> Result<(), Reason>
-        ensures engine { self.new.engine ≡ self.old.engine }
+        ensures session { self.new.session ≡ self.old.session }
         ensures lines { self.new.lines ≡ self.old.lines }
         ensures bases { self.new.bases.items ≡ self.old.bases.items }
         ensures pushed { let who : Waiter = record { element = who.0; number = who.1 } in
@@ -166,7 +169,7 @@ impl<D: Disk> Server<D> {
         who: (u16, u64),
         out: &mut W,
     ) -> Result<(), Reason>
-        ensures engine { self.new.engine ≡ self.old.engine }
+        ensures session { self.new.session ≡ self.old.session }
         ensures names { self.new.waited.items ≡ self.old.waited.items }
         ensures marks { self.new.places.marks.items ≡ self.old.places.marks.items }
         ensures bases { self.new.bases.items ≡ self.old.bases.items }
@@ -185,7 +188,7 @@ impl<D: Disk> Server<D> {
         out: &mut W,
         observer: &mut N,
     ) -> Result<(), Reason>
-        ensures served { ServedBy D.Disk [] result self.old (W.contents out.old) self.new (W.contents out.new) }
+        ensures served { ServedBy [] result self.old (W.contents out.old) self.new (W.contents out.new) }
     {
         if observer.listens() {
             self.lines.flush(out)
@@ -197,19 +200,19 @@ impl<D: Disk> Server<D> {
     // Learns what is kept at the end for the requests that had to wait, and tells the observer about those that waited
     // before.
     pub(crate) fn learn_all<N: Observer<News>>(&mut self, observer: &mut N)
-        ensures engine { self.new.engine ≡ self.old.engine }
+        ensures session { self.new.session ≡ self.old.session }
         ensures lines { self.new.lines ≡ self.old.lines }
         ensures names { map who_of self.new.waited.items ≡ map who_of self.old.waited.items }
-        ensures last { (m : Contents) (put : List Command) → self.old.engine.memory ≡ after m put
+        ensures last { (m : Contents) (put : List Command) → self.old.session.engine.memory ≡ after m put
             → AreKnown m put self.old.waited.items → AreLast m put self.new.waited.items }
     {
-        learn_all(self.waited.as_mut_slice(), self.engine.memory());
-        tell_earlier(&mut self.places, self.engine.memory(), observer);
+        learn_all(self.waited.as_mut_slice(), self.session.memory());
+        tell_earlier(&mut self.places, self.session.memory(), observer);
     }
 
     // Prints what became of the requests that had to wait.
     pub(crate) fn tell<W: Write>(&mut self, out: &mut W) -> Result<(), Reason>
-        ensures engine { self.new.engine ≡ self.old.engine }
+        ensures session { self.new.session ≡ self.old.session }
         ensures waited { self.new.waited ≡ self.old.waited }
         ensures all { OnOk result (PrintsMore (W.contents out.old) self.old.lines (W.contents out.new) self.new.lines
             (nows self.old.waited.items (length self.old.waited.items))) }

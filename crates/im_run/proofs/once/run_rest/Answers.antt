@@ -1,39 +1,39 @@
 use Rattle.std.proofs.Common.{◌∙◌, inl, inr, ap, refl, subst}
-use Rattle.im_engine.specs.State.{EngineState}
+use Rattle.im_session.specs.Kept.{SessionState}
 use Rattle.im_serial.specs.Asked.{wanted_of}
-use Rattle.im_serial.specs.Serving.{server_of}
+use Rattle.im_serial.specs.Serving.{seen_by}
 use Rattle.im_run.proofs.RestLemmas.{bases_rest, ready_rest, rest_by, unrun_by}
 use Rattle.im_run.proofs.once.run_rest.Goals as goal
 
 pub run_server-requires-clause-ready : goal.run_server-requires-clause-ready
 run_server-requires-clause-ready g c κs within =
     let was = c.args.server in
-    let old = server_of was.engine (g.W.Write.contents c.args.out.now) was.lines was.waited.items was.places.marks.items
+    let old = seen_by was (g.W.Write.contents c.args.out.now)
     in
     let s = c.show_past.new.self in
-    let mid = server_of s.engine (g.W.Write.contents c.show_past.new.out) s.lines s.waited.items s.places.marks.items in
+    let mid = seen_by s (g.W.Write.contents c.show_past.new.out) in
     ready_rest g.D.Disk (wanted_of c.args.asked.script.now) old mid was.bases.items c.requires.ready s.bases.items
-    c.in-Ok.ensures.shown c.new-none.result.items c.new-none.ensures.items
+    c.in-Ok.ensures.shown c.requires.fresh c.new-none.result.items c.new-none.ensures.items
 
 pub run_server-requires-clause-bases : goal.run_server-requires-clause-bases
 run_server-requires-clause-bases g c κs within =
     let was = c.args.server in
-    let old = server_of was.engine (g.W.Write.contents c.args.out.now) was.lines was.waited.items was.places.marks.items
+    let old = seen_by was (g.W.Write.contents c.args.out.now)
     in
     let s = c.show_past.new.self in
-    let mid = server_of s.engine (g.W.Write.contents c.show_past.new.out) s.lines s.waited.items s.places.marks.items in
+    let mid = seen_by s (g.W.Write.contents c.show_past.new.out) in
     bases_rest g.D.Disk (wanted_of c.args.asked.script.now) old mid was.bases.items c.requires.ready s.bases.items
     c.in-Ok.ensures.shown c.args.asked.script.now refl
 
 pub returns-in-Ok-clause-ends : goal.returns-in-Ok-clause-ends
 returns-in-Ok-clause-ends g c = λ honest.
     let was = c.args.server in
-    let old = server_of was.engine (g.W.Write.contents c.args.out.now) was.lines was.waited.items was.places.marks.items
+    let old = seen_by was (g.W.Write.contents c.args.out.now)
     in
     let s = c.show_past.new.self in
-    let mid = server_of s.engine (g.W.Write.contents c.show_past.new.out) s.lines s.waited.items s.places.marks.items in
+    let mid = seen_by s (g.W.Write.contents c.show_past.new.out) in
     let r = c.run_server in (
-      subst (λ (e : EngineState g.row.D.Denot). g.D.Disk.honest e.disk) c.show_past.ensures.engine
+      subst (λ (x : SessionState g.row.D.Denot). g.D.Disk.honest x.engine.disk) c.show_past.ensures.session
           (r.ensures.honest honest),
       inr (rest_by g.D.Disk (wanted_of c.args.asked.script.now) old mid was.bases.items c.requires.ready s.bases.items
           c.in-Ok.ensures.shown c.args.asked.mode.planned c.args.asked.script.now refl c.in-Ok.ensures.fit r.result.1
@@ -43,15 +43,15 @@ returns-in-Ok-clause-ends g c = λ honest.
 pub returns-in-Err-clause-ends : goal.returns-in-Err-clause-ends
 returns-in-Err-clause-ends g c = λ honest.
     let was = c.args.server in
-    let old = server_of was.engine (g.W.Write.contents c.args.out.now) was.lines was.waited.items was.places.marks.items
+    let old = seen_by was (g.W.Write.contents c.args.out.now)
     in
     let s = c.show_past.new.self in
-    let mid = server_of s.engine (g.W.Write.contents c.show_past.new.out) s.lines s.waited.items s.places.marks.items in
+    let mid = seen_by s (g.W.Write.contents c.show_past.new.out) in
     let k = c.refuse_rest-status in (
-      subst g.D.Disk.honest (k.ensures.disk ∙ ap (λ (e : EngineState g.row.D.Denot). e.disk)
-          c.show_past.ensures.engine) honest,
+      subst g.D.Disk.honest (k.ensures.disk ∙ ap (λ (x : SessionState g.row.D.Denot). x.engine.disk)
+          c.show_past.ensures.session) honest,
       inl (unrun_by g.D.Disk (wanted_of c.args.asked.script.now) old mid was.bases.items c.requires.ready
-          c.show_past.ensures.engine c.in-Err.ensures.shown c.in-Err.ensures.fit k.result.1
+          c.show_past.ensures.session c.in-Err.ensures.shown c.in-Err.ensures.fit k.result.1
           (g.W.Write.contents k.new.out) c.new.result k.result.0 k.ensures.status k.ensures.disk k.ensures.last
           c.new.ensures),
     )

@@ -1,6 +1,6 @@
 use Rattle.std.proofs.Common.{◌≡◌, ◌∙◌, List, [], ℕ, ap, map, subst}
 use Rattle.im_types.specs.Contents.{Contents}
-use Rattle.im_serial.specs.Serving.{server_of}
+use Rattle.im_serial.specs.Serving.{seen_by}
 use Rattle.im_serial.proofs.ScriptedLemmas.{has_served, unserved}
 use Rattle.im_run.specs.Orders.{HasReadTo, IsOfAll, ask_of, asks_among, asks_in, first_asked, script_heard}
 use Rattle.im_run.specs.Orders.{settled_by, settled_when}
@@ -9,13 +9,13 @@ use Rattle.im_run.proofs.OrdersLemmas.{if_ok_map, if_ok_of, on_ok_map, orders_re
 use Rattle.im_run.proofs.orders.read_orders.Goals as goal
 
 pub returns-in_default-clause-served : goal.returns-in_default-clause-served
-returns-in_default-clause-served g c = unserved g.D.Disk _ _ _ _ _
+returns-in_default-clause-served g c = unserved _ _ _ _ _
 
 pub returns-in-Ok-set_up-clause-served : goal.returns-in-Ok-set_up-clause-served
 returns-in-Ok-set_up-clause-served g c =
     let once = c.args.asked.once in
-    has_served g.D.Disk c.with_parts.result _ _ _ _ _
-    (passes_as g.D.Disk (settled_by c.in-Ok.sheet.past) (settled_when once c.args.server.now.engine.memory)
+    has_served c.with_parts.result _ _ _ _ _
+    (passes_as (settled_by c.in-Ok.sheet.past) (settled_when once c.args.server.now.session.engine.memory)
     (script_heard c.args.asked.script.now) _ _ _ _
     (c.in-Ok.ensures.settled ∙ ap (settled_when once) c.memory.ensures) c.in-Ok-set_up.ensures.served.serves)
 
@@ -23,13 +23,13 @@ pub returns-in-Err-clause-served : goal.returns-in-Err-clause-served
 returns-in-Err-clause-served g c =
     let once = c.args.asked.once in
     let was = c.args.server.now in
-    let old = server_of was.engine (g.W.Write.contents c.args.out.now) was.lines was.waited.items was.places.marks.items
+    let old = seen_by was (g.W.Write.contents c.args.out.now)
     in
     let n = c.set_up.new.server in
-    let new = server_of n.engine (g.W.Write.contents c.set_up.new.out) n.lines n.waited.items n.places.marks.items in
+    let new = seen_by n (g.W.Write.contents c.set_up.new.out) in
     record {
       serves = tt;
-      ends = ends_as g.D.Disk (settled_by c.in-Ok.sheet.past) (settled_when once was.engine.memory)
+      ends = ends_as (settled_by c.in-Ok.sheet.past) (settled_when once was.session.engine.memory)
           (script_heard c.args.asked.script.now) was.bases.items old new
           (c.in-Ok.ensures.settled ∙ ap (settled_when once) c.memory.ensures) c.in-Err.ensures.served.ends;
     }
@@ -41,11 +41,11 @@ returns-in-Ok-set_up-clause-orders g c =
     let bases = c.set_up.new.server.bases.items in
     let first = c.in-Ok.sheet in
     let script = script_heard c.args.asked.script.now in
-    let was : settled_by first.past ≡ settled_when once c.args.server.now.engine.memory =
+    let was : settled_by first.past ≡ settled_when once c.args.server.now.session.engine.memory =
     c.in-Ok.ensures.settled ∙ ap (settled_when once) c.memory.ensures in
     if_ok_of _ c.with_parts.result c.make_workload-work.result c.with_parts.ensures.work
     (if_ok_map _ _ c.make_workload-work.result c.make_workload-work.ensures.asked (λ work asked.
-    orders_read (first_asked once c.set_up.new.server.engine.memory) (settled_when once c.args.server.now.engine.memory)
+    orders_read (first_asked once c.set_up.new.server.session.engine.memory) (settled_when once c.args.server.now.session.engine.memory)
     (settled_by s.past) bases script first.orders.items s.orders.items work.orders.items c.in-Ok.ensures.places
     c.in-Ok.ensures.none
     (subst (λ (h : List ℕ). HasReadTo h script first.orders.items (settled_by s.past) [] bases s.orders.items) was

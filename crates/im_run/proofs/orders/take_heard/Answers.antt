@@ -8,7 +8,7 @@ use Rattle.im_run.proofs.orders.take_heard.Goals as goal
 pub returns-in-Glances-clause-served : goal.returns-in-Glances-clause-served
 returns-in-Glances-clause-served g c =
     let had = settled_by c.args.sheet.now.past in
-    unchanged g.D.Disk c.add_glance.result (line_blocks had c.args.heard) _ _
+    unchanged c.add_glance.result (line_blocks had c.args.heard) _ _
     (ap (λ (h : Heard). line_blocks had h) c.in-Glances.is)
 
 pub returns-in-Glances-clause-heard : goal.returns-in-Glances-clause-heard

@@ -1,7 +1,7 @@
 use Rattle.std.proofs.Common.{[], List, ℕ, ap₂, refl, subst}
 use Rattle.std.specs.Option.{option_map_or}
 use Rattle.im_script.specs.Script.{Draft, draft_of, lines_of}
-use Rattle.im_serial.specs.Serving.{server_of}
+use Rattle.im_serial.specs.Serving.{seen_by}
 use Rattle.im_serial.proofs.OnceLemmas.{part_ends, part_serves}
 use Rattle.im_serial.proofs.ScriptedLemmas.{ends_here, has_served}
 use Rattle.im_run.specs.Orders.{ArePartsThere, blocks_of, lines_heard, script_heard, settled_by}
@@ -16,7 +16,7 @@ loop-number-init g c =
     let bases = c.args.server.now.bases.items in
     let same = ap₂ (λ (d : Draft) (t : List ℕ). lines_heard d (lines_of t)) c.new-reader.ensures c.text.ensures in
     record {
-      served = blocks_start g.D.Disk had all _ bases _ same;
+      served = blocks_start had all _ bases _ same;
       read = read_none had bases all _ c.args.sheet.now.orders.items same;
       there = there_start _ all _ _ same;
     }
@@ -25,13 +25,12 @@ pub loop-number-preserved : goal.loop-number-preserved
 loop-number-preserved g c =
     let it = c.loop-number.invariant in
     let was = c.args.server.now in
-    let old = server_of was.engine (g.W.Write.contents c.args.out.now) was.lines was.waited.items was.places.marks.items
+    let old = seen_by was (g.W.Write.contents c.args.out.now)
     in
     let now = c.loop-number.server in
-    let mid = server_of now.engine (g.W.Write.contents c.loop-number.out) now.lines now.waited.items
-    now.places.marks.items in
+    let mid = seen_by now (g.W.Write.contents c.loop-number.out) in
     let n = c.take_heard.new.server in
-    let new = server_of n.engine (g.W.Write.contents c.take_heard.new.out) n.lines n.waited.items n.places.marks.items
+    let new = seen_by n (g.W.Write.contents c.take_heard.new.out)
     in
     let s = c.loop-number.sheet in
     let d = draft_of c.loop-number.reader in
@@ -44,10 +43,10 @@ loop-number-preserved g c =
     let text = c.in-Some.text in
     let heard = c.in-Ok-take_heard.ensures.heard in
     record {
-      served = part_serves g.D.Disk _ _ _ _ (blocks_line before left d next c.in-Ok.heard text.now
+      served = part_serves _ _ _ _ (blocks_line before left d next c.in-Ok.heard text.now
           c.split_line.result.0.now c.split_line.result.1 c.split_line.ensures c.in-Ok.ensures.ok heard.settled)
           was.bases.items now.bases.items old mid
-          (blocks_some g.D.Disk (blocks_of had all) before was.bases.items now.bases.items old mid d
+          (blocks_some (blocks_of had all) before was.bases.items now.bases.items old mid d
           c.loop-number.rest text c.in-Some.is it.served) n.bases.items new
           c.in-Ok-take_heard.ensures.served.serves;
       read = read_line had all first.orders.items s.orders.items c.take_heard.new.sheet.orders.items before left d
@@ -64,7 +63,7 @@ pub returns-in-None-clause-served : goal.returns-in-None-clause-served
 returns-in-None-clause-served g c =
     let had = settled_by c.args.sheet.now.past in
     let all = blocks_of had (script_heard c.args.script.now) in
-    has_served g.D.Disk _ all _ _ _ _ (blocks_none g.D.Disk all (settled_by c.loop-number.sheet.past)
+    has_served _ all _ _ _ _ (blocks_none all (settled_by c.loop-number.sheet.past)
     c.args.server.now.bases.items c.loop-number.server.bases.items _ _ (draft_of c.loop-number.reader)
     c.loop-number.rest c.in-None.is c.loop-number.invariant.served)
 
@@ -88,7 +87,7 @@ returns-in-Err-clause-served g c =
     let had = settled_by c.args.sheet.now.past in
     record {
       serves = tt;
-      ends = ends_here g.D.Disk (blocks_of had (script_heard c.args.script.now))
+      ends = ends_here (blocks_of had (script_heard c.args.script.now))
           (blocks_of (settled_by c.loop-number.sheet.past) (option_map_or (λ text.
           lines_heard (draft_of c.loop-number.reader) (lines_of text.now)) c.loop-number.rest []))
           c.args.server.now.bases.items c.loop-number.server.bases.items _ _ c.loop-number.invariant.served;
@@ -97,13 +96,12 @@ returns-in-Err-clause-served g c =
 pub returns-in-Err-take_heard-clause-served : goal.returns-in-Err-take_heard-clause-served
 returns-in-Err-take_heard-clause-served g c =
     let was = c.args.server.now in
-    let old = server_of was.engine (g.W.Write.contents c.args.out.now) was.lines was.waited.items was.places.marks.items
+    let old = seen_by was (g.W.Write.contents c.args.out.now)
     in
     let now = c.loop-number.server in
-    let mid = server_of now.engine (g.W.Write.contents c.loop-number.out) now.lines now.waited.items
-    now.places.marks.items in
+    let mid = seen_by now (g.W.Write.contents c.loop-number.out) in
     let n = c.take_heard.new.server in
-    let new = server_of n.engine (g.W.Write.contents c.take_heard.new.out) n.lines n.waited.items n.places.marks.items
+    let new = seen_by n (g.W.Write.contents c.take_heard.new.out)
     in
     let had = settled_by c.args.sheet.now.past in
     let all = blocks_of had (script_heard c.args.script.now) in
@@ -112,10 +110,10 @@ returns-in-Err-take_heard-clause-served g c =
     let text = c.in-Some.text in
     record {
       serves = tt;
-      ends = part_ends g.D.Disk _ _ _ _ (blocks_line before _ d (draft_of c.read_with_glances.new.self)
+      ends = part_ends _ _ _ _ (blocks_line before _ d (draft_of c.read_with_glances.new.self)
           c.in-Ok.heard text.now c.split_line.result.0.now c.split_line.result.1 c.split_line.ensures
           c.in-Ok.ensures.ok refl) was.bases.items now.bases.items old mid
-          (blocks_some g.D.Disk all before was.bases.items now.bases.items old mid d c.loop-number.rest text
+          (blocks_some all before was.bases.items now.bases.items old mid d c.loop-number.rest text
           c.in-Some.is c.loop-number.invariant.served) new c.in-Err-take_heard.ensures.served.ends;
     }
 
@@ -124,7 +122,7 @@ returns-clause-served g c =
     let had = settled_by c.args.sheet.now.past in
     record {
       serves = tt;
-      ends = ends_here g.D.Disk (blocks_of had (script_heard c.args.script.now))
+      ends = ends_here (blocks_of had (script_heard c.args.script.now))
           (blocks_of (settled_by c.loop-number.sheet.past) (option_map_or (λ text.
           lines_heard (draft_of c.loop-number.reader) (lines_of text.now)) c.loop-number.rest []))
           c.args.server.now.bases.items c.loop-number.server.bases.items _ _ c.loop-number.invariant.served;

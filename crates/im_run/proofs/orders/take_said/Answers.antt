@@ -10,28 +10,28 @@ use Rattle.im_run.proofs.OrdersLemmas.{heard_asked, heard_block, heard_from, hea
 use Rattle.im_run.proofs.orders.take_said.Goals as goal
 
 pub returns-then-has-clause-served : goal.returns-then-has-clause-served
-returns-then-has-clause-served g c = quiet g.D.Disk _
+returns-then-has-clause-served g c = quiet _
     (line_blocks (settled_by c.args.sheet.now.past) (Says c.args.said)) _ _
     (ap blocks_among (c.has.ensures.had c.if-has.true))
 
 pub returns-in-Nothing-clause-served : goal.returns-in-Nothing-clause-served
 returns-in-Nothing-clause-served g c =
     let had = settled_by c.args.sheet.now.past in
-    quiet g.D.Disk _ (line_blocks had (Says c.args.said)) _ _
+    quiet _ (line_blocks had (Says c.args.said)) _ _
     (ap (λ (s : Said). blocks_among (news had (wanted_by s))) c.in-Nothing.is)
 
 pub returns-in-Begins-clause-served : goal.returns-in-Begins-clause-served
 returns-in-Begins-clause-served g c =
     let had = settled_by c.args.sheet.now.past in
-    quiet g.D.Disk _ (line_blocks had (Says c.args.said)) _ _
+    quiet _ (line_blocks had (Says c.args.said)) _ _
     (ap (λ (s : Said). blocks_among (news had (wanted_by s))) c.in-Begins.is)
 
 pub returns-in-Block-clause-served : goal.returns-in-Block-clause-served
-returns-in-Block-clause-served g c = served_as g.D.Disk c.make_block.result _ _ _ _ _ _
+returns-in-Block-clause-served g c = served_as c.make_block.result _ _ _ _ _ _
     (ap blocks_among (c.has.ensures.new c.if-has.false ∙ ap wanted_by c.in-Block.is)) c.make_block.ensures.served
 
 pub returns-in-Asks-clause-served : goal.returns-in-Asks-clause-served
-returns-in-Asks-clause-served g c = unchanged g.D.Disk c.add_line.result
+returns-in-Asks-clause-served g c = unchanged c.add_line.result
     (line_blocks (settled_by c.args.sheet.now.past) (Says c.args.said)) _ _
     (ap blocks_among (c.has.ensures.new c.if-has.false ∙ ap wanted_by c.in-Asks.is))
 

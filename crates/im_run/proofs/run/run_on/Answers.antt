@@ -6,7 +6,7 @@ use Rattle.im_run.proofs.run.run_on.Goals as goal
 
 pub run_server-requires-clause-ready : goal.run_server-requires-clause-ready
 run_server-requires-clause-ready g c κs within =
-    can_serve g.D.Disk _ c.in-Ok.server.bases.items c.in-Ok.ensures.opened.nothing
+    can_serve _ c.in-Ok.server.bases.items c.in-Ok.ensures.opened.nothing c.in-Ok.ensures.opened.fresh
 
 pub run_server-requires-clause-bases : goal.run_server-requires-clause-bases
 run_server-requires-clause-bases g c κs within = c.in-Ok.ensures.opened.nothing.bases_is
@@ -15,7 +15,7 @@ pub returns-in-Ok-clause-run : goal.returns-in-Ok-clause-run
 returns-in-Ok-clause-run g c = λ honest.
     let d = g.D.Disk in
     let o = c.in-Ok.ensures.opened in
-    let start = c.in-Ok.server.engine in
+    let start = c.in-Ok.server.session.engine in
     let r = c.run_server in
     let was = g.W.Write.contents c.open_server.new.out in
     let is = g.W.Write.contents r.new.out in
@@ -24,7 +24,7 @@ returns-in-Ok-clause-run g c = λ honest.
     inr (subst (λ (w : Option (List ℕ)). RanOn d.now d.past d.failures false false text c.args.disk r.result.1 w is
     r.result.2 r.result.0) c.in-Ok.ensures.same
     (ran_on d false false text c.args.disk start r.result.1 was is r.result.2 r.result.0 (o.leaves before)
-    (o.nothing.means before) o.failures
+    (o.means before) o.failures
     (unplanned d.now d.past d.failures false c.args.asked.mode.planned text start r.result.1 was is r.result.2
     r.result.0
     (r.ensures.run honest))))
@@ -33,7 +33,7 @@ pub returns-in-Ok-clause-planned : goal.returns-in-Ok-clause-planned
 returns-in-Ok-clause-planned g c = λ planned honest.
     let d = g.D.Disk in
     let o = c.in-Ok.ensures.opened in
-    let start = c.in-Ok.server.engine in
+    let start = c.in-Ok.server.session.engine in
     let r = c.run_server in
     let was = g.W.Write.contents c.open_server.new.out in
     let is = g.W.Write.contents r.new.out in
@@ -42,7 +42,7 @@ returns-in-Ok-clause-planned g c = λ planned honest.
     inr (subst (λ (w : Option (List ℕ)). RanOn d.now d.past d.failures false true text c.args.disk r.result.1 w is
     r.result.2 r.result.0) c.in-Ok.ensures.same
     (ran_on d false true text c.args.disk start r.result.1 was is r.result.2 r.result.0 (o.leaves before)
-    (o.nothing.means before) o.failures
+    (o.means before) o.failures
     (subst (λ (p : Bool). RunOn d.now d.past d.failures false p text start r.result.1 was is r.result.2 r.result.0)
     planned (r.ensures.run honest))))
 
@@ -50,7 +50,7 @@ pub returns-in-Ok-clause-ran : goal.returns-in-Ok-clause-ran
 returns-in-Ok-clause-ran g c = λ honest is_end.
     let d = g.D.Disk in
     let o = c.in-Ok.ensures.opened in
-    let start = c.in-Ok.server.engine in
+    let start = c.in-Ok.server.session.engine in
     let r = c.run_server in
     let was = g.W.Write.contents c.open_server.new.out in
     let is = g.W.Write.contents r.new.out in
@@ -60,7 +60,7 @@ returns-in-Ok-clause-ran g c = λ honest is_end.
     subst (λ (w : Option (List ℕ)). Ran d.now r.result.1 w is r.result.0) c.in-Ok.ensures.same
     (ran d false planned text c.args.disk r.result.1 was is r.result.2 r.result.0 is_end
     (inr (ran_on d false planned text c.args.disk start r.result.1 was is r.result.2 r.result.0 (o.leaves before)
-    (o.nothing.means before) o.failures (r.ensures.run honest))))
+    (o.means before) o.failures (r.ensures.run honest))))
 
 pub returns-in-Ok-clause-honest : goal.returns-in-Ok-clause-honest
 returns-in-Ok-clause-honest g c = λ honest. c.in-Ok.ensures.opened.honest (c.run_server.ensures.honest honest)

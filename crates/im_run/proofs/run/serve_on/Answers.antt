@@ -2,6 +2,7 @@ use Rattle.std.proofs.Common.{◌≡◌, ◌∙◌, ap, inr, map, subst, sym}
 use Rattle.std.specs.Prelude.{IsOk, None}
 use Rattle.im_disk.specs.Since.{LeavesNow}
 use Rattle.im_engine.specs.State.{EngineState, MeansState}
+use Rattle.im_session.specs.Kept.{SessionState}
 use Rattle.im_text.specs.declared.lines.Lines.{Lines}
 use Rattle.im_run.specs.Orders.{ask_of, asks_in}
 use Rattle.im_run.specs.Planned.{FitsIfNew, plan_of, planned_orders}
@@ -23,10 +24,11 @@ serve_opening-ending-requires-clause-fits g c κs within = λ planned.
 pub returns-in-Ok-clause-ended : goal.returns-in-Ok-clause-ended
 returns-in-Ok-clause-ended g c = λ honest alive.
     let d = g.D.Disk in
-    let v = c.leave-engine in
+    let v = c.leave-session in
     let s = c.serve_opening-ending in
     let k = c.close-status in
-    let same = c.in-Ok.ensures.found ∙ v.ensures.engine in
+    let same = c.in-Ok.ensures.found ∙ c.into_engine.ensures.state
+    ∙ ap (λ (x : SessionState g.row.D.Denot). x.engine) v.ensures.session in
     let orders = map ask_of c.args.work.orders.items in
     let whole = asks_in c.args.work.whole in
     let planned = c.args.work.mode.planned in
@@ -39,7 +41,7 @@ returns-in-Ok-clause-ended g c = λ honest alive.
       works = k.ensures.works;
       means = k.ensures.means honest;
       did = did;
-      ended = ended_weaker d planned whole orders c.args.server.engine s.result.0.engine trace did
+      ended = ended_weaker d planned whole orders c.args.server.session.engine s.result.0.engine trace did
           (IsOk s.result.0.done) (k.result.0 ≡ 0) k.ensures.done
           (subst (λ (e : EngineState g.row.D.Denot). ServersEnded d planned whole orders e s.result.0.engine trace did
           (IsOk s.result.0.done)) same ((s.ensures.ended (subst d.honest k.ensures.disk honest)).1 works));
@@ -50,20 +52,22 @@ returns-in-Ok-clause-ended g c = λ honest alive.
 pub returns-in-Ok-clause-honest : goal.returns-in-Ok-clause-honest
 returns-in-Ok-clause-honest g c = λ honest.
     subst (λ (e : EngineState g.row.D.Denot). g.D.Disk.honest e.disk)
-    (c.in-Ok.ensures.found ∙ c.leave-engine.ensures.engine)
+    (c.in-Ok.ensures.found ∙ c.into_engine.ensures.state
+    ∙ ap (λ (x : SessionState g.row.D.Denot). x.engine) c.leave-session.ensures.session)
     (c.serve_opening-ending.ensures.ended (subst g.D.Disk.honest c.close-status.ensures.disk honest)).0
 
 pub returns-in-Err-clause-ended : goal.returns-in-Err-clause-ended
 returns-in-Err-clause-ended g c = λ honest alive.
-    let v = c.leave-engine in
+    let v = c.leave-session in
     let n = c.no_server-ending in
     let k = c.close-status-in-Err in
     let e = n.result.engine in
-    let same = n.ensures.engine ∙ c.in-Err.ensures.same ∙ v.ensures.engine in
+    let same = n.ensures.engine ∙ c.in-Err.ensures.same ∙ c.into_engine.ensures.state
+    ∙ ap (λ (x : SessionState g.row.D.Denot). x.engine) v.ensures.session in
     let works = ap (λ (x : EngineState g.row.D.Denot). x.failed) same ∙ alive in
     let never : k.result.0 ≡ 0 → ⊥ = λ zero. n.ensures.refused (k.ensures.done zero) in
     let trace = c.new.result.items in
-    let served = none_served g.D.Disk c.args.server.engine e trace c.new.ensures.items same works
+    let served = none_served g.D.Disk c.args.server.session.engine e trace c.new.ensures.items same works
     (subst (λ d. LeavesNow (g.D.Disk.now d) (MeansState e)) k.ensures.disk (k.ensures.means honest works)) in
     record {
       engine = e;
@@ -74,7 +78,7 @@ returns-in-Err-clause-ended g c = λ honest alive.
       ended = record {
         plan = None;
         served = served;
-        told = none_of_all c.args.server.engine.memory trace (k.result.0 ≡ 0) (map ask_of c.args.work.orders.items)
+        told = none_of_all c.args.server.session.engine.memory trace (k.result.0 ≡ 0) (map ask_of c.args.work.orders.items)
             n.result.did.items n.ensures.none never;
         alone = λ zero. absurd (never zero);
         all_served = λ zero. absurd (never zero);

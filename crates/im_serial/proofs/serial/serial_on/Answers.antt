@@ -1,10 +1,14 @@
-use Rattle.std.proofs.Common.{inr}
-use Rattle.im_serial.proofs.ServingLemmas.{served}
+use Rattle.std.proofs.Common.{inr, subst}
+use Rattle.im_serial.specs.Serving.{ServedScript}
 use Rattle.im_serial.proofs.serial.serial_on.Goals as goal
 
 pub returns-in-Ok-open-clause-served : goal.returns-in-Ok-open-clause-served
 returns-in-Ok-open-clause-served g c = λ honest.
-    let was = c.serve_on.ensures.honest honest in
-    let engine = c.in-Ok-open.engine in
-    let e = c.in-Ok-open.ensures in
-    inr (served g.D.Disk.now g.D.Disk.past g.D.Disk.failures c.args.script.now c.args.disk engine c.serve_on.result.1 _ _ c.serve_on.result.0 (e.leaves was) (e.means was) e.faults (c.serve_on.ensures.closed honest))
+    inr (subst (λ (d : g.row.D.Denot). ServedScript g.D.Disk c.args.script.now d c.serve_on.result.1 _ _
+    c.serve_on.result.0) c.in-Ok-open.ensures.opened c.serve_on.ensures.served)
+
+pub returns-in-Ok-open-clause-honest : goal.returns-in-Ok-open-clause-honest
+returns-in-Ok-open-clause-honest g c = λ honest.
+    let it = c.serve_on.ensures.served in
+    subst g.D.Disk.honest c.in-Ok-open.ensures.opened
+    (subst g.D.Disk.honest it.opened (it.kept.honest (subst g.D.Disk.honest it.closed honest)))

@@ -9,21 +9,21 @@ use Rattle.im_serial.proofs.ScriptedLemmas.{asked_ends, asked_serves, served_wit
 use Rattle.im_serial.proofs.server.Server.make_block.Goals as goal
 
 pub returns-in-Err-clause-served : goal.returns-in-Err-clause-served
-returns-in-Err-clause-served g c = asked_ends g.D.Disk _ (record {
+returns-in-Err-clause-served g c = asked_ends _ (record {
   element = 0;
   action = Alloc c.args.block.kind c.args.block.length;
   named = true;
 }) _ _ _ _ _ _ refl c.in-Err.ensures.serves
 
 pub returns-in_default-clause-served : goal.returns-in_default-clause-served
-returns-in_default-clause-served g c = asked_ends g.D.Disk _ (record {
+returns-in_default-clause-served g c = asked_ends _ (record {
   element = 0;
   action = Alloc c.args.block.kind c.args.block.length;
   named = true;
 }) _ _ _ _ _ _ refl c.in-Ok.ensures.serves
 
 pub returns-in-Err-push-clause-served : goal.returns-in-Err-push-clause-served
-returns-in-Err-push-clause-served g c = asked_ends g.D.Disk _ (record {
+returns-in-Err-push-clause-served g c = asked_ends _ (record {
   element = 0;
   action = Alloc c.args.block.kind c.args.block.length;
   named = true;
@@ -34,9 +34,9 @@ returns-in-Ok-push-clause-served g c =
     let told = rw c.in-Answered-Base.is at c.in-Answered-Base.field-0-is in
     let bases = c.args.self.now.bases.items in
     let base = c.in-Answered-Base.base in
-    served_with g.D.Disk _ _ bases (bases ++ base ∷ []) _ _ _ (c.in-Ok-push.ensures.items
+    served_with _ _ bases (bases ++ base ∷ []) _ _ _ (c.in-Ok-push.ensures.items
     ∙ ap (λ (l : List ℕ). l ++ base ∷ []) c.request.ensures.bases)
-    (asked_serves g.D.Disk _ (record {
+    (asked_serves _ (record {
       element = 0;
       action = Alloc c.args.block.kind c.args.block.length;
       named = true;

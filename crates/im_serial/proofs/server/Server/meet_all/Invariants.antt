@@ -3,18 +3,17 @@ use Rattle.std.specs.Option.{option_map_or}
 use Rattle.im_script.specs.Script.{draft_of, lines_of}
 use Rattle.im_serial.specs.Asked.{wanted_in, wanted_of}
 use Rattle.im_serial.specs.Once.{MakesBlocks, Meets, Names}
-use Rattle.im_serial.specs.Serving.{server_of}
+use Rattle.im_serial.specs.Serving.{seen_by}
 use Rattle.im_serial.proofs.server.Server.meet_all.Given as goal
 
 abbrev pub invariant-loop-number : goal.invariant-loop-number
-invariant-loop-number g l = (l.self.engine ≡ l.fn.self.engine)
+invariant-loop-number g l = (l.self.session ≡ l.fn.self.session)
     × (Names l.fn.past.many.items l.fn.past.end (wanted_of l.script) l.past.many.items l.past.end
     (option_map_or (λ text. wanted_in (draft_of l.reader) (lines_of text.now)) l.rest [])
     l.fn.self.bases.items l.self.bases.items
-    × (MakesBlocks l.fn.self.engine.memory l.fn.past.many.items (wanted_of l.script) l.past.many.items
+    × (MakesBlocks l.fn.self.session.engine.memory l.fn.past.many.items (wanted_of l.script) l.past.many.items
     (option_map_or (λ text. wanted_in (draft_of l.reader) (lines_of text.now)) l.rest [])
     × Meets l.fn.past.many.items (wanted_of l.script) l.past.many.items
     (option_map_or (λ text. wanted_in (draft_of l.reader) (lines_of text.now)) l.rest [])
-    (server_of l.fn.self.engine (g.W.Write.contents l.fn.out) l.fn.self.lines l.fn.self.waited.items
-    l.fn.self.places.marks.items)
-    (server_of l.self.engine (g.W.Write.contents l.out) l.self.lines l.self.waited.items l.self.places.marks.items)))
+    (seen_by l.fn.self (g.W.Write.contents l.fn.out))
+    (seen_by l.self (g.W.Write.contents l.out))))

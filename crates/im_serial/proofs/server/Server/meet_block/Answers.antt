@@ -3,7 +3,7 @@ use Rattle.std.specs.Prelude.{true}
 use Rattle.im_script.specs.declared.places.Action.TheVariants.{Alloc}
 use Rattle.im_serial.specs.Asked.{Wanted}
 use Rattle.im_serial.specs.Once.{HasPassed, is_had}
-use Rattle.im_serial.specs.Serving.{server_of}
+use Rattle.im_serial.specs.Serving.{seen_by}
 use Rattle.im_serial.proofs.OnceLemmas.{makes_block, names_kept, passed_named}
 use Rattle.im_serial.proofs.server.Server.meet_block.Goals as goal
 
@@ -23,7 +23,7 @@ returns-clause-names g c = names_kept c.name_past.result c.args.past.now.many.it
     c.in-Ok.ensures.end (is_had c.in-Ok.met) c.in-Ok.ensures.had c.name_past.ensures.new c.name_past.ensures.had
 
 pub returns-clause-made : goal.returns-clause-made
-returns-clause-made g c = makes_block c.name_past.result c.args.self.now.engine.memory c.args.past.now.many.items _
+returns-clause-made g c = makes_block c.name_past.result c.args.self.now.session.engine.memory c.args.past.now.many.items _
     (record {
       element = 0;
       action = Alloc c.args.block.kind c.args.block.length;
@@ -34,10 +34,10 @@ returns-clause-made g c = makes_block c.name_past.result c.args.self.now.engine.
 pub returns-clause-passed : goal.returns-clause-passed
 returns-clause-passed g c =
     let was = c.args.self.now in
-    let old = server_of was.engine (g.W.Write.contents c.args.out.now) was.lines was.waited.items was.places.marks.items
+    let old = seen_by was (g.W.Write.contents c.args.out.now)
     in
     let s = c.meet.new.self in
-    let mid = server_of s.engine (g.W.Write.contents c.meet.new.out) s.lines s.waited.items s.places.marks.items in
+    let mid = seen_by s (g.W.Write.contents c.meet.new.out) in
     let many = c.args.past.now.many.items in
     let w : Wanted = record { element = 0; action = Alloc c.args.block.kind c.args.block.length; named = true } in
     subst (λ (l : List ℕ). HasPassed many (w ∷ []) l c.name_past.result old mid) (sym c.name_past.ensures.many)

@@ -11,7 +11,7 @@ returns-in-Ok-clause-passed g c = c.in-Ok.ensures.passed (record {
 }) refl
 
 pub returns-in-Ok-clause-made : goal.returns-in-Ok-clause-made
-returns-in-Ok-clause-made g c = makes_plain c.args.self.now.engine.memory c.args.past.now.many.items _ (record {
+returns-in-Ok-clause-made g c = makes_plain c.args.self.now.session.engine.memory c.args.past.now.many.items _ (record {
   element = c.args.line.element;
   action = c.args.line.action;
   named = false;

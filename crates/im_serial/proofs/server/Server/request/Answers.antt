@@ -9,24 +9,19 @@ pub returns-in-Ok-clause-serves : goal.returns-in-Ok-clause-serves
 returns-in-Ok-clause-serves g c =
     let old = c.args.self.now in
     let mid = c.prepare.new.self in
-    asked_then g.D.Disk c.ask_next.result c.args.element c.args.op _ _ _
-    (prepared_goes g.D.Disk old.engine mid.engine old.waited.items mid.waited.items old.places.marks.items
+    asked_then c.ask_next.result c.args.element c.args.op _ _ _
+    (prepared_goes old.session mid.session old.waited.items mid.waited.items old.places.marks.items
     mid.places.marks.items (g.W.Write.contents c.args.out.now) old.lines mid.lines c.in-Ok.ensures.goes
     c.prepare.ensures.lines)
     c.ask_next.ensures.serves
 
 pub returns-in-Err-clause-serves : goal.returns-in-Err-clause-serves
-returns-in-Err-clause-serves g c =
-    let old = c.args.self.now in
-    let mid = c.prepare.new.self in
-    record {
-      serves = tt;
-      ends = λ w before is asks start from script rest going. (
-        going.0,
-        (
-          c.in-Err.ensures.goes start (standing script before (w ∷ rest)) going.0 going.1.0,
-          subst (λ (l : Lines). Prints from (g.W.Write.contents c.args.out.now) l going.0) (sym c.prepare.ensures.lines)
-              going.1.1,
-        ),
-      );
-    }
+returns-in-Err-clause-serves g c = record {
+  serves = tt;
+  ends = λ w before is asks start from script rest going. record {
+    text = going.text;
+    over = c.in-Err.ensures.goes start (standing script before (w ∷ rest)) going.text going.serving;
+    printed = subst (λ (l : Lines). Prints from (g.W.Write.contents c.args.out.now) l going.text)
+        (sym c.prepare.ensures.lines) going.printed;
+  };
+}

@@ -1,0 +1,192 @@
+-- What each call of an engine comes to.
+use Rattle.std.proofs.Common.{◌≡◌, ◌⊎◌, inl, inr, ⊎_elim, ℕ, ◌+◌, ◌<◌, Bool, true, false, List, [], ◌∷◌, length}
+use Rattle.std.proofs.Common.{refl, sym, ◌∙◌, ap, ap₂, arith}
+use Rattle.std.specs.Prelude.{Result, Ok, Err, ◌&&◌, if◌then◌else◌}
+use Rattle.im_types.specs.declared.commands.Command.{Command}
+use Rattle.im_types.specs.declared.commands.Outcome.{Outcome}
+use Rattle.im_types.specs.declared.groups.Served.{Served}
+use Rattle.im_types.specs.declared.refusals.Refusal.{Refusal}
+use Rattle.im_types.specs.declared.refusals.Refusal.TheVariants.{Failed, JournalFull}
+use Rattle.im_types.specs.Contents.{Contents}
+use Rattle.im_types.specs.Step.{step, is_accepted}
+use Rattle.im_types.specs.Run.{after}
+use Rattle.im_laws.proofs.Tests.{true_or_false}
+use Rattle.im_disk.specs.declared.disk.Disk.{Ghosts}
+use Rattle.im_disk.specs.Moment.{Faults}
+use Rattle.im_groups.specs.Commands.{places}
+use Rattle.im_groups.proofs.CommandLemmas.{at-after, at-accepts}
+use Rattle.im_checkpoint.specs.declared.checkpoint.TurnDone.{TurnDone}
+use Rattle.im_checkpoint.proofs.Fitting.{none_or_some}
+use Rattle.im_engine.specs.State.{EngineState, MeansState, MeansEither}
+use Rattle.im_engine.specs.Run.{Answered, MeansWithOrWithout, SweepAnswered, TurnAnswered, is_device}
+use Rattle.im_engine.specs.Commands.{CommandsAnswered, MeansCommands, ServesCommands, after_commands, commands_put}
+use Rattle.im_engine.proofs.Accepting.{accepted_answers}
+use Rattle.im_session.specs.Put.{sure_by, doubted_by, sure_of, doubted_of}
+use Rattle.im_session.proofs.AcceptedLemmas.{accepted_each, one_accepted}
+use Rattle.im_session.proofs.KeptLemmas.{Accepted, CallLeaves, GoesOn, Puts, Stays, all_of, none_of, puts_all, puts_none}
+use Rattle.im_session.proofs.KeptLemmas.{rose_by, steady_by}
+
+-- ---- a command
+
+-- what is put and doubted of an answer
+unsure : (m : Contents) (c : Command) (a : Result Outcome Refusal) → is_accepted m c ≡ false → sure_by m c a ≡ []
+unsure m c (Ok o) e = ap (λ (b : Bool). if b then c ∷ [] else []) e
+unsure m c (Err r) e = refl
+
+undoubted : (m : Contents) (c : Command) (a : Result Outcome Refusal) → is_accepted m c ≡ false → doubted_by m c a ≡ []
+undoubted m c (Ok o) e = refl
+undoubted m c (Err r) e = ap (λ (b : Bool). if b && is_device r then c ∷ [] else []) e
+
+not_device : (m : Contents) (c : Command) (r : Refusal) → is_device r ≡ false → doubted_by m c (Err r) ≡ []
+not_device m c r e = by_test (is_accepted m c) (is_device r) e
+  where
+    by_test : (b p : Bool) → p ≡ false → (if b && p then c ∷ [] else []) ≡ []
+    by_test true true e = absurd (cc)
+    by_test true false e = refl
+    by_test false p e = refl
+
+module _ {D : Type 0} (disk : Ghosts D) (mid new : EngineState D) (c : Command) (a : Result Outcome Refusal)
+    (it : Answered mid c a new) (call : CallLeaves disk mid new (MeansEither mid c))
+    (cause : Faults (λ e. Unit {0}) a (disk.failures mid.disk) (disk.failures new.disk)) where
+  abbrev Goes : Type 0
+  Goes = GoesOn disk mid new (sure_by mid.memory c a) (doubted_by mid.memory c a)
+
+  refused : (r : Refusal) → a ≡ Err r → is_device r ≡ false → new ≡ mid → Goes
+  refused r is e same = inl (record {
+    same = same;
+    none_sure = ap (sure_by mid.memory c) is;
+    none_doubted = ap (doubted_by mid.memory c) is ∙ not_device mid.memory c r e;
+  })
+
+  either : (file : List ℕ) → MeansEither mid c file → MeansWithOrWithout mid [] (c ∷ []) file
+  either file (inl old) = none_of mid (c ∷ []) file old
+  either file (inr with_it) = inr (all_of mid (c ∷ []) (step mid.memory c).contents (mid.count + 1) _ file refl refl with_it)
+
+  accepted : mid.failed ≡ false → is_accepted mid.memory c ≡ true → Goes
+  accepted f e = ⊎_elim
+      (λ none. let full = it.full f e none in refused JournalFull full.0 refl full.1)
+      (λ some. ⊎_elim
+      (λ done.
+      let o = accepted_answers mid.memory c e in
+      let is : a ≡ Ok o.0 = done.0 ∙ o.1 in
+      let sure : sure_by mid.memory c a ≡ c ∷ []
+      = ap (sure_by mid.memory c) is ∙ ap (λ (b : Bool). if b then c ∷ [] else []) e in
+      let doubt : doubted_by mid.memory c a ≡ [] = ap (doubted_by mid.memory c) is in
+      inr (rw (sure, doubt) (puts_all disk mid new (MeansEither mid c) call f (c ∷ []) (one_accepted mid.memory c e) either
+      (ap (λ (s : EngineState D). s.memory) done.1) (ap (λ (s : EngineState D). s.count) done.1)
+      (ap (λ (s : EngineState D). s.failed) done.1 ∙ f) (steady_by a o.0 _ _ cause is))))
+      (λ fault.
+      let sure : sure_by mid.memory c a ≡ [] = ap (sure_by mid.memory c) fault.0 in
+      let doubt : doubted_by mid.memory c a ≡ c ∷ []
+      = ap (doubted_by mid.memory c) fault.0 ∙ ap (λ (b : Bool). if b && true then c ∷ [] else []) e in
+      inr (rw (sure, doubt) (puts_none disk mid new (MeansEither mid c) call f (c ∷ []) (one_accepted mid.memory c e) either
+      fault.1 (rose_by a _ _ cause fault.0))))
+      (it.put f e some))
+      (none_or_some mid.room)
+
+  pub command_goes : Goes
+  command_goes = ⊎_elim
+      (λ dead. let gone = it.dead dead in refused Failed gone.0 refl gone.1)
+      (λ f. ⊎_elim
+      (λ e. accepted f e)
+      (λ un. inl (record {
+        same = (it.unaccepted f un).1;
+        none_sure = unsure mid.memory c a un;
+        none_doubted = undoubted mid.memory c a un;
+      }))
+      (true_or_false (is_accepted mid.memory c)))
+      (true_or_false mid.failed)
+
+-- ---- a turn, and a sweep
+
+module _ {D : Type 0} (disk : Ghosts D) (mid new : EngineState D) (call : CallLeaves disk mid new (MeansState mid)) where
+  stood : (file : List ℕ) → MeansState mid file → MeansWithOrWithout mid [] [] file
+  stood file image = none_of mid [] file image
+
+  pub turn_goes : (a : Result TurnDone Refusal) → TurnAnswered mid a new
+      → Faults (λ e. Unit {0}) a (disk.failures mid.disk) (disk.failures new.disk) → GoesOn disk mid new [] []
+  turn_goes a it cause = ⊎_elim
+      (λ dead. inl (record { same = (it.dead dead).1; none_sure = refl; none_doubted = refl }))
+      (λ f. inr (⊎_elim
+      (λ done. puts_all disk mid new (MeansState mid) call f [] refl stood done.2.memory
+      (let n = done.2.count in omega (arith, n)) done.2.alive (steady_by a done.0 _ _ cause done.1))
+      (λ fault. puts_none disk mid new (MeansState mid) call f [] refl stood fault.1 (rose_by a _ _ cause fault.0))
+      (it.alive f)))
+      (true_or_false mid.failed)
+
+  pub sweep_goes : (most : ℕ) (a : Result ℕ Refusal) → SweepAnswered mid most a new
+      → Faults (λ e. Unit {0}) a (disk.failures mid.disk) (disk.failures new.disk) → GoesOn disk mid new [] []
+  sweep_goes most a it cause = ⊎_elim
+      (λ dead. inl (record { same = (it.dead dead).1; none_sure = refl; none_doubted = refl }))
+      (λ f. inr (⊎_elim
+      (λ done. puts_all disk mid new (MeansState mid) call f [] refl stood
+      (ap (λ (s : EngineState D). s.memory) done.1)
+      (let n = ap (λ (s : EngineState D). s.count) done.1 in omega (arith, n))
+      (ap (λ (s : EngineState D). s.failed) done.1 ∙ f) (steady_by a _ _ _ cause done.0))
+      (λ fault. puts_none disk mid new (MeansState mid) call f [] refl stood fault.1 (rose_by a _ _ cause fault.0))
+      (it.alive f)))
+      (true_or_false mid.failed)
+
+-- ---- commands that are put together
+
+none_or_more : (l : List Command) → (l ≡ []) ⊎ (0 < length l)
+none_or_more [] = inl refl
+none_or_more (c ∷ l) = inr (omega arith)
+
+module _ {D : Type 0} (disk : Ghosts D) (mid new : EngineState D) (members : List Command) (answers : List Served)
+    (did : CommandsAnswered mid members answers new) (it : ServesCommands disk mid new members) where
+  abbrev cs : List Command
+  cs = commands_put mid members
+
+  abbrev GoesTogether : Type 0
+  GoesTogether = GoesOn disk mid new (sure_of new.failed cs) (doubted_of mid.failed new.failed cs)
+
+  same_again : new ≡ mid → sure_of new.failed cs ≡ [] → doubted_of mid.failed new.failed cs ≡ [] → GoesTogether
+  same_again same sure doubt = inl (record { same = same; none_sure = sure; none_doubted = doubt })
+
+  call : CallLeaves disk mid new (MeansCommands mid members)
+  call = record { since = it.leaves; now = it.doubt; means = it.means; honest = it.honest }
+
+  together : after mid.memory cs ≡ (after_commands mid members).memory
+  together = at-after mid.memory (places mid.count mid.room) members
+
+  all_accepted : Accepted mid.memory cs
+  all_accepted = accepted_each mid.memory cs _ (at-accepts mid.memory (places mid.count mid.room) members)
+
+  both : (file : List ℕ) → MeansCommands mid members file → MeansWithOrWithout mid [] cs file
+  both file (inl old) = none_of mid cs file old
+  both file (inr all) = inr (all_of mid cs (after_commands mid members).memory (after_commands mid members).count
+      (after_commands mid members).room file (sym together) refl all)
+
+  failed_before : mid.failed ≡ true → GoesTogether
+  failed_before dead =
+      let same : new ≡ mid = (did.dead dead).1 in
+      let gone : new.failed ≡ true = ap (λ (s : EngineState D). s.failed) same ∙ dead in
+      same_again same (ap (λ (b : Bool). sure_of b cs) gone) (ap₂ (λ (b f : Bool). doubted_of b f cs) dead gone)
+
+  worked_before : mid.failed ≡ false → GoesTogether
+  worked_before works = ⊎_elim
+      (λ none.
+      let same : new ≡ mid = (did.none works none).1 in
+      let alive : new.failed ≡ false = ap (λ (s : EngineState D). s.failed) same ∙ works in
+      same_again same (ap₂ (λ (b : Bool) (l : List Command). sure_of b l) alive none)
+      (ap (λ (b : Bool). doubted_of mid.failed b cs) alive))
+      (λ some. ⊎_elim
+      (λ done.
+      let alive : new.failed ≡ false = ap (λ (s : EngineState D). s.failed) done.1 ∙ works in
+      let sure : sure_of new.failed cs ≡ cs = ap (λ (b : Bool). sure_of b cs) alive in
+      let doubt : doubted_of mid.failed new.failed cs ≡ [] = ap (λ (b : Bool). doubted_of mid.failed b cs) alive in
+      inr (rw (sure, doubt) (puts_all disk mid new (MeansCommands mid members) call works cs all_accepted both
+      (ap (λ (s : EngineState D). s.memory) done.1 ∙ sym together) (ap (λ (s : EngineState D). s.count) done.1) alive
+      (it.faults.steady (alive ∙ sym works)))))
+      (λ fault.
+      let dead : new.failed ≡ true = ap (λ (s : EngineState D). s.failed) fault.1 in
+      let sure : sure_of new.failed cs ≡ [] = ap (λ (b : Bool). sure_of b cs) dead in
+      let doubt : doubted_of mid.failed new.failed cs ≡ cs = ap₂ (λ (b f : Bool). doubted_of b f cs) works dead in
+      inr (rw (sure, doubt) (puts_none disk mid new (MeansCommands mid members) call works cs all_accepted both
+      fault.1 (it.faults.failed works dead).0)))
+      (did.put works some))
+      (none_or_more cs)
+
+  pub commands_go : GoesTogether
+  commands_go = ⊎_elim failed_before worked_before (true_or_false mid.failed)

@@ -1,0 +1,82 @@
+-- What each file left has, if the commands of a session keep it.
+use Rattle.std.proofs.Common.{◌≡◌, ◌+◌, ◌≤◌, ⊎_elim, ℕ, Bool, true, false, ◌&&◌, List, [], ◌∷◌, ◌++◌, length, take, Result}
+use Rattle.std.proofs.Common.{Ok, Err, refl, sym, ap, subst, arith, length-append, if◌then◌else◌}
+use Rattle.std.proofs.lemmas.List.{length-take-le}
+use Rattle.im_types.specs.declared.commands.Command.{Command}
+use Rattle.im_types.specs.declared.commands.Outcome.{Outcome}
+use Rattle.im_types.specs.declared.refusals.Refusal.{Refusal}
+use Rattle.im_types.specs.Contents.{Contents}
+use Rattle.im_types.specs.Step.{is_accepted}
+use Rattle.im_types.specs.Meaning.{Means}
+use Rattle.im_types.specs.Run.{after}
+use Rattle.im_disk.specs.declared.disk.Disk.{Ghosts}
+use Rattle.im_disk.specs.Since.{LeavesNow, LeavesOnly}
+use Rattle.im_disk.proofs.SinceLemmas.{leaves_weaker}
+use Rattle.im_engine.specs.declared.run.Event.TheVariants.{Command as Serve}
+use Rattle.im_engine.specs.declared.run.Answer.TheVariants.{Served as Told}
+use Rattle.im_engine.specs.Run.{acknowledged_by, in_doubt_by}
+use Rattle.im_engine.proofs.FilesMean.{means_one}
+use Rattle.im_session.specs.Put.{sure_by, doubted_by}
+use Rattle.im_session.specs.Kept.{Kept, MeansPrefix, SessionState}
+use Rattle.im_session.specs.Carrying.{LedBy, PrefixesKeep}
+use Rattle.im_session.proofs.KeptLemmas.{all_begins, beginning}
+
+-- the commands that led to where a session began
+pub record BeganWith {D : Type 0} (P : List Command → Contents → Type 0) (s : SessionState D) : Type 0 where
+  pub earlier : List Command
+  pub holds : P earlier s.start.memory
+  pub count : s.start.count ≡ length earlier
+
+module _ {D : Type 0} (disk : Ghosts D) (P : List Command → Contents → Type 0) (s : SessionState D) (kept : Kept disk s)
+    (h : disk.honest s.engine.disk) (before : LeavesNow (disk.now s.start.disk) (LedBy P)) where
+  pub began_with : BeganWith P s
+  began_with =
+      let found = (kept.leaves h).found in
+      let it = before found.0 found.1 in
+      let same = means_one found.0 s.start.memory it.1.0 s.start.count (length it.0) 0 0 found.2 it.1.1.1 in
+      record { earlier = it.0; holds = subst (P it.0) (sym same.0) it.1.1.0; count = same.1 }
+
+  prefix_led : PrefixesKeep P s → (file : List ℕ) → MeansPrefix s.start (s.put ++ s.doubt) file → LedBy P file
+  prefix_led keep file means =
+      let all : List Command = s.put ++ s.doubt in
+      let done : List Command = take means.0 all in
+      let it = began_with in
+      let count = it.count in
+      let short : length done ≡ means.0 = length-take-le means.0 all means.1 in
+      let both = length-append it.earlier done in
+      let sum : s.start.count + means.0 ≡ length (it.earlier ++ done) = omega (arith, count, short, both) in (
+        it.earlier ++ done,
+        (
+          after s.start.memory done,
+          (
+            keep it.earlier it.holds count means.0 means.1,
+            subst (λ (n : ℕ). Means (after s.start.memory done) n 0 file) sum means.2,
+          ),
+        ),
+      )
+
+  pub carried : PrefixesKeep P s → LeavesOnly disk.now disk.past s.start.disk s.engine.disk (LedBy P)
+  carried keep = let it = kept.leaves h in record {
+    within = leaves_weaker (disk.now s.start.disk) (disk.now s.engine.disk) (disk.past s.start.disk)
+        (disk.past s.engine.disk) (MeansPrefix s.start (s.put ++ s.doubt)) (LedBy P) it.since (prefix_led keep);
+    after = λ file left. ⊎_elim
+        (λ sure. prefix_led keep file (beginning s.start s.put s.doubt file (all_begins s.start s.put file sure)))
+        (λ all. prefix_led keep file (all_begins s.start (s.put ++ s.doubt) file all))
+        (it.now file left);
+  }
+
+-- ---- what a run of the engine acknowledges
+
+pub put_is : (m : Contents) (c : Command) (answer : Result Outcome Refusal)
+    → sure_by m c answer ≡ acknowledged_by m (Serve c) (Told answer)
+put_is m c (Ok outcome) = refl
+put_is m c (Err refusal) = refl
+
+pub doubt_is : (m : Contents) (count : ℕ) (c : Command) (answer : Result Outcome Refusal)
+    → doubted_by m c answer ≡ in_doubt_by m count (Serve c) (Told answer)
+doubt_is m count c (Ok outcome) = by_test (is_accepted m c)
+  where
+    by_test : (b : Bool) → [] ≡ (if b && false then c ∷ [] else [])
+    by_test true = refl
+    by_test false = refl
+doubt_is m count c (Err refusal) = refl

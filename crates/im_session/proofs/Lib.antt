@@ -1,0 +1,6 @@
+pub mod AcceptedLemmas
+pub mod KeptLemmas
+mod CallLemmas
+pub mod ServedLemmas
+pub mod RoomLemmas
+pub mod CarryLemmas

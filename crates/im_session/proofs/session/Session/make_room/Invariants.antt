@@ -1,0 +1,8 @@
+use Rattle.std.specs.Prelude.{◌≡◌}
+use Rattle.im_turning.specs.Turning.{HasTurned, point_of}
+use Rattle.im_session.specs.Serving.{Rests}
+use Rattle.im_session.proofs.session.Session.make_room.Given as goal
+
+abbrev pub invariant-loop-turn : goal.invariant-loop-turn
+invariant-loop-turn g l = Rests l.fn.self l.self × (l.self.engine.failed ≡ l.fn.self.engine.failed)
+    × HasTurned l._turn (point_of l.fn.self.engine) (point_of l.self.engine)

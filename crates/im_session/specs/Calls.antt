@@ -1,0 +1,32 @@
+-- What the calls of a session put on its disk. (Own.)
+use Rattle.std.specs.Prelude.{Bool, List, [], ◌∷◌, ◌++◌, length, take, Result}
+use Rattle.im_types.specs.declared.commands.Command.{Command}
+use Rattle.im_types.specs.declared.commands.Outcome.{Outcome}
+use Rattle.im_types.specs.declared.refusals.Refusal.{Refusal}
+use Rattle.im_types.specs.Contents.{Contents}
+use Rattle.im_groups.specs.Commands.{commands_at}
+use Rattle.im_session.specs.Put.{PutList, sure_by, doubted_by, sure_of, doubted_of}
+use Rattle.im_session.specs.declared.calls.SessionCall.{SessionCall}
+use Rattle.im_session.specs.declared.calls.SessionCall.TheVariants.{Alone, Together}
+
+-- nothing was put yet
+abbrev pub nothing_put : PutList
+nothing_put = record { sure = []; doubt = [] }
+
+-- with one more command, served on this memory
+abbrev pub put_with : PutList → Contents → Command → Result Outcome Refusal → PutList
+put_with p m c answer = record { sure = p.sure ++ sure_by m c answer; doubt = p.doubt ++ doubted_by m c answer }
+
+-- with commands that were put together
+abbrev pub put_with_all : PutList → List Command → Bool → Bool → PutList
+put_with_all p commands before failed =
+    record { sure = p.sure ++ sure_of failed commands; doubt = p.doubt ++ doubted_of before failed commands }
+
+-- what these calls put, the last call first
+abbrev pub put_by_calls : List SessionCall → PutList
+put_by_calls [] = nothing_put
+put_by_calls (Alone memory command answer ∷ calls) =
+    put_with (put_by_calls calls) memory.value.contents command.value answer.value
+put_by_calls (Together memory places members served before failed ∷ calls) = put_with_all (put_by_calls calls)
+    (commands_at memory.value.contents places.value (take (length served.value.items) members.value.items)) before.value
+    failed.value

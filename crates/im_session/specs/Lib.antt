@@ -1,0 +1,6 @@
+pub mod Put
+pub mod Calls
+pub mod Kept
+pub mod Serving
+pub mod Opening
+pub mod Carrying

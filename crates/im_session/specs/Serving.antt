@@ -1,0 +1,48 @@
+-- What a call of a session comes to.
+use Rattle.std.specs.Prelude.{◌≡◌, ◌⊎◌, List, [], ◌∷◌, ◌++◌, Result, Ok, true, false}
+use Rattle.im_types.specs.declared.commands.Command.{Command}
+use Rattle.im_types.specs.declared.commands.Outcome.{Outcome}
+use Rattle.im_types.specs.declared.refusals.Refusal.{Refusal}
+use Rattle.im_types.specs.declared.refusals.Refusal.TheVariants.{Device, Failed}
+use Rattle.im_types.specs.Step.{step, is_accepted}
+use Rattle.im_types.specs.Run.{accepted}
+use Rattle.im_engine.specs.State.{EngineState}
+use Rattle.im_engine.specs.Commands.{commands_put}
+use Rattle.im_session.specs.Put.{sure_by, doubted_by, sure_of, doubted_of}
+use Rattle.im_session.specs.Kept.{SessionState, session_of}
+
+-- the session after a command with this answer
+abbrev pub served_one : {D : Type 0} → SessionState D → Command → Result Outcome Refusal → EngineState D
+    → SessionState D
+served_one s c answer engine = session_of s.start (s.put ++ sure_by s.engine.memory c answer)
+    (s.doubt ++ doubted_by s.engine.memory c answer) engine
+
+-- the session after these members were served together
+abbrev pub served_together : {D : Type 0} → SessionState D → List Command → EngineState D → SessionState D
+served_together s members engine = let put = commands_put s.engine members in session_of s.start
+    (s.put ++ sure_of engine.failed put) (s.doubt ++ doubted_of s.engine.failed engine.failed put) engine
+
+-- a command was served with this outcome: it is put if it changes the memory
+pub record CommandServed {D : Type 0} (old : SessionState D) (c : Command) (outcome : Outcome)
+    (new : SessionState D) : Type 0 where
+  pub answer : (step old.engine.memory c).answer ≡ Ok outcome
+  pub same : new ≡ session_of old.start (old.put ++ accepted old.engine.memory (c ∷ [])) old.doubt new.engine
+  pub memory : new.engine.memory ≡ (step old.engine.memory c).contents
+  pub works : new.engine.failed ≡ false
+
+-- a command was refused: it isn't put, and it is in doubt if it would change the memory and the disk failed
+pub record CommandRefused {D : Type 0} (old : SessionState D) (c : Command) (new : SessionState D) : Type 0 where
+  pub start : new.start ≡ old.start
+  pub put : new.put ≡ old.put
+  pub doubt : (new.doubt ≡ old.doubt)
+      ⊎ ((is_accepted old.engine.memory c ≡ true) × (new.doubt ≡ old.doubt ++ c ∷ []))
+  pub memory : new.engine.memory ≡ old.engine.memory
+
+-- nothing was put, and the memory stays
+pub record Rests {D : Type 0} (old new : SessionState D) : Type 0 where
+  pub same : new ≡ session_of old.start old.put old.doubt new.engine
+  pub memory : new.engine.memory ≡ old.engine.memory
+
+-- a call of the disk failed, or had failed before
+abbrev pub IsBroken : Refusal → Type 0
+IsBroken e = (e ≡ Device) ⊎ (e ≡ Failed)
