@@ -52,7 +52,7 @@ use Rattle.im_serial.proofs.AskedLemmas.{wanted_line}
 use Rattle.im_serial.proofs.LeftLemmas.{had_at, has_some, met_here, met_less}
 use Rattle.im_serial.proofs.KeepsLemmas.{went_on}
 use Rattle.im_serial.proofs.NotedLemmas.{apart, last_or_before}
-use Rattle.im_serial.proofs.ScriptedLemmas.{going_from, over_here}
+use Rattle.im_serial.proofs.ScriptedLemmas.{going_from, leads_here, over_here}
 
 -- what a line asks for, and those behind it
 pub line_wanted : (d next : Draft) (said : Said) (text line : List ℕ) (behind : Option (Bor (List ℕ))) → lines_of text ≡
@@ -776,25 +776,25 @@ module _ {D : Type 0} where
     shown_at : HasServedNothing old bases → MetAt script it.later [] old.held mid
     shown_at ready = it.meets script [] old.held (met_start script old bases ready)
 
-    abbrev m : Contents
-    m = old.session.start.memory
+    abbrev found : Contents
+    found = old.session.start.memory
 
     abbrev course : Course
-    course = course_of m script
+    course = course_of found script
 
-    m_is : HasServedNothing old bases → old.session.engine.memory ≡ m
-    m_is ready = sym (ap (λ (t : SessionState D). t.start.memory) ready.fresh)
+    found_is : HasServedNothing old bases → old.session.engine.memory ≡ found
+    found_is ready = sym (ap (λ (t : SessionState D). t.start.memory) ready.fresh)
 
     met_there : (ready : HasServedNothing old bases)
-        → HasMet m script it.later [] (shown_at ready).0 mid.waited mid.marks
+        → HasMet found script it.later [] (shown_at ready).0 mid.waited mid.marks
     met_there ready = subst (λ (x : Contents). HasMet x script it.later [] (shown_at ready).0 mid.waited mid.marks)
-        (ap (λ (t : SessionState D). t.engine.memory) it.session ∙ m_is ready) (shown_at ready).1.0
+        (ap (λ (t : SessionState D). t.engine.memory) it.session ∙ found_is ready) (shown_at ready).1.0
 
     -- the text of what the image has, as it was printed
-    shown_text : (ready : HasServedNothing old bases) → (shown_at ready).0 ≡ lines_had m (numbers_had m) script
+    shown_text : (ready : HasServedNothing old bases) → (shown_at ready).0 ≡ lines_had found (numbers_had found) script
     shown_text ready = sym ((met_there ready).lines ∙ append-nil (shown_at ready).0)
 
-    pub shown_written : HasServedNothing old bases → Appends old.held mid.held (lines_had m (numbers_had m) script)
+    pub shown_written : HasServedNothing old bases → Appends old.held mid.held (lines_had found (numbers_had found) script)
     shown_written ready = subst (Appends old.held mid.held) (shown_text ready) (prints_all old.held mid.held mid.lines
         (shown_at ready).0 it.works it.pending (shown_at ready).1.1)
 
@@ -804,7 +804,7 @@ module _ {D : Type 0} where
         let met = met_there ready in
         let names : known ≡ course.first = it.names ∙ ap (λ (l : List ℕ). l ++ bases_had (numbers_had
         old.session.engine.memory) 0 script) ready.bases_is
-        ∙ ap (λ (x : Contents). bases_had (numbers_had x) 0 script) (m_is ready) in
+        ∙ ap (λ (x : Contents). bases_had (numbers_had x) 0 script) (found_is ready) in
         subst (λ (b : List ℕ). GoingAt old.session.start mid.held (standing (Some course) b (course.wanted ++ [])) mid)
         (sym names)
         (subst (λ (t : SessionState D). GoingAt old.session.start mid.held (standing (Some course) course.first
@@ -814,8 +814,8 @@ module _ {D : Type 0} where
           noted = λ at w is. inr (met.marked at w is);
         }) (sym (met.names ∙ append-nil (map who_of mid.waited))) it.pending))
 
-    made_there : HasServedNothing old bases → HasMade m script
-    made_there ready = subst (λ (x : Contents). HasMade x script) (m_is ready) it.made
+    made_there : HasServedNothing old bases → HasMade found script
+    made_there ready = subst (λ (x : Contents). HasMade x script) (found_is ready) it.made
 
     -- and the rest was served
     pub shown_serves : {T E : Type 0} (r : Result T E) (last : List ℕ) (new : ScriptServer D) (wanted : List Wanted)
@@ -823,17 +823,17 @@ module _ {D : Type 0} where
         → HasServedOnce script bases r old new
     shown_serves r last new wanted same served = λ ready.
         let served_now = subst (λ (l : List Wanted). HasServed l known last r mid new)
-        (same ∙ ap (λ (x : Contents). new_of x script) (m_is ready)) served in
+        (same ∙ ap (λ (x : Contents). new_of x script) (found_is ready)) served in
         let going = shown_going ready in
         let ends = served_now.ends old.session.start mid.held (Some course) [] going in (
           record {
             course = course;
-            had = lines_had m (numbers_had m) script;
+            had = lines_had found (numbers_had found) script;
             course_is = record {
               first = refl;
               wanted = refl;
-              had_is = ([], sym (append-nil (lines_had m (numbers_had m) script)));
-              earlier_is = ([], sym (append-nil (waits_had m (numbers_had m) script)));
+              had_is = ([], sym (append-nil (lines_had found (numbers_had found) script)));
+              earlier_is = ([], sym (append-nil (waits_had found (numbers_had found) script)));
             };
             text = ends.text;
             over = ends.over;
@@ -874,21 +874,21 @@ module _ {D : Type 0} where
       → (last : List ℕ) × (IsLast last × Prints from is final (text ++ last)))
       (whole : status ≡ 0 → (from : Option (List ℕ)) (text : List ℕ) → Prints from mid later text
       → Appends from is text) where
-    abbrev m : Contents
-    m = t.start.memory
+    abbrev origin : Contents
+    origin = t.start.memory
 
     abbrev wanted : List Wanted
     wanted = wanted_of script
 
     abbrev lines : List ℕ
-    lines = lines_had m (numbers_had m) wanted
+    lines = lines_had origin (numbers_had origin) wanted
 
     abbrev early : List Waiter
-    early = waits_had m (numbers_had m) wanted
+    early = waits_had origin (numbers_had origin) wanted
 
-    served : IsAskedOnce m wanted (t.put ++ t.doubt) status → length t.doubt ≤ 1
-        → HasMade m wanted ⊎ ((t.put ++ t.doubt ≡ []) × (status ≡ 0 → ⊥))
-        → FitsScript m wanted ⊎ (t.put ++ t.doubt ≡ []) → ToldOnce m wanted t.put was is status
+    served : IsAskedOnce origin wanted (t.put ++ t.doubt) status → length t.doubt ≤ 1
+        → HasMade origin wanted ⊎ ((t.put ++ t.doubt ≡ []) × (status ≡ 0 → ⊥))
+        → FitsScript origin wanted ⊎ (t.put ++ t.doubt ≡ []) → ToldOnce origin wanted t.put was is status
         → ServedOnce disk script t.start.disk end was is status
     served asked few made fit told = record {
       session = t;
@@ -906,11 +906,11 @@ module _ {D : Type 0} where
 
     -- what was told, by the lines that were printed
     told_once : (c : Course) (text had : List ℕ) → IsOver t.start t (Some c) text noted → IsPrefix had lines
-        → IsPrefix c.earlier early → FitsScript m wanted ⊎ ((had ≡ []) × (waited ≡ []))
+        → IsPrefix c.earlier early → FitsScript origin wanted ⊎ ((had ≡ []) × (waited ≡ []))
         → Prints was held before (had ++ text)
-        → (status ≡ 0 → (had ≡ lines) × (map who_of waited ≡ early ++ waits m t.put)
-        × Appends was is (had ++ replies m t.put ++ nows waited (length waited)))
-        → ToldOnce m wanted t.put was is status
+        → (status ≡ 0 → (had ≡ lines) × (map who_of waited ≡ early ++ waits origin t.put)
+        × Appends was is (had ++ replies origin t.put ++ nows waited (length waited)))
+        → ToldOnce origin wanted t.put was is status
     told_once c text had over had_is earlier_is fit prints all_of =
         let end = last was ((had ++ text) ++ nows waited some.0) (some.2 was (had ++ text) prints) in record {
           had = had;
@@ -922,7 +922,7 @@ module _ {D : Type 0} where
           earlier_is = earlier_is;
           waited = waited;
           waiting = (over.many, same ∙ over.names);
-          last_entries = learn m t.put kept.memory over.known;
+          last_entries = learn origin t.put kept.memory over.known;
           fit = fit;
           many = some.0;
           last = end.0;
@@ -933,15 +933,14 @@ module _ {D : Type 0} where
         }
 
     by_status : (n : ℕ) → status ≡ n → ServedOnce disk script t.start.disk end was is status
-    unfolding over_here
     by_status zero none =
         let g = done none in
-        let s = standing (Some (course_of m wanted)) g.bases [] in
+        let s = standing (Some (course_of origin wanted)) g.bases [] in
         let over = over_here t.start t s g.text (notes noted marks) g.serving in
         let full = whole none was ((lines ++ g.text) ++ nows waited (length waited)) (all none was (lines ++ g.text)
         g.printed) in
-        served (record { left = []; leads = over.leads; all = λ z. refl }) over.few (inl g.made) (inl g.fit)
-        (told_once (course_of m wanted) g.text lines over ([], sym (append-nil lines)) ([], sym (append-nil early))
+        served (record { left = []; leads = leads_here t.start t s g.text (notes noted marks) g.serving; all = λ z. refl }) over.few (inl g.made) (inl g.fit)
+        (told_once (course_of origin wanted) g.text lines over ([], sym (append-nil lines)) ([], sym (append-nil early))
         (inl g.fit) g.printed (λ z. (
           refl,
           same ∙ g.serving.names,
@@ -955,8 +954,8 @@ module _ {D : Type 0} where
         served
         (record {
           left = over.left;
-          leads = subst (λ (b : List ℕ). Leads m b (new_of m wanted) all_put over.left) is_course.first
-              (subst (λ (w : List Wanted). Leads m c.first w all_put over.left) is_course.wanted over.leads);
+          leads = subst (λ (b : List ℕ). Leads origin b (new_of origin wanted) all_put over.left) is_course.first
+              (subst (λ (w : List Wanted). Leads origin c.first w all_put over.left) is_course.wanted over.leads);
           all = λ z. absurd (omega arith);
         })
         over.few

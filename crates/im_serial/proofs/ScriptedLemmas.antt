@@ -196,8 +196,15 @@ module _ {D : Type 0} (start : SessionStart D) where
           (λ more. by_list (c ∷ []) (more.1 ∙ ap (λ (l : List Command). l ++ c ∷ []) was.sure) (omega arith) one.0 one.1)
           it.doubt
 
+  -- the commands that were put lead to where it stands
+  pub leads_here : (t : SessionState D) (s : Standing) (text : List ℕ) (n : Notes) → IsServing start t s text n
+      → LeadsIf start.memory s.script (t.put ++ t.doubt) s.left
+  leads_here t s text n was = subst (λ (l : List Command). LeadsIf start.memory s.script l s.left)
+      (sym (append-nil t.put) ∙ ap (λ (l : List Command). t.put ++ l) (sym was.sure))
+      (stands_here start.memory s t.put was.reached)
+
   -- it is ended where it goes on
-  unfoldable pub over_here : (t : SessionState D) (s : Standing) (text : List ℕ) (n : Notes) → IsServing start t s text n
+  pub over_here : (t : SessionState D) (s : Standing) (text : List ℕ) (n : Notes) → IsServing start t s text n
       → IsOver start t s.script text n.waited
   over_here t s text n was = record {
     start_is = was.start_is;
@@ -209,9 +216,7 @@ module _ {D : Type 0} (start : SessionStart D) where
     names = was.names ∙ ap (λ (l : List Waiter). earlier_in s.script ++ l) (sym (take-all (waits start.memory t.put)));
     few = subst (λ (l : List Command). length l ≤ 1) (sym was.sure) (omega arith);
     left = s.left;
-    leads = subst (λ (l : List Command). LeadsIf start.memory s.script l s.left)
-        (sym (append-nil t.put) ∙ ap (λ (l : List Command). t.put ++ l) (sym was.sure))
-        (stands_here start.memory s t.put was.reached);
+    leads = leads_here t s text n was;
     known = known_if s t.put n was.recorded;
   }
 
@@ -819,7 +824,6 @@ module _ {D : Type 0} where
       → (last : List ℕ) × (IsLast last × Prints from is final (text ++ last)))
       → (status ≡ 0 → (from : Option (List ℕ)) (text : List ℕ) → Prints from mid later text → Appends from is text)
       → ServedScript disk script t.start.disk end was is status
-  unfolding over_here
   closed disk script bases t end status held mid is was before later final noted waited marks kept at_end works ended
       going same learn some all last whole = by_status status refl
     where
@@ -844,7 +848,7 @@ module _ {D : Type 0} where
             kept = kept;
             asked = record {
               left = [];
-              leads = (over_here t.start t s g.text (notes noted marks) it).leads;
+              leads = leads_here t.start t s g.text (notes noted marks) it;
               all = λ z. refl;
             };
             few = (over_here t.start t s g.text (notes noted marks) it).few;

@@ -17,8 +17,8 @@ serve_once_on-requires g c =
 
 pub returns-in-Ok-open-clause-served : goal.returns-in-Ok-open-clause-served
 returns-in-Ok-open-clause-served g c = λ honest.
-    inr (subst (λ (d : g.row.D.Denot). ServedOnce g.D.Disk c.args.script.now d c.serve_once_on.result.1 _ _
-    c.serve_once_on.result.0)
+    inr (subst (λ (d : g.row.D.Denot). ServedOnce g.D.Disk c.args.script.now d c.serve_once_on.result.1
+    (g.W.Write.contents c.args.out.now) (g.W.Write.contents c.serve_once_on.new.out) c.serve_once_on.result.0)
     (ap (λ (s : SessionState g.row.D.Denot). s.start.disk) c.new-server.ensures.session ∙ c.in-Ok-open.ensures.opened)
     c.serve_once_on.ensures.served)
 

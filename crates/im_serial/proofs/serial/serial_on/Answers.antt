@@ -4,8 +4,8 @@ use Rattle.im_serial.proofs.serial.serial_on.Goals as goal
 
 pub returns-in-Ok-open-clause-served : goal.returns-in-Ok-open-clause-served
 returns-in-Ok-open-clause-served g c = λ honest.
-    inr (subst (λ (d : g.row.D.Denot). ServedScript g.D.Disk c.args.script.now d c.serve_on.result.1 _ _
-    c.serve_on.result.0) c.in-Ok-open.ensures.opened c.serve_on.ensures.served)
+    inr (subst (λ (d : g.row.D.Denot). ServedScript g.D.Disk c.args.script.now d c.serve_on.result.1
+    (g.W.Write.contents c.args.out.now) (g.W.Write.contents c.serve_on.new.out) c.serve_on.result.0) c.in-Ok-open.ensures.opened c.serve_on.ensures.served)
 
 pub returns-in-Ok-open-clause-honest : goal.returns-in-Ok-open-clause-honest
 returns-in-Ok-open-clause-honest g c = λ honest.

@@ -1,7 +1,8 @@
-use Rattle.std.proofs.Common.{◌∙◌, ◌++◌, [], ◌∷◌, List, length, sym, ap, subst}
+use Rattle.std.proofs.Common.{◌≡◌, ◌∙◌, ◌++◌, [], ◌∷◌, ℕ, List, length, sym, ap, subst}
 use Rattle.std.specs.Prelude.{Ok, Some, slice_get}
 use Rattle.im_types.specs.declared.commands.Command.TheVariants.{Request as Asks}
 use Rattle.im_types.specs.declared.commands.Outcome.TheVariants.{Entry as Tells}
+use Rattle.im_types.specs.declared.operations.Entry.TheVariants.{Waiting}
 use Rattle.im_types.specs.Step.{asker}
 use Rattle.im_session.specs.Kept.{SessionState}
 use Rattle.im_session.proofs.ServedLemmas.{command_refused, command_served}
@@ -9,7 +10,7 @@ use Rattle.im_text.specs.declared.lines.Lines.{Lines}
 use Rattle.im_text.specs.declared.replies.Waited.{Waited}
 use Rattle.im_serial.specs.declared.waits.Mark.{Mark}
 use Rattle.im_serial.specs.declared.waits.Mark.TheVariants.{Here}
-use Rattle.im_serial.specs.Noted.{noted_if}
+use Rattle.im_serial.specs.Noted.{mark_place, noted_if}
 use Rattle.im_serial.specs.Serving.{EndsAt, Passes, seen_by, server_of}
 use Rattle.im_serial.proofs.NotedLemmas.{noted_names}
 use Rattle.im_serial.proofs.ScriptedLemmas.{as_of, asked_passes, refused_ends, told_ends, unnoted_ends, unprinted_ends}
@@ -31,9 +32,12 @@ returns-in-Ok-note-clause-serves g c =
     let pushed = c.in-Ok-note.ensures.pushed ∙ ap (λ (l : List Waited). l ++ noted_if (asker r) entry)
     c.print.ensures.names in
     let names = noted_names r entry was.waited.items noted pushed in
-    let others = λ i no. c.note.ensures.others i no ∙ ap (λ (l : List Mark). slice_get l i) c.print.ensures.marks in
-    let mark = λ waits. c.in-Ok-note.ensures.mark waits ∙ ap (λ (l : List Waited). Some (Here (length l)))
-    c.print.ensures.names in
+    let others : (i : ℕ) → (i ≡ mark_place (asker r) → ⊥) → slice_get marked i
+        ≡ slice_get was.places.marks.items i = λ i no. c.note.ensures.others i no
+        ∙ ap (λ (l : List Mark). slice_get l i) c.print.ensures.marks in
+    let mark : entry ≡ Waiting → slice_get marked (mark_place (asker r)) ≡ Some (Here (length was.waited.items)) =
+        λ waits. c.in-Ok-note.ensures.mark waits ∙ ap (λ (l : List Waited). Some (Here (length l)))
+        c.print.ensures.names in
     record {
       serves = λ w before added element op made. as_of (λ (t : SessionState g.row.D.Denot) (l : Lines). Passes
           (w ∷ []) before [] (before ++ added) (seen_by was held) (server_of t later l noted marked)) c.serve.new.self
