@@ -147,7 +147,7 @@ pub(crate) fn run_server<
     out: &mut W,
     observer: &mut N,
 ) -> (u8, D, Trace)
-    requires ready { CanServe D.Disk (seen_by server (W.contents out.old)) }
+    requires ready { CanServe (seen_by server (W.contents out.old)) }
     requires bases { server.bases.items ≡ bases_first asked.once server.session.engine.memory asked.script.now }
     ensures status { (result.0 ≤ 1) ⊎ (result.0 ≡ STALLED) }
     ensures run { EndsRun D.Disk asked.entry.once asked.entry.mode.planned asked.entry.script.now server.session.engine

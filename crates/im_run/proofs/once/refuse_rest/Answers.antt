@@ -8,5 +8,5 @@ pub returns-clause-last : goal.returns-clause-last
 returns-clause-last g c = λ start text it.
     let f = c.finish-status in
     let end = f.ensures.last start text (subst (λ (l : Lines). Prints start (g.W.Write.contents c.args.out.now) l text)
-    (sym c.leave-engine.ensures.lines) it) in
+    (sym c.leave-session.ensures.lines) it) in
     (end.0, (end.1.0, prints_begins start (g.W.Write.contents f.new.out) f.new.lines (text ++ end.0) end.1.1))

@@ -23,8 +23,8 @@ returns-in-Ok-clause-run g c = λ honest.
       o.honest it.0,
       subst (λ (w : Option (List ℕ)). RanOnce d.now d.past d.failures false text c.args.disk r.1 w is r.2 r.0)
           c.in-Ok.ensures.same
-          (inr (opened_rest d false text c.args.disk start r.1 was is r.2 r.0 (o.leaves it.0) (o.means it.0)
-          o.failures (unplanned_rest d c.args.asked.mode.planned text start r.1 was is r.2 r.0 it.1))),
+          (inr (opened_rest d false text c.args.disk start r.1 was is r.2 r.0 (o.leaves it.0)
+          (o.means it.0 o.nothing.works) o.failures (unplanned_rest d c.args.asked.mode.planned text start r.1 was is r.2 r.0 it.1))),
     )
 
 pub returns-in-Ok-clause-planned : goal.returns-in-Ok-clause-planned
@@ -39,8 +39,8 @@ returns-in-Ok-clause-planned g c = λ planned honest.
     let it = subst (λ (b : Bool). EndsOnce d b text start r.1 was is r.2 r.0) planned c.run_rest.ensures.ends honest in
     subst (λ (w : Option (List ℕ)). RanOnce d.now d.past d.failures true text c.args.disk r.1 w is r.2 r.0)
     c.in-Ok.ensures.same
-    (inr (opened_rest d true text c.args.disk start r.1 was is r.2 r.0 (o.leaves it.0) (o.means it.0)
-    o.failures it.1))
+    (inr (opened_rest d true text c.args.disk start r.1 was is r.2 r.0 (o.leaves it.0)
+    (o.means it.0 o.nothing.works) o.failures it.1))
 
 pub returns-in-Err-clause-run : goal.returns-in-Err-clause-run
 returns-in-Err-clause-run g c = λ honest.

@@ -24,7 +24,7 @@ returns-in-Ok-clause-run g c = λ honest.
     inr (subst (λ (w : Option (List ℕ)). RanOn d.now d.past d.failures false false text c.args.disk r.result.1 w is
     r.result.2 r.result.0) c.in-Ok.ensures.same
     (ran_on d false false text c.args.disk start r.result.1 was is r.result.2 r.result.0 (o.leaves before)
-    (o.means before) o.failures
+    (o.means before o.nothing.works) o.failures
     (unplanned d.now d.past d.failures false c.args.asked.mode.planned text start r.result.1 was is r.result.2
     r.result.0
     (r.ensures.run honest))))
@@ -42,7 +42,7 @@ returns-in-Ok-clause-planned g c = λ planned honest.
     inr (subst (λ (w : Option (List ℕ)). RanOn d.now d.past d.failures false true text c.args.disk r.result.1 w is
     r.result.2 r.result.0) c.in-Ok.ensures.same
     (ran_on d false true text c.args.disk start r.result.1 was is r.result.2 r.result.0 (o.leaves before)
-    (o.means before) o.failures
+    (o.means before o.nothing.works) o.failures
     (subst (λ (p : Bool). RunOn d.now d.past d.failures false p text start r.result.1 was is r.result.2 r.result.0)
     planned (r.ensures.run honest))))
 
@@ -60,7 +60,7 @@ returns-in-Ok-clause-ran g c = λ honest is_end.
     subst (λ (w : Option (List ℕ)). Ran d.now r.result.1 w is r.result.0) c.in-Ok.ensures.same
     (ran d false planned text c.args.disk r.result.1 was is r.result.2 r.result.0 is_end
     (inr (ran_on d false planned text c.args.disk start r.result.1 was is r.result.2 r.result.0 (o.leaves before)
-    (o.means before) o.failures (r.ensures.run honest))))
+    (o.means before o.nothing.works) o.failures (r.ensures.run honest))))
 
 pub returns-in-Ok-clause-honest : goal.returns-in-Ok-clause-honest
 returns-in-Ok-clause-honest g c = λ honest. c.in-Ok.ensures.opened.honest (c.run_server.ensures.honest honest)
