@@ -1,7 +1,6 @@
 -- How the program ends.
-use Rattle.std.proofs.Common.{◌≡◌, inl, ℕ, Bool, true, List, refl, sym, ◌∙◌, ap, subst, arith}
-use Rattle.std.specs.Prelude.{Option, None, Some, IsSome, unwrap_or}
-use Rattle.clap.specs.Words.{takes}
+use Rattle.std.proofs.Common.{◌≡◌, inl, ℕ, Bool, List, refl, sym, ◌∙◌, ap, subst, arith}
+use Rattle.std.specs.Prelude.{Option, None, Some, unwrap_or}
 use Rattle.im_disk.specs.declared.disk.Disk.{Ghosts as DiskGhosts}
 use Rattle.im_disk.specs.declared.file.FileDisk.{FileDisk}
 use Rattle.im_disk.specs.declared.start.Start.{Ghosts}
@@ -9,7 +8,7 @@ use Rattle.im_filters.specs.declared.telling.Telling.{Telling}
 use Rattle.im_program.specs.Ending.{EndsAs, Ended, EndedBy, EndedOn}
 use Rattle.im_program.proofs.ToldLemmas.{nothing_done}
 use Rattle.im_words.specs.declared.words.CommandLine.{CommandLine}
-use Rattle.im_words.specs.Words.{Task, asks_statuses, asks_task, asks_telling, asks_wait, imem_app, task_of_work}
+use Rattle.im_words.specs.Words.{Task, asks_statuses, asks_task, asks_telling, task_of_work}
 
 same_task : (a b : Task) → Some a ≡ Some b → a ≡ b
 same_task a b is = ap (λ (o : Option Task). unwrap_or o a) is
@@ -57,9 +56,3 @@ module _ {S T : Type 0} (start : Ghosts S) (other : Ghosts T) (d : DiskGhosts (F
   pub refused_by : (words : List (List ℕ)) → result ≡ 1
       → EndedBy start other d e words input was is result None None
   refused_by words one = λ taken waits task asks. refused (asks_statuses words) task (asks_telling words) one
-
-  -- words that aren't taken ask for nothing
-  pub untaken : (words : List (List ℕ)) → (takes imem_app words ≡ true → IsSome (asks_task words)
-      → IsSome (asks_wait words) → ⊥) → EndedBy start other d e words input was is result None None
-  untaken words never = λ taken waits task asks.
-      absurd (never taken (subst (λ (o : Option Task). IsSome o) (sym asks) refl) waits)

@@ -16,8 +16,8 @@ use Rattle.im_types.specs.declared.TheConstants.{LAST, WINDOW}
 use Rattle.im_types.specs.Contents.{Contents}
 use Rattle.im_types.specs.Window.{bounds, judge, judge_number, judge_window, next_number}
 use Rattle.im_types.specs.Step.{step, step_request, is_accepted, is_fresh}
-use Rattle.im_text.specs.Printing.{replies, reply_line, waits, waits_by}
-use Rattle.im_text.proofs.PrintingLemmas.{all-append}
+use Rattle.im_text.specs.Printing.{replies, waits}
+use Rattle.im_text.proofs.PrintingLemmas.{replies_more, waits_more}
 use Rattle.im_text.proofs.WindowLemmas.{bounds_found, HasBounds, not_below}
 
 -- ---- new requests
@@ -57,11 +57,9 @@ next_is_new m r base o is answer =
 pub lines_confirmed : (m : Contents) (put : List Command) (element upto : ℕ)
     → replies m put ≡ replies m (put ++ Confirm element upto ∷ [])
 lines_confirmed m put element upto = sym (append-nil (replies m put))
-    ∙ sym (all-append (λ m d. reply_line d (step m d).answer) replies (λ m. refl) (λ m d put. refl) m put
-    (Confirm element upto ∷ []))
+    ∙ replies_more m put (Confirm element upto) (replies m put) [] refl refl
 
 pub waits_confirmed : (m : Contents) (put : List Command) (element upto : ℕ)
     → waits m put ≡ waits m (put ++ Confirm element upto ∷ [])
 waits_confirmed m put element upto = sym (append-nil (waits m put))
-    ∙ sym (all-append (λ m d. waits_by d (step m d).answer) waits (λ m. refl) (λ m d put. refl) m put
-    (Confirm element upto ∷ []))
+    ∙ waits_more m put (Confirm element upto) (waits m put) [] refl refl

@@ -24,7 +24,8 @@ returns-in-Ok-clause-run g c = λ honest.
       subst (λ (w : Option (List ℕ)). RanOnce d.now d.past d.failures false text c.args.disk r.1 w is r.2 r.0)
           c.in-Ok.ensures.same
           (inr (opened_rest d false text c.args.disk start r.1 was is r.2 r.0 (o.leaves it.0)
-          (o.means it.0 o.nothing.works) o.failures (unplanned_rest d c.args.asked.mode.planned text start r.1 was is r.2 r.0 it.1))),
+          (o.means it.0 o.nothing.works) o.failures (unplanned_rest d c.args.asked.mode.planned text start r.1 was
+          is r.2 r.0 it.1))),
     )
 
 pub returns-in-Ok-clause-planned : goal.returns-in-Ok-clause-planned

@@ -45,7 +45,8 @@ returns-in-Ok-set_up-clause-orders g c =
     c.in-Ok.ensures.settled ∙ ap (settled_when once) c.memory.ensures in
     if_ok_of _ c.with_parts.result c.make_workload-work.result c.with_parts.ensures.work
     (if_ok_map _ _ c.make_workload-work.result c.make_workload-work.ensures.asked (λ work asked.
-    orders_read (first_asked once c.set_up.new.server.session.engine.memory) (settled_when once c.args.server.now.session.engine.memory)
+    orders_read (first_asked once c.set_up.new.server.session.engine.memory)
+    (settled_when once c.args.server.now.session.engine.memory)
     (settled_by s.past) bases script first.orders.items s.orders.items work.orders.items c.in-Ok.ensures.places
     c.in-Ok.ensures.none
     (subst (λ (h : List ℕ). HasReadTo h script first.orders.items (settled_by s.past) [] bases s.orders.items) was

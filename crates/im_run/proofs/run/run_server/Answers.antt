@@ -96,7 +96,8 @@ returns-in-Err-clause-run g c = λ honest.
     let did = n.result.did.items in
     let lines = v.result.1.lines in
     let engines = n.ensures.engine ∙ c.into_engine.ensures.state in
-    let ended = subst (λ (x : SessionStart g.row.D.Denot). EndedAt x held (Some course) (server_of t from lines w marks))
+    let ended = subst (λ (x : SessionStart g.row.D.Denot). EndedAt x held (Some course)
+    (server_of t from lines w marks))
     at (as_of (λ (x : SessionState g.row.D.Denot) (l : Lines). EndedAt server.session.start held (Some course)
     (server_of x from l w marks)) r.new.server.session t r.new.server.lines lines v.ensures.session v.ensures.lines
     (r.ensures.served.ends server.session.start held (Some course) []

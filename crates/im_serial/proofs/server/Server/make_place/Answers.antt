@@ -6,7 +6,8 @@ use Rattle.im_serial.proofs.ScriptedLemmas.{drops_then, learns, unprepared, wind
 use Rattle.im_serial.proofs.server.Server.make_place.Goals as goal
 
 pub returns-in-Err-clause-goes : goal.returns-in-Err-clause-goes
-returns-in-Err-clause-goes g c = unprepared (Unit {0}) c.in-Err.refusal c.args.self.now.session c.args.self.now.waited.items
+returns-in-Err-clause-goes g c = unprepared (Unit {0}) c.in-Err.refusal c.args.self.now.session
+    c.args.self.now.waited.items
     c.args.self.now.places.marks.items
 
 pub returns-clause-goes : goal.returns-clause-goes

@@ -16,20 +16,23 @@ returns-in-Ok-clause-passed g c = λ w element.
     let held = g.W.Write.contents c.args.out.now in
     let later = g.W.Write.contents t.new.out in
     let left = c.meet-left.result in
-    subst (λ (l : List ℕ). HasPassed many (w ∷ []) l t.result (seen_by was held) (seen_by t.new.self later)) (ap (met many) element ∙ sym c.meet-left.ensures.many)
+    subst (λ (l : List ℕ). HasPassed many (w ∷ []) l t.result (seen_by was held) (seen_by t.new.self later))
+    (ap (met many) element ∙ sym c.meet-left.ensures.many)
     (passed_had was.session t.new.self.session held later was.lines t.new.self.lines was.waited.items
     t.new.self.waited.items was.places.marks.items t.new.self.places.marks.items many w (record {
       element = c.args.element;
       number = c.saturating_sub-number.result;
     }) t.ensures.session (has_some many c.args.element w.element left element c.meet-left.ensures.left
     c.if-left-eq0.false)
-    (who_is_next was.session.engine.memory many c.args.element w.element _ c.in-Ok.next left c.saturating_sub-number.result
+    (who_is_next was.session.engine.memory many c.args.element w.element _ c.in-Ok.next left
+    c.saturating_sub-number.result
     element (ap (λ (x : Contents). bounds x.windows c.args.element) (sym c.memory.ensures) ∙ sym c.window.ensures
     ∙ c.in-Ok.is) c.meet-left.ensures.left (omega (arith, c.saturating_sub-number.ensures)))
     t.ensures.others t.ensures.unmarked t.result t.ensures.pushed t.ensures.mark t.ensures.more)
 
 pub returns-in-Ok-clause-had : goal.returns-in-Ok-clause-had
-returns-in-Ok-clause-had g c = had_of c.tell_past.result c.args.self.now.session.engine.memory c.args.past.now.many.items
+returns-in-Ok-clause-had g c = had_of c.tell_past.result c.args.self.now.session.engine.memory
+    c.args.past.now.many.items
     (record {
       element = c.args.element;
       number = c.saturating_sub-number.result;

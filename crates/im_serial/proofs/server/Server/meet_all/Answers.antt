@@ -23,7 +23,8 @@ returns-in-None g c =
       names = names_none (λ text. wanted_in (draft_of c.loop-number.reader) (lines_of text.now)) first.many.items
           past.many.items first.end past.end all was.bases.items now.bases.items c.loop-number.rest c.in-None.is
           c.loop-number.invariant.1.0;
-      made = makes_none (λ text. wanted_in (draft_of c.loop-number.reader) (lines_of text.now)) was.session.engine.memory
+      made = makes_none (λ text. wanted_in (draft_of c.loop-number.reader) (lines_of text.now))
+      was.session.engine.memory
           first.many.items past.many.items all c.loop-number.rest c.in-None.is c.loop-number.invariant.1.1.0;
       passed = meets_none (λ text. wanted_in (draft_of c.loop-number.reader) (lines_of text.now)) first.many.items
           past.many.items all old mid c.loop-number.rest c.in-None.is c.loop-number.invariant.1.1.1;
@@ -96,7 +97,8 @@ loop-number-preserved g c =
               c.in-Ok.ensures.ok (makes_some (λ text. wanted_in d (lines_of text.now)) was.session.engine.memory
               first.many.items past.many.items all c.loop-number.rest c.in-Some.text c.in-Some.is
               c.loop-number.invariant.1.1.0) c.meet_said.new.past.many.items
-              (subst (λ (e : SessionState g.row.D.Denot). MakesBlocks e.engine.memory past.many.items (wanted_by c.in-Ok.said)
+              (subst (λ (e : SessionState g.row.D.Denot). MakesBlocks e.engine.memory past.many.items
+              (wanted_by c.in-Ok.said)
               c.meet_said.new.past.many.items []) c.loop-number.invariant.0 c.in-Ok-meet_said.ensures.made),
           line_meets all first.many.items past.many.items old mid d (draft_of c.hear.new.reader)
               c.in-Ok.said c.in-Some.text.now c.split_line.result.0.now c.split_line.result.1 c.split_line.ensures

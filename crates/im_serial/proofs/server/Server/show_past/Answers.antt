@@ -43,7 +43,8 @@ returns-in-Ok-meet_all-clause-shown g c =
     (subst (λ (l : List ℕ). Names l 0 all past.many.items past.end [] was.bases.items s.bases.items) many (subst (λ (n :
     ℕ). Names c.in-Ok-new.past.many.items n all past.many.items past.end [] was.bases.items s.bases.items)
     c.in-Ok-new.ensures.end c.in-Ok-meet_all.ensures.names))
-    (subst (λ (l : List ℕ). MakesBlocks was.session.engine.memory l all past.many.items []) many c.in-Ok-meet_all.ensures.made)
+    (subst (λ (l : List ℕ). MakesBlocks was.session.engine.memory l all past.many.items []) many
+    c.in-Ok-meet_all.ensures.made)
     c.flush.ensures.on c.flush.ensures.pending c.flush.ensures.works
 
 pub returns-clause-shown : goal.returns-clause-shown

@@ -8,7 +8,8 @@ invariant_of-self g c =
     let e = c.sweep.ensures in
     kept_still g.D.Disk c.self.inside.start c.self.inside.calls.sure c.self.inside.calls.doubt c.self.inside.engine
     c.sweep.new.self c.self.invariant (sweep_goes g.D.Disk c.self.inside.engine c.sweep.new.self
-    (record { since = e.leaves; now = e.now; means = e.means; honest = e.honest }) c.args.most c.sweep.result e.answered e.faults)
+    (record { since = e.leaves; now = e.now; means = e.means; honest = e.honest }) c.args.most c.sweep.result
+    e.answered e.faults)
 
 pub returns-clause-answered : goal.returns-clause-answered
 returns-clause-answered g c = rw (← c.self.view_is) c.sweep.ensures.answered
@@ -17,6 +18,7 @@ pub returns-clause-same : goal.returns-clause-same
 returns-clause-same g c = let e = c.sweep.ensures in rw (← c.self.view_is) (record {
   same = refl;
   memory = memory_stays g.D.Disk c.self.inside.engine c.sweep.new.self (sweep_goes g.D.Disk c.self.inside.engine
-      c.sweep.new.self (record { since = e.leaves; now = e.now; means = e.means; honest = e.honest }) c.args.most c.sweep.result
+      c.sweep.new.self (record { since = e.leaves; now = e.now; means = e.means; honest = e.honest }) c.args.most
+      c.sweep.result
       e.answered e.faults);
 })
