@@ -1,4 +1,4 @@
-use Rattle.std.proofs.Common.{List, ℕ, ◌∙◌, ap}
+use Rattle.std.proofs.Common.{List, ℕ, ◌∙◌, ap, string_bytes}
 use Rattle.std.specs.Prelude.{map}
 use Rattle.std.specs.Borrow.{Bor}
 use Rattle.im_program.proofs.EndingLemmas.{ended_as, refused_by}
@@ -10,4 +10,5 @@ returns-in-Ok-clause-ended g c = ended_as _ _ _ _ _ _ _ _ _ _ _ _ _
     c.run-status.ensures.ended
 
 pub returns-in-Err-clause-ended : goal.returns-in-Err-clause-ended
-returns-in-Err-clause-ended g c = refused_by _ _ _ _ _ _ _ _ _ (c.from.ensures ∙ c.refuse-status.ensures.status)
+returns-in-Err-clause-ended g c = refused_by _ _ _ _ _ _ _ _ (map string_bytes c.args.words.now)
+    (c.from-in-Err.ensures ∙ c.refuse-status.ensures.status)

@@ -1,7 +1,6 @@
 use Rattle.std.proofs.Common.{List, ℕ, subst}
 use Rattle.std.specs.Prelude.{Option}
 use Rattle.im_disk.specs.contracts.file.FileDiskDisk.TheImpl.{ghosts}
-use Rattle.im_program.proofs.EndingLemmas.{refused}
 use Rattle.im_program.specs.Ending.{EndedOn}
 use Rattle.imem.proofs.Heard.{heard_as}
 use Rattle.imem.proofs.working.work_heard.Goals as goal
@@ -13,8 +12,8 @@ returns-clause-ended g c = subst
     (ghosts g.row.T g.T.Start g.T.Start-dict g.T.Destruct-dict) c.args.line.now known (g.W.Write.contents c.args.out)
     (g.W.Write.contents c.act_told-status.result.1) c.status_for-ends.result c.act_told-status.result.2
     c.act_told-status.result.3)
-    (heard_as g.I.Read.remaining _ _ c.args.heard c.in-Ok.ensures.inner c.in-Ok.ensures.empty
-    c.in-Ok.ensures.capacity c.new-prompter.ensures)
+    (heard_as g.I.Read.remaining c.in-Ok.input c.new-prompter.result c.args.heard c.in-Ok.ensures.inner
+    c.in-Ok.ensures.empty c.in-Ok.ensures.capacity c.new-prompter.ensures)
     (record {
       status = c.act_told-status.result.0;
       ends = record {
@@ -24,6 +23,3 @@ returns-clause-ended g c = subst
       };
       told = c.act_told-status.ensures.told;
     })
-
-pub returns-in-Err-clause-ended : goal.returns-in-Err-clause-ended
-returns-in-Err-clause-ended g c = refused _ _ _ _ _ _ _ _ _ _ _ c.refuse-status.ensures.status
