@@ -79,7 +79,7 @@ returns-in-Err-clause-ended g c = λ honest alive.
         plan = None;
         served = served;
         told = none_of_all c.args.server.session.engine.memory trace (k.result.0 ≡ 0)
-        (map ask_of c.args.work.orders.items)
+            (map ask_of c.args.work.orders.items)
             n.result.did.items n.ensures.none never;
         alone = λ zero. absurd (never zero);
         all_served = λ zero. absurd (never zero);

@@ -33,11 +33,11 @@ returns-in-Ok-note-clause-serves g c =
     c.print.ensures.names in
     let names = noted_names r entry was.waited.items noted pushed in
     let others : (i : ℕ) → (i ≡ mark_place (asker r) → ⊥) → slice_get marked i
-        ≡ slice_get was.places.marks.items i = λ i no. c.note.ensures.others i no
-        ∙ ap (λ (l : List Mark). slice_get l i) c.print.ensures.marks in
+    ≡ slice_get was.places.marks.items i = λ i no. c.note.ensures.others i no
+    ∙ ap (λ (l : List Mark). slice_get l i) c.print.ensures.marks in
     let mark : entry ≡ Waiting → slice_get marked (mark_place (asker r)) ≡ Some (Here (length was.waited.items)) =
-        λ waits. c.in-Ok-note.ensures.mark waits ∙ ap (λ (l : List Waited). Some (Here (length l)))
-        c.print.ensures.names in
+    λ waits. c.in-Ok-note.ensures.mark waits ∙ ap (λ (l : List Waited). Some (Here (length l)))
+    c.print.ensures.names in
     record {
       serves = λ w before added element op made. as_of (λ (t : SessionState g.row.D.Denot) (l : Lines). Passes
           (w ∷ []) before [] (before ++ added) (seen_by was held) (server_of t later l noted marked)) c.serve.new.self

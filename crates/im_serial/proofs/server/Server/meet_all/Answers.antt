@@ -24,7 +24,7 @@ returns-in-None g c =
           past.many.items first.end past.end all was.bases.items now.bases.items c.loop-number.rest c.in-None.is
           c.loop-number.invariant.1.0;
       made = makes_none (λ text. wanted_in (draft_of c.loop-number.reader) (lines_of text.now))
-      was.session.engine.memory
+          was.session.engine.memory
           first.many.items past.many.items all c.loop-number.rest c.in-None.is c.loop-number.invariant.1.1.0;
       passed = meets_none (λ text. wanted_in (draft_of c.loop-number.reader) (lines_of text.now)) first.many.items
           past.many.items all old mid c.loop-number.rest c.in-None.is c.loop-number.invariant.1.1.1;

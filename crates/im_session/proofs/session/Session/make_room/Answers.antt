@@ -11,7 +11,7 @@ pub loop-turn-preserved : goal.loop-turn-preserved
 loop-turn-preserved g c = (
   rests_then c.args.self.now c.loop-turn.self c.turn.new.self c.loop-turn.invariant.0 c.turn.ensures.same,
   turn_works c.loop-turn.self.engine c.turn.new.self.engine c.turn.result c.in-Ok.done c.turn.ensures.answered
-    c.in-Ok.is
+      c.in-Ok.is
       ∙ c.loop-turn.invariant.1,
   turned_more c.loop-turn._turn (point_of c.args.self.now.engine) (point_of c.loop-turn.self.engine) c.in-Ok.done
       (point_of c.turn.new.self.engine) c.loop-turn.invariant.2
