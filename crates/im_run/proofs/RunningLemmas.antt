@@ -1,24 +1,23 @@
 -- What a run puts on a disk, and what it prints. (Own.)
-use Rattle.std.proofs.Common.{◌≡◌, ◌∙◌, ◌-◌, ◌+◌, ◌≤◌, inl, inr, ⊎_elim, ℕ, zero, suc, Bool, true, false, List, [], ◌++◌, length, refl, sym, ap, subst, take, drop, length-append, append_assoc, arith}
+use Rattle.std.proofs.Common.{◌≡◌, ◌∙◌, ◌+◌, ◌≤◌, inl, inr, ⊎_elim, ℕ, zero, suc, Bool, true, false, List, [], ◌++◌, length, refl, sym, ap, subst, take, drop, length-append, append_assoc, arith}
 use Rattle.std.specs.Prelude.{Option, None, Some, ◌⊎◌, slice_get}
 use Rattle.std.specs.Io.KnownBytes.{Appends}
 use Rattle.std.proofs.lemmas.List.{append-nil, take_all, take-append-le, take-append-drop, length-take-le}
 use Rattle.im_types.specs.declared.commands.Command.{Command}
 use Rattle.im_types.specs.declared.commands.Line.{Line}
 use Rattle.im_types.specs.declared.commands.Request.{Request}
-use Rattle.im_types.specs.declared.operations.Waiter.{Waiter}
 use Rattle.im_types.specs.Contents.{Contents}
 use Rattle.im_types.specs.Meaning.{Means, accept_each}
 use Rattle.im_types.specs.Run.{accepted as accepted_of, after}
 use Rattle.im_types.specs.Trace.{IsLegal}
 use Rattle.im_laws.proofs.RunLemmas.{after-append}
-use Rattle.im_laws.proofs.Tests.{true_false, true_or_false}
+use Rattle.im_laws.proofs.Tests.{true_false}
 use Rattle.im_disk.specs.declared.disk.Disk.{Ghosts}
 use Rattle.im_disk.specs.Moment.{Moment, Left, Rises}
 use Rattle.im_disk.specs.Since.{Leaves, LeavesNow}
 use Rattle.im_disk.proofs.SinceLemmas.{left_now, leaves_then, leaves_now}
 use Rattle.im_engine.specs.State.{EngineState, MeansState}
-use Rattle.im_engine.specs.Run.{MeansAll, MeansAfter, MeansBeginning, MeansWithOrWithout}
+use Rattle.im_engine.specs.Run.{MeansAll, MeansBeginning, MeansWithOrWithout}
 use Rattle.im_engine.proofs.Keeping.{accept_both}
 use Rattle.im_controller.specs.Kept.{MeansSome, begun_by, accepted_in}
 use Rattle.im_controller.proofs.KeptLemmas.{accepted-after, kept_start}

@@ -1,5 +1,5 @@
 -- A server that serves a script: what it put is what the script asks for. (Own.)
-use Rattle.std.proofs.Common.{◌≡◌, ◌∙◌, ℕ, zero, suc, ◌⊎◌, ⊎_elim, inl, inr, Bool, true, false, List, [], ◌∷◌, ◌++◌}
+use Rattle.std.proofs.Common.{◌≡◌, ◌∙◌, ℕ, zero, suc, ⊎_elim, Bool, true, false, List, [], ◌∷◌, ◌++◌}
 use Rattle.std.proofs.Common.{length, take, refl, sym, ap, subst, append_assoc, append-nil, arith, ◌≤◌}
 use Rattle.std.specs.Prelude.{Option, Some, None, Result, Ok, Err, IsOk, IfOk, IfSome, OnErr, OnOk, map}
 use Rattle.std.specs.Prelude.{slice_get, if◌then◌else◌}
@@ -51,7 +51,7 @@ use Rattle.im_serial.proofs.AskedLemmas.{stands_asked, stands_confirmed, stands_
 use Rattle.im_serial.proofs.AskedLemmas.{wanted_line}
 use Rattle.im_serial.proofs.NotedLemmas.{known_asked, noted_asked, noted_confirmed, noted_known, noted_same}
 use Rattle.im_serial.proofs.NotedLemmas.{noted_waits}
-use Rattle.im_serial.proofs.ServingLemmas.{lines_confirmed, next_is_new, waits_confirmed}
+use Rattle.im_serial.proofs.ServingLemmas.{next_is_new}
 
 on_ok : {T E : Type 0} (r : Result T E) (P : Type 0) → P → OnOk r P
 on_ok (Ok x) P it = it
@@ -260,14 +260,18 @@ module _ {D : Type 0} (start : SessionStart D) where
     undoubted : new.doubt ≡ []
     undoubted = ap (λ (t : SessionState D). t.doubt) it.same ∙ was.sure
 
+    -- nobody waits for it
+    unwaited : waits start.memory old.put ≡ waits start.memory (old.put ++ confirm ∷ [])
+    unwaited = sym (append-nil (waits start.memory old.put))
+        ∙ waits_more start.memory old.put confirm (waits start.memory old.put) [] refl refl
+
     dropped : is_accepted found confirm ≡ true → IsServing start new s text (notes waited marks)
     dropped e = serving_with new s text (notes waited marks) (old.put ++ confirm ∷ [])
         (put_by (confirm ∷ []) (ap (λ (b : Bool). if b then confirm ∷ [] else []) e)) begun_is it.works undoubted
         (it.memory ∙ ap (λ (x : Contents). (step x confirm).contents) was.memory
         ∙ sym (after-append start.memory old.put (confirm ∷ [])))
-        (was.lines ∙ lines_confirmed start.memory old.put element upto)
-        (was.names ∙ ap (λ (l : List Waiter). earlier_in s.script ++ l) (waits_confirmed start.memory old.put element
-        upto))
+        (sym (append-nil text) ∙ replies_more start.memory old.put confirm text [] was.lines refl)
+        (was.names ∙ ap (λ (l : List Waiter). earlier_in s.script ++ l) unwaited)
         (stands_confirmed start.memory s old.put element upto was.reached)
         (named_confirmed start.memory s old.put element upto was.named)
         (if_any s.script (IsRecorded start.memory old.put learning)

@@ -1,23 +1,18 @@
 -- Commands put while a script is served. (Own.)
-use Rattle.std.proofs.Common.{◌≡◌, ◌∙◌, ◌-◌, ℕ, zero, suc, Bool, true, false, List, [], ◌∷◌, ◌++◌, length, refl, sym, ap}
+use Rattle.std.proofs.Common.{◌≡◌, ◌∙◌, ◌-◌, ℕ, Bool, true, false, List, [], ◌∷◌, length, refl, sym, ap}
 use Rattle.std.proofs.Common.{subst, arith, if◌then◌else◌}
 use Rattle.std.specs.Prelude.{None, Result, Ok, Err, nat_lt, ◌||◌, slice_get}
-use Rattle.std.proofs.lemmas.List.{append-nil}
-use Rattle.im_types.specs.declared.commands.Command.{Command}
-use Rattle.im_types.specs.declared.commands.Command.TheVariants.{Request as Asks, Confirm}
+use Rattle.im_types.specs.declared.commands.Command.TheVariants.{Request as Asks}
 use Rattle.im_types.specs.declared.commands.Request.{Request}
 use Rattle.im_types.specs.declared.commands.Outcome.{Outcome}
 use Rattle.im_types.specs.declared.commands.Judged.{Judged}
 use Rattle.im_types.specs.declared.commands.Judged.TheVariants.{Fresh}
-use Rattle.im_types.specs.declared.operations.Waiter.{Waiter}
 use Rattle.im_types.specs.declared.refusals.Refusal.{Refusal}
 use Rattle.im_types.specs.declared.refusals.Refusal.TheVariants.{Forgotten, Gap, WindowFull}
 use Rattle.im_types.specs.declared.TheConstants.{LAST, WINDOW}
 use Rattle.im_types.specs.Contents.{Contents}
 use Rattle.im_types.specs.Window.{bounds, judge, judge_number, judge_window, next_number}
 use Rattle.im_types.specs.Step.{step, step_request, is_accepted, is_fresh}
-use Rattle.im_text.specs.Printing.{replies, waits}
-use Rattle.im_text.proofs.PrintingLemmas.{replies_more, waits_more}
 use Rattle.im_text.proofs.WindowLemmas.{bounds_found, HasBounds, not_below}
 
 -- ---- new requests
@@ -51,15 +46,3 @@ next_is_new m r base o is answer =
     by_tests true room answer same = absurd (cc)
     by_tests false true answer same = sym same
     by_tests false false answer same = absurd (cc)
-
--- ---- a confirmation has no line
-
-pub lines_confirmed : (m : Contents) (put : List Command) (element upto : ℕ)
-    → replies m put ≡ replies m (put ++ Confirm element upto ∷ [])
-lines_confirmed m put element upto = sym (append-nil (replies m put))
-    ∙ replies_more m put (Confirm element upto) (replies m put) [] refl refl
-
-pub waits_confirmed : (m : Contents) (put : List Command) (element upto : ℕ)
-    → waits m put ≡ waits m (put ++ Confirm element upto ∷ [])
-waits_confirmed m put element upto = sym (append-nil (waits m put))
-    ∙ waits_more m put (Confirm element upto) (waits m put) [] refl refl

@@ -2,7 +2,7 @@ use Rattle.std.proofs.Common.{Bool, ◌∙◌, ◌++◌, [], ap, map, refl, subs
 use Rattle.std.specs.Prelude.{Some}
 use Rattle.im_disk.specs.Since.{LeavesNow}
 use Rattle.im_engine.specs.State.{EngineState, MeansState}
-use Rattle.im_session.specs.Kept.{SessionStart, SessionState, start_at}
+use Rattle.im_session.specs.Kept.{SessionStart, SessionState}
 use Rattle.im_text.specs.declared.lines.Lines.{Lines}
 use Rattle.im_serial.specs.Asked.{standing}
 use Rattle.im_serial.specs.Noted.{notes}
