@@ -1,7 +1,7 @@
 -- What was said by a group of lines.
-use Rattle.std.proofs.Common.{◌≡◌, ◌∙◌, inl, inr, ⊎_elim, ℕ, zero, suc, ◌+◌, ◌<◌, ◌≤◌, Bool, true, false, ◌&&◌, List}
+use Rattle.std.proofs.Common.{◌≡◌, ◌∙◌, inl, ⊎_elim, ℕ, zero, suc, ◌+◌, ◌<◌, ◌≤◌, Bool, true, false, ◌&&◌, List}
 use Rattle.std.proofs.Common.{[], ◌∷◌, ◌++◌, length, refl, sym, ap, ap₂, subst}
-use Rattle.std.proofs.Common.{◌-◌, length-append, arith, if◌then◌else◌, min}
+use Rattle.std.proofs.Common.{◌-◌, length-append, arith, if◌then◌else◌}
 use Rattle.std.specs.Prelude.{◌==◌, nat_lt, Option, Some, Result, Ok, Err}
 use Rattle.std.specs.Io.KnownBytes.{Appends}
 use Rattle.std.proofs.KnownBytes.{Appends-nil}
@@ -39,13 +39,10 @@ use Rattle.im_dialogue.specs.Watching.{watch_text}
 use Rattle.im_dialogue.specs.Together.{IsKnownBehind, GroupStart, group_start, memory_between}
 use Rattle.im_dialogue.specs.Together.{places_between, point_between}
 use Rattle.im_turning.specs.Turning.{Point, TurnsLead, point_of, with_one}
-use Rattle.im_checkpoint.specs.declared.checkpoint.TurnDone.{TurnDone}
-use Rattle.im_checkpoint.specs.Step.{Step}
 use Rattle.im_types.specs.declared.TheConstants.{LAST}
-use Rattle.im_types.specs.Header.{Header}
 use Rattle.im_dialogue.specs.Telling.{SaysAll}
 use Rattle.im_dialogue.specs.Backups.{Backup}
-use Rattle.im_dialogue.specs.Talk.{Exchange, IsOutcomeOf, AnswersQuestion, AnswerPoint, exchange_at, point_behind, put_of, stands_behind, texts_of}
+use Rattle.im_dialogue.specs.Talk.{Exchange, IsOutcomeOf, AnswersQuestion, exchange_at, point_behind, put_of, stands_behind, texts_of}
 use Rattle.im_dialogue.specs.Hearing.{Hears, HearsSome}
 use Rattle.im_dialogue.specs.Talk.{HasSaid, Halts, TalksOn, TalkEnds, backups_of, outputs, questions_of}
 use Rattle.im_dialogue.specs.Talk.{with_left}
@@ -224,9 +221,6 @@ module _ (watch : Bool) (b : GroupStart) where
     abbrev here : Contents
     here = after b.memory (put_of b.memory told.said)
 
-    abbrev stand : AnswerPoint
-    stand = record { turns = told.turns; point = point_between b ahead }
-
     abbrev exchange : LineAnswer → Exchange
     exchange answer = exchange_at line answer name (point_between b ahead)
 
@@ -276,7 +270,7 @@ module _ (watch : Bool) (b : GroupStart) where
           told.turns,
           (
             subst (λ (o : Option Question). AnswersQuestion here (b.point.count + length (put_of b.memory told.said))
-                stand o (ServedAs c answered_so)) (sym asked) (
+                told.turns (point_between b ahead) o (ServedAs c answered_so)) (sym asked) (
                   answered_so,
                   refl,
                   subst (λ (m : Contents). IsOutcomeOf m (point_between b ahead) c answered_so) told.memory
@@ -317,11 +311,11 @@ module _ (watch : Bool) (b : GroupStart) where
             told.turns,
             (
               subst (λ (o : Option Question). AnswersQuestion here (b.point.count + length (put_of b.memory told.said))
-                  stand o answer) (sym read)
-                  (subst (λ (m : Contents). AnswersQuestion m (b.point.count + length (put_of b.memory told.said)) stand
-                  (Some asked) answer) told.memory
-                  (subst (λ (l : List Command). AnswersQuestion (memory_between b ahead) (b.point.count + length l) stand
-                  (Some asked) answer) (sym told.put)
+                  told.turns (point_between b ahead) o answer) (sym read)
+                  (subst (λ (m : Contents). AnswersQuestion m (b.point.count + length (put_of b.memory told.said))
+                  told.turns (point_between b ahead) (Some asked) answer) told.memory
+                  (subst (λ (l : List Command). AnswersQuestion (memory_between b ahead) (b.point.count + length l)
+                  told.turns (point_between b ahead) (Some asked) answer) (sym told.put)
                   (shown.answers told.turns))),
               (told.lead, told.answered),
             ),

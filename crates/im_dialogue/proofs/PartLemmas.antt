@@ -33,9 +33,9 @@ use Rattle.im_dialogue.specs.Looks.{may_alter, may_change, may_reach}
 use Rattle.im_dialogue.specs.Showing.{block_said, cell_said, recall}
 use Rattle.im_dialogue.specs.Together.{LineAsksFor, GroupStart, memory_between, places_between}
 use Rattle.im_dialogue.specs.Together.{with_member, members_in}
-use Rattle.im_dialogue.specs.Together.{disturbs, LeavesShown, IsKnown, IsKnownBehind, IsGroupLine, StandTogether, MayBeServed}
+use Rattle.im_dialogue.specs.Together.{disturbs, LeavesShown, IsKnownBehind, IsGroupLine, StandTogether, MayBeServed}
 use Rattle.im_dialogue.specs.Together.{MayStandNext, member_result, line_answer, answers_behind, part_question, question_of}
-use Rattle.im_dialogue.specs.Watching.{told_with, watch_text}
+use Rattle.im_dialogue.specs.Watching.{told_with}
 use Rattle.im_dialogue.specs.Telling.{SaysAll, WasServed}
 use Rattle.im_dialogue.proofs.GroupTalk.{left_and_put, put_few, told_none, told_member, told_shown}
 use Rattle.im_dialogue.proofs.HearingLemmas.{heard_some}

@@ -7,7 +7,7 @@ use Rattle.std.specs.Io.KnownBytes.{Appends}
 use Rattle.std.proofs.KnownBytes.{Appends-nil, Appends-trans}
 use Rattle.std.proofs.lemmas.List.{append-nil}
 use Rattle.im_text.specs.Printing.{Begins}
-use Rattle.im_text.proofs.PrintingLemmas.{take-all, true_false}
+use Rattle.im_text.proofs.PrintingLemmas.{true_false}
 use Rattle.im_dialogue.specs.Answers.{answer_text}
 use Rattle.im_dialogue.specs.Watching.{watch_text}
 use Rattle.im_types.specs.declared.TheConstants.{MAX_GROUP}
@@ -39,9 +39,9 @@ use Rattle.im_dialogue.specs.Backups.{Backup}
 use Rattle.im_turning.specs.Turning.{HasMadeRoom, IsSpent, Point, TurnsLead, point_of}
 use Rattle.im_turning.proofs.TurningLemmas.{turn_leads}
 use Rattle.im_dialogue.specs.Hearing.{Hears, HearsSome, is_quit, questions_left}
-use Rattle.im_dialogue.specs.Talk.{AnswerPoint, AnswersQuestion, AreAnswered, AreKept, Exchange, IsOutcomeOf, Outputs}
+use Rattle.im_dialogue.specs.Talk.{AnswersQuestion, AreAnswered, AreKept, Exchange, IsOutcomeOf, Outputs}
 use Rattle.im_dialogue.specs.Talk.{HasEnded, HasSaid, Halts, OnlyTurned, SaysLine, SaysNow, TalkEnds, Talking, TalksOn}
-use Rattle.im_dialogue.specs.Talk.{backup_by, backups_of, behind_answer, exchange_at, is_end, outputs, point_behind}
+use Rattle.im_dialogue.specs.Talk.{backup_by, backups_of, exchange_at, is_end, outputs, point_behind}
 use Rattle.im_dialogue.specs.Talk.{put_by, put_of, questions_of, stands_behind, texts_of, with_left}
 use Rattle.im_dialogue.proofs.HearingLemmas.{hears_as, hears_none, hears_on, hears_some_on, heard_some, none_heard}
 use Rattle.im_dialogue.proofs.HearingLemmas.{on_default, same_left}
@@ -51,17 +51,17 @@ abbrev pub Left : Type 0
 Left = Option (List (Option Question))
 
 -- what was answered doesn't end the dialogue
-pub not_quit : (m : Contents) (n : ℕ) (here : AnswerPoint) (asked : Question) (answer : LineAnswer)
-    → AnswersQuestion m n here (Some asked) answer → is_quit (Some asked) ≡ false
-not_quit m n here (asks.Serve command) answer it = refl
-not_quit m n here (asks.Look look) answer it = refl
-not_quit m n here (asks.Window element) answer it = refl
-not_quit m n here asks.Room answer it = refl
-not_quit m n here asks.Turn answer it = refl
-not_quit m n here asks.Count answer it = refl
-not_quit m n here asks.About answer it = refl
-not_quit m n here (asks.Backup name) answer it = refl
-not_quit m n here asks.Quit answer it = absurd it
+pub not_quit : (m : Contents) (n : ℕ) (turns : List TurnDone) (here : Point) (asked : Question) (answer : LineAnswer)
+    → AnswersQuestion m n turns here (Some asked) answer → is_quit (Some asked) ≡ false
+not_quit m n turns here (asks.Serve command) answer it = refl
+not_quit m n turns here (asks.Look look) answer it = refl
+not_quit m n turns here (asks.Window element) answer it = refl
+not_quit m n turns here asks.Room answer it = refl
+not_quit m n turns here asks.Turn answer it = refl
+not_quit m n turns here asks.Count answer it = refl
+not_quit m n turns here asks.About answer it = refl
+not_quit m n turns here (asks.Backup name) answer it = refl
+not_quit m n turns here asks.Quit answer it = absurd it
 
 pub ok_no_device : (outcome : Outcome) → (a : Result Outcome Refusal) → a ≡ Ok outcome → a ≡ Err Device → ⊥
 ok_no_device outcome a is e = absurd (cc)
@@ -213,8 +213,7 @@ turns_append (t ∷ ts) us p q r first (mid, (before, last)) = (mid, (turns_appe
 
 -- an answer behind more turns
 answers_later : (m : Contents) (n : ℕ) (turns more : List TurnDone) (p : Point) (asked : Option Question)
-    (answer : LineAnswer) → AnswersQuestion m n (record { turns = turns; point = p }) asked answer
-    → AnswersQuestion m n (record { turns = turns ++ more; point = p }) asked answer
+    (answer : LineAnswer) → AnswersQuestion m n turns p asked answer → AnswersQuestion m n (turns ++ more) p asked answer
 answers_later m n turns more p (Some (asks.Serve command)) answer it = it
 answers_later m n turns more p (Some (asks.Look look)) answer it = it
 answers_later m n turns more p (Some (asks.Window element)) answer it = it
@@ -236,13 +235,13 @@ module _ (m : Contents) (p : Point) (xs : List Exchange) (q : Point) (us : List 
   turns_before : (ys : List Exchange)
       → (more : List TurnDone) × TurnsLead more (stands_behind m p (ys ++ xs)) (stands_behind here q ys)
   turns_before [] = (us, lead)
-  turns_before (y ∷ ys) = ([], ap (λ (k : Contents). behind_answer k y) (sym (behind_append m ys xs)))
+  turns_before (y ∷ ys) = ([], ap (λ (k : Contents). point_behind (length (put_by k y.answer)) y.here)
+      (sym (behind_append m ys xs)))
 
   answered_append : (ys : List Exchange) → AreAnswered here q ys → AreAnswered m p xs → AreAnswered m p (ys ++ xs)
   answered_append [] it base = base
   answered_append (y ∷ ys) (turns, (answer, (led, rest))) base =
       let before = turns_before ys in
-      let at : AnswerPoint = record { turns = turns ++ before.0; point = y.here } in
       let same : after here (put_of here ys) ≡ after m (put_of m (ys ++ xs)) = sym (behind_append m ys xs) in
       let count : q.count + length (put_of here ys) ≡ p.count + length (put_of m (ys ++ xs)) = omega (
         arith,
@@ -252,9 +251,10 @@ module _ (m : Contents) (p : Point) (xs : List Exchange) (q : Point) (us : List 
       ) in (
         turns ++ before.0,
         (
-          subst (λ (n : ℕ). AnswersQuestion (after m (put_of m (ys ++ xs))) n at (asked_of y.line) y.answer) count
-              (subst (λ (k : Contents). AnswersQuestion k (q.count + length (put_of here ys)) at (asked_of y.line) y.answer)
-              same
+          subst (λ (n : ℕ). AnswersQuestion (after m (put_of m (ys ++ xs))) n (turns ++ before.0) y.here
+              (asked_of y.line) y.answer) count
+              (subst (λ (k : Contents). AnswersQuestion k (q.count + length (put_of here ys)) (turns ++ before.0) y.here
+              (asked_of y.line) y.answer) same
               (answers_later (after here (put_of here ys)) (q.count + length (put_of here ys)) turns before.0 y.here
               (asked_of y.line) y.answer answer)),
           (
@@ -404,8 +404,7 @@ module _ {D : Type 0} (old new : SessionState D) (c : Command) (a : Result Outco
       → (old.engine.room ≡ 0 → IsSpent (point_of old.engine)) → SaysLine old new (Some (asks.Serve c)) (Served c told)
   serve_says told is unless spent = λ f line name asked.
       let said = command_said old.engine new.engine c a f it unless spent in
-      let here : Point = point_of old.engine in
-      let at : AnswerPoint = record { turns = []; point = here } in (
+      let here : Point = point_of old.engine in (
         here,
         subst (λ (x : Result Outcome Refusal). HasSaid old new (exchange_at line (Served c x) name here ∷ [])) is
             (record {
@@ -413,7 +412,7 @@ module _ {D : Type 0} (old new : SessionState D) (c : Command) (a : Result Outco
                 [],
                 (
                   subst (λ (o : Option Question). AnswersQuestion old.engine.memory
-                      (old.engine.count + length (put_of old.engine.memory [])) at o (Served c a)) (sym asked)
+                      (old.engine.count + length (put_of old.engine.memory [])) [] here o (Served c a)) (sym asked)
                       (a, refl, said.outcome),
                   (refl, tt),
                 ),
@@ -443,13 +442,11 @@ module _ {D : Type 0} (old new : SessionState D) (c : Command) (a : Result Outco
 -- a line that puts nothing was answered behind turns
 quiet_said : {D : Type 0} (old new : SessionState D) (rest : HasSaid old new []) (asked : Option Question)
     (answer : LineAnswer) → ((m : Contents) → put_by m answer ≡ [])
-    → AnswersQuestion old.engine.memory old.engine.count
-    (record { turns = rest.turns; point = point_of new.engine }) asked answer
+    → AnswersQuestion old.engine.memory old.engine.count rest.turns (point_of new.engine) asked answer
     → (line name : List ℕ) → asked_of line ≡ asked
     → (here : Point) × HasSaid old new (exchange_at line answer name here ∷ [])
 quiet_said {D} old new rest asked answer none answers line name read =
     let here : Point = point_of new.engine in
-    let at : AnswerPoint = record { turns = rest.turns; point = here } in
     let nothing : put_by old.engine.memory answer ≡ [] = none old.engine.memory in
     let n : old.engine.count ≡ old.engine.count + length (put_of old.engine.memory []) = omega arith in
     let count = rest.count in (
@@ -459,8 +456,8 @@ quiet_said {D} old new rest asked answer none answers line name read =
           rest.turns,
           (
             subst (λ (o : Option Question). AnswersQuestion old.engine.memory
-                (old.engine.count + length (put_of old.engine.memory [])) at o answer) (sym read)
-                (subst (λ (k : ℕ). AnswersQuestion old.engine.memory k at asked answer) n answers),
+                (old.engine.count + length (put_of old.engine.memory [])) rest.turns here o answer) (sym read)
+                (subst (λ (k : ℕ). AnswersQuestion old.engine.memory k rest.turns here asked answer) n answers),
             (rest.lead, tt),
           ),
         );
@@ -477,7 +474,7 @@ quiet_said {D} old new rest asked answer none answers line name read =
 pub quiet : {D : Type 0} (s : SessionState D) (asked : Option Question) (answer : LineAnswer)
     → ((m : Contents) → put_by m answer ≡ [])
     → (s.engine.failed ≡ false → (turns : List TurnDone) → AnswersQuestion s.engine.memory s.engine.count
-    (record { turns = turns; point = point_of s.engine }) asked answer)
+    turns (point_of s.engine) asked answer)
     → SaysNow s asked answer
 quiet s asked answer none answers = λ f line name read.
     quiet_said s s (nothing_said s f) asked answer none (answers f []) line name read
@@ -622,25 +619,27 @@ module _ {D : Type 0} (watch : Bool) where
   -- what was answered
   answered_so : (old new : SessionState D) (asked : Option Question) (answer : LineAnswer) (line name : List ℕ)
       (here : Point) → asked_of line ≡ asked → (it : HasSaid old new (exchange_at line answer name here ∷ []))
-      → AnswersQuestion old.engine.memory (old.engine.count + length (put_of old.engine.memory []))
-      (record { turns = it.answered.0; point = here }) asked answer
+      → AnswersQuestion old.engine.memory (old.engine.count + length (put_of old.engine.memory [])) it.answered.0 here
+      asked answer
   answered_so old new asked answer line name here read it =
       subst (λ (o : Option Question). AnswersQuestion old.engine.memory
-      (old.engine.count + length (put_of old.engine.memory [])) (record { turns = it.answered.0; point = here }) o
-      answer) read it.answered.1.0
+      (old.engine.count + length (put_of old.engine.memory [])) it.answered.0 here o answer) read it.answered.1.0
 
   module _ (old new : SessionState D) (was is : Outputs) (asked : Option Question) (answer : LineAnswer)
       (line name told : List ℕ) (read : asked_of line ≡ asked) (says : SaysLine old new asked answer)
-      (tells : (n : ℕ) (here : AnswerPoint) → AnswersQuestion old.engine.memory n here asked answer
+      (tells : (n : ℕ) (turns : List TurnDone) (here : Point) → AnswersQuestion old.engine.memory n turns here asked answer
       → told ≡ line_on name old.engine.memory answer)
       (kept : is.backups ≡ backup_by old.engine.memory answer ++ was.backups) where
+    abbrev many : ℕ
+    many = old.engine.count + length (put_of old.engine.memory [])
+
     one_kept : (here : Point) → AreKept old.engine.memory was is (exchange_at line answer name here ∷ [])
     one_kept here = kept
         ∙ ap (λ (l : List Backup). l ++ was.backups) (sym (append-nil (backup_by old.engine.memory answer)))
 
     -- it was printed, and those behind it
     pub talks_on : Appends was.text is.text told
-        → ((n : ℕ) (here : AnswerPoint) → AnswersQuestion old.engine.memory n here asked answer
+        → ((n : ℕ) (turns : List TurnDone) (here : Point) → AnswersQuestion old.engine.memory n turns here asked answer
         → Hears was.left is.left (asked ∷ []))
         → On old was new is
     talks_on printed hears = λ f.
@@ -649,14 +648,14 @@ module _ {D : Type 0} (watch : Bool) where
         record {
           said = exchange_at line answer name said.0 ∷ [];
           done = said.1;
-          printed = subst (Appends was.text is.text) (tells _ _ so) printed;
+          printed = subst (Appends was.text is.text) (tells many said.1.answered.0 said.0 so) printed;
           backups = one_kept said.0;
-          heard = subst (λ (o : Option Question). Hears was.left is.left (o ∷ [])) (sym read) (hears _ _ so);
+          heard = subst (λ (o : Option Question). Hears was.left is.left (o ∷ [])) (sym read) (hears many said.1.answered.0 said.0 so);
         }
 
     -- a beginning of them was printed
     pub talk_ends : (left : Left) → Begins was.text is.text told
-        → ((n : ℕ) (here : AnswerPoint) → AnswersQuestion old.engine.memory n here asked answer
+        → ((n : ℕ) (turns : List TurnDone) (here : Point) → AnswersQuestion old.engine.memory n turns here asked answer
         → Hears was.left left (asked ∷ []))
         → Ends old was new is
     talk_ends left printed hears = λ f.
@@ -665,10 +664,10 @@ module _ {D : Type 0} (watch : Bool) where
         record {
           said = exchange_at line answer name said.0 ∷ [];
           ended = ended_here old new (exchange_at line answer name said.0 ∷ []) said.1;
-          printed = subst (Begins was.text is.text) (tells _ _ so) printed;
+          printed = subst (Begins was.text is.text) (tells many said.1.answered.0 said.0 so) printed;
           backups = one_kept said.0;
           heard = heard_some was.left left (asked_of line ∷ [])
-              (subst (λ (o : Option Question). Hears was.left left (o ∷ [])) (sym read) (hears _ _ so));
+              (subst (λ (o : Option Question). Hears was.left left (o ∷ [])) (sym read) (hears many said.1.answered.0 said.0 so));
         }
 
   -- ---- what is left, by another name

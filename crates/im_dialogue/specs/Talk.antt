@@ -1,6 +1,6 @@
 -- A dialogue over a session: what was asked, what it was answered, and what was put. (Own.)
 use Rattle.std.specs.Prelude.{◌≡◌, ◌⊎◌, ℕ, zero, suc, ◌+◌, ◌≤◌, Bool, true, false, List, [], ◌∷◌, ◌++◌, length, take}
-use Rattle.std.specs.Prelude.{Option, None, Some, MatchOption, MatchResult, Result, Ok, Err}
+use Rattle.std.specs.Prelude.{Option, None, Some, IfOk, MatchOption, MatchResult, Result, Ok, Err}
 use Rattle.im_types.specs.declared.TheConstants.{MAX_GROUP}
 use Rattle.std.specs.Io.KnownBytes.{Appends}
 use Rattle.im_types.specs.declared.commands.Command.{Command}
@@ -34,11 +34,6 @@ use Rattle.im_dialogue.specs.Watching.{watch_text}
 
 -- ---- what was said
 
--- where an engine stood as it answered: the turns since the answer before, the last first, and where they led
-pub record AnswerPoint : Type 0 where
-  pub turns : List TurnDone
-  pub point : Point
-
 -- a line that was asked, without its line feed, or the first 4,097 bytes of a longer one; its answer; the name of the
 -- refusal, or the words for where the line goes wrong or why a backup isn't kept; and where the engine stood
 pub record Exchange : Type 0 where
@@ -64,27 +59,25 @@ about_of m slots commands room = record {
   room = room;
 }
 
--- if a backup is kept, it is said to be of this many commands
-abbrev pub CountsIf : ℕ → Result ℕ BackupFault → Type 0
-CountsIf commands (Ok count) = count ≡ commands
-CountsIf commands (Err fault) = Unit {0}
-
--- the answer to what is asked, on this memory, after this many commands, of an engine that stands here
-abbrev pub AnswersQuestion : Contents → ℕ → AnswerPoint → Option Question → LineAnswer → Type 0
-AnswersQuestion m commands here (Some (asks.Serve command)) answer =
-    (outcome : Result Outcome Refusal) × (answer ≡ Served command outcome) × IsOutcomeOf m here.point command outcome
-AnswersQuestion m commands here (Some (asks.Look look)) answer = answer ≡ Looked look
-AnswersQuestion m commands here (Some (asks.Window element)) answer = answer ≡ Window element (bounds m.windows element)
-AnswersQuestion m commands here (Some asks.Room) answer = answer ≡ Room here.point.room
-AnswersQuestion m commands here (Some asks.Turn) answer =
-    (done : TurnDone) × ((answer ≡ Turned done) × ((before : List TurnDone) × (here.turns ≡ done ∷ before)))
-AnswersQuestion m commands here (Some asks.Count) answer = answer ≡ Count commands
-AnswersQuestion m commands here (Some asks.About) answer =
-    (slots : ℕ) × (answer ≡ Facts (about_of m slots commands here.point.room))
-AnswersQuestion m commands here (Some (asks.Backup name)) answer =
-    (kept : Result ℕ BackupFault) × (answer ≡ BackedUp name kept) × CountsIf commands kept
-AnswersQuestion m commands here (Some asks.Quit) answer = ⊥
-AnswersQuestion m commands here None answer = (number : ℕ) × ((fault : LineFault) × (answer ≡ Wrong number fault))
+-- The answer to what is asked, on this memory, after this many commands, of an engine that stands here behind these
+-- turns, the last first. A backup that is kept is said to be of that many commands.
+abbrev pub AnswersQuestion : Contents → ℕ → List TurnDone → Point → Option Question → LineAnswer → Type 0
+AnswersQuestion m commands turns here (Some (asks.Serve command)) answer =
+    (outcome : Result Outcome Refusal) × (answer ≡ Served command outcome) × IsOutcomeOf m here command outcome
+AnswersQuestion m commands turns here (Some (asks.Look look)) answer = answer ≡ Looked look
+AnswersQuestion m commands turns here (Some (asks.Window element)) answer =
+    answer ≡ Window element (bounds m.windows element)
+AnswersQuestion m commands turns here (Some asks.Room) answer = answer ≡ Room here.room
+AnswersQuestion m commands turns here (Some asks.Turn) answer =
+    (done : TurnDone) × ((answer ≡ Turned done) × ((before : List TurnDone) × (turns ≡ done ∷ before)))
+AnswersQuestion m commands turns here (Some asks.Count) answer = answer ≡ Count commands
+AnswersQuestion m commands turns here (Some asks.About) answer =
+    (slots : ℕ) × (answer ≡ Facts (about_of m slots commands here.room))
+AnswersQuestion m commands turns here (Some (asks.Backup name)) answer =
+    (kept : Result ℕ BackupFault) × (answer ≡ BackedUp name kept) × IfOk kept (λ count. count ≡ commands)
+AnswersQuestion m commands turns here (Some asks.Quit) answer = ⊥
+AnswersQuestion m commands turns here None answer =
+    (number : ℕ) × ((fault : LineFault) × (answer ≡ Wrong number fault))
 
 -- the command, if this answer says that it was put on the disk
 abbrev pub put_by : Contents → LineAnswer → List Command
@@ -101,22 +94,17 @@ abbrev pub point_behind : ℕ → Point → Point
 point_behind zero p = p
 point_behind (suc n) p = with_one (point_behind n p)
 
--- where an engine on this memory stands behind an answer
-abbrev pub behind_answer : Contents → Exchange → Point
-behind_answer m x = point_behind (length (put_by m x.answer)) x.here
-
--- where it stands behind all that was said, with no turn since
+-- where an engine stands behind all that was said on this memory from this point on, with no turn since
 abbrev pub stands_behind : Contents → Point → List Exchange → Point
 stands_behind m p [] = p
-stands_behind m p (x ∷ xs) = behind_answer (after m (put_of m xs)) x
+stands_behind m p (x ∷ xs) = point_behind (length (put_by (after m (put_of m xs)) x.answer)) x.here
 
 -- Each line was answered on the memory after what was put before it, at a point to which turns led from where the
 -- engine stood behind the line before.
 abbrev pub AreAnswered : Contents → Point → List Exchange → Type 0
 AreAnswered m p [] = Unit {0}
 AreAnswered m p (x ∷ xs) = (turns : List TurnDone)
-    × (AnswersQuestion (after m (put_of m xs)) (p.count + length (put_of m xs))
-    (record { turns = turns; point = x.here }) (asked_of x.line) x.answer
+    × (AnswersQuestion (after m (put_of m xs)) (p.count + length (put_of m xs)) turns x.here (asked_of x.line) x.answer
     × (TurnsLead turns (stands_behind m p xs) x.here × AreAnswered m p xs))
 
 -- the lines that were answered on this memory, one below the other; if the dialogue is watched, each is followed by the
@@ -144,12 +132,6 @@ KeepsNone answer = (m : Contents) → backup_by m answer ≡ []
 abbrev pub backups_of : Contents → List Exchange → List Backup
 backups_of m [] = []
 backups_of m (x ∷ xs) = backup_by (after m (put_of m xs)) x.answer ++ backups_of m xs
-
--- the refusal says that a call of the disk failed, and ends the dialogue
-abbrev pub is_end : Refusal → Bool
-is_end Device = true
-is_end Failed = true
-is_end refusal = false
 
 -- the refusal says that a call of the disk failed, and ends the dialogue
 abbrev pub is_end : Refusal → Bool
@@ -244,7 +226,7 @@ with_left left o = record o { left = left }
 
 -- the same, where the input has these bytes
 abbrev pub with_input : Option (List ℕ) → Outputs → Outputs
-with_input known o = with_left (questions_left known) o
+with_input known o = record o { left = questions_left known }
 
 -- Exactly the backups that were answered are kept besides those that were.
 abbrev pub AreKept : Contents → Outputs → Outputs → List Exchange → Type 0

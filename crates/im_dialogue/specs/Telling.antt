@@ -1,5 +1,5 @@
 -- What is said by the answers to a group. (Own.)
-use Rattle.std.specs.Prelude.{◌≡◌, ℕ, ◌+◌, ◌≤◌, Bool, List, [], ◌++◌, length, map, take, Option, Result}
+use Rattle.std.specs.Prelude.{◌≡◌, ℕ, ◌≤◌, Bool, List, [], length, map, take, Option, Result}
 use Rattle.im_types.specs.declared.commands.Command.{Command}
 use Rattle.im_types.specs.declared.groups.Served.{Served}
 use Rattle.im_types.specs.Contents.{Contents}
@@ -14,7 +14,7 @@ use Rattle.im_turning.specs.Turning.{TurnsLead}
 use Rattle.im_dialogue.specs.declared.asking.Question.{Question}
 use Rattle.im_dialogue.specs.Talk.{AreAnswered, Exchange, TalksQueue, backups_of, put_of, questions_of, stands_behind}
 use Rattle.im_dialogue.specs.Talk.{texts_of}
-use Rattle.im_dialogue.specs.Together.{GroupStart, MayBeServed, group_start, count_between, memory_between}
+use Rattle.im_dialogue.specs.Together.{GroupStart, MayBeServed, group_start, memory_between}
 use Rattle.im_dialogue.specs.Together.{part_question, point_between}
 
 -- lines of a group with these members and this text, which ask for this, were said from its start on; they come to the

@@ -120,7 +120,7 @@ LeavesShown m ahead shown (Known answer) = Unit {0}
 -- disk, told or kept for it
 pub record IsKnown (m : Contents) (commands : ℕ) (point : Point) (asked : Question) (answer : LineAnswer) : Type 0 where
   pub answers : (turns : List TurnDone)
-      → AnswersQuestion m commands (record { turns = turns; point = point }) (Some asked) answer
+      → AnswersQuestion m commands turns point (Some asked) answer
   pub puts : (any : Contents) → put_by any answer ≡ []
   pub tells : (watch : Bool) (any : Contents) → watch_text watch any answer ≡ []
   pub keeps : KeepsNone answer

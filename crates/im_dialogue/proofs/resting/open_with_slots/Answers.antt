@@ -1,5 +1,4 @@
 use Rattle.std.proofs.Common.{refl}
-use Rattle.im_disk.specs.Moment.{Left}
 use Rattle.im_dialogue.proofs.DialogueLemmas.{same_start, was_opened}
 use Rattle.im_dialogue.proofs.resting.open_with_slots.Goals as goal
 

@@ -1,4 +1,4 @@
-use Rattle.std.proofs.Common.{◌≡◌, ◌∙◌, subst, ap}
+use Rattle.std.proofs.Common.{◌∙◌, subst, ap}
 use Rattle.std.specs.Prelude.{None}
 use Rattle.im_dialogue.specs.declared.serving.Setting.{Setting}
 use Rattle.im_dialogue.specs.Hearing.{asked_after, questions_left}

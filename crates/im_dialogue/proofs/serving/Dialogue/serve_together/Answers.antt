@@ -1,4 +1,4 @@
-use Rattle.std.proofs.Common.{◌≡◌, ◌≤◌, ◌∙◌, ap, arith, length, rules, sym, subst, List, ℕ}
+use Rattle.std.proofs.Common.{◌≡◌, ◌≤◌, ◌∙◌, ap, arith, length, List, ℕ}
 use Rattle.std.specs.Prelude.{None}
 use Rattle.im_dialogue.specs.declared.buffer.InBuffer.{InBuffer}
 use Rattle.im_dialogue.specs.Hearing.{end_at, left_at, questions_left}
