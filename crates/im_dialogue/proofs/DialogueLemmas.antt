@@ -78,7 +78,8 @@ module _ {D : Type 0} (disk : Ghosts D) (watch : Bool) (first last : SessionStat
   put_is said same = same ∙ ap (λ (s : SessionState D). s.put ++ put_of first.engine.memory said) begins
 
   -- all lines of the input were served
-  pub closed_on : (is : Outputs) (input : Option (List ℕ)) → TalksOn watch first was last (with_left (asked_after 0 input) is)
+  pub closed_on : (is : Outputs) (input : Option (List ℕ))
+      → TalksOn watch first was last (with_left (asked_after 0 input) is)
       → TalkClosed disk watch first.engine new was is status
   closed_on is input on =
       let it = on works in
@@ -107,7 +108,8 @@ module _ {D : Type 0} (disk : Ghosts D) (watch : Bool) (first last : SessionStat
       }
 
   -- it was ended, and no more than a refusal printed then
-  pub closed_by : (mid is : Option (List ℕ)) (backups : List Backup) → TalkEnds watch first was last (outputs mid backups)
+  pub closed_by : (mid is : Option (List ℕ)) (backups : List Backup)
+      → TalkEnds watch first was last (outputs mid backups)
       → (end : List ℕ) × (IsLast end × Begins mid is end) → status ≡ 1
       → TalkClosed disk watch first.engine new was (outputs is backups) status
   closed_by mid is backups ends end refused =

@@ -42,7 +42,8 @@ use Rattle.im_turning.specs.Turning.{Point, TurnsLead, point_of, with_one}
 use Rattle.im_types.specs.declared.TheConstants.{LAST}
 use Rattle.im_dialogue.specs.Telling.{SaysAll}
 use Rattle.im_dialogue.specs.Backups.{Backup}
-use Rattle.im_dialogue.specs.Talk.{Exchange, IsOutcomeOf, AnswersQuestion, exchange_at, point_behind, put_of, stands_behind, texts_of}
+use Rattle.im_dialogue.specs.Talk.{Exchange, IsOutcomeOf, AnswersQuestion, exchange_at, point_behind, put_of}
+use Rattle.im_dialogue.specs.Talk.{stands_behind, texts_of}
 use Rattle.im_dialogue.specs.Hearing.{Hears, HearsSome}
 use Rattle.im_dialogue.specs.Talk.{HasSaid, Halts, TalksOn, TalkEnds, backups_of, outputs, questions_of}
 use Rattle.im_dialogue.specs.Talk.{with_left}

@@ -291,7 +291,8 @@ module _ {D : Type 0} (old mid new : SessionState D) (xs ys : List Exchange) (fi
       record {
         answered = all_answered it.answered;
         turns = it.turns ++ before.0;
-        lead = turns_append it.turns before.0 _ _ (point_of new.engine) before.1
+        lead = turns_append it.turns before.0 (stands_behind was (point_of old.engine) (ys ++ xs))
+            (stands_behind (after was (put_of was xs)) (point_of mid.engine) ys) (point_of new.engine) before.1
             (subst (λ (k : Contents). TurnsLead it.turns (stands_behind k (point_of mid.engine) ys) (point_of new.engine))
             first.memory it.lead);
         same = it.same

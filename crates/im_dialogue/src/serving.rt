@@ -206,8 +206,7 @@ impl<D: Disk> Dialogue<D> {
         input: &mut R,
         out: &mut W,
     ) -> Result<u64, Reason>
-        ensures talks { ServesMany
-            self.old (outputs (W.contents out.old) (B.kept backups.old)) (R.remaining input.old)
+        ensures talks { ServesMany self.old (outputs (W.contents out.old) (B.kept backups.old)) (R.remaining input.old)
             self.new (outputs (W.contents out.new) (B.kept backups.new)) (R.remaining input.new) result }
         ensures same { self.new.setting ≡ self.old.setting }
     {
@@ -231,8 +230,7 @@ impl<D: Disk> Dialogue<D> {
         input: &mut R,
         out: &mut W,
     ) -> Result<u64, Reason>
-        ensures talks { ServesMany
-            self.old (outputs (W.contents out.old) (B.kept backups.old)) (R.remaining input.old)
+        ensures talks { ServesMany self.old (outputs (W.contents out.old) (B.kept backups.old)) (R.remaining input.old)
             self.new (outputs (W.contents out.new) (B.kept backups.new)) (R.remaining input.new) result }
         ensures same { self.new.setting ≡ self.old.setting }
     {
@@ -282,8 +280,7 @@ impl<D: Disk> Dialogue<D> {
         input: &mut R,
         out: &mut W,
     ) -> Result<(), Reason>
-        ensures talks { ServesAll
-            self.old (outputs (W.contents out.old) (B.kept backups.old)) (R.remaining input.old)
+        ensures talks { ServesAll self.old (outputs (W.contents out.old) (B.kept backups.old)) (R.remaining input.old)
             self.new (outputs (W.contents out.new) (B.kept backups.new)) (R.remaining input.new) result }
         ensures same { self.new.setting ≡ self.old.setting }
     {

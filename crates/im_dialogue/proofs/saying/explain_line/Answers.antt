@@ -16,7 +16,8 @@ returns-in-Ok-say g c = λ watch rest kept.
     (with_left (asking None rest) (outputs (g.W.Write.contents c.args.out.now) kept))
     (with_left (left_behind true rest) (outputs (g.W.Write.contents c.say.new.out) kept)) None
     c.wrong-answer.result c.args.line.now said.0 _ c.requires.wrong c.wrong-answer.ensures.answered
-    (λ n turns here a. wrong_line_is watch said.0 session.engine.memory _ n turns here c.wrong-answer.result c.memory.ensures a)
+    (λ n turns here a. wrong_line_is watch said.0 session.engine.memory _ n turns here c.wrong-answer.result
+    c.memory.ensures a)
     (ap (λ (a : LineAnswer). backup_by session.engine.memory a ++ kept) (sym c.wrong-answer.ensures.answer)) said.1
     (λ n turns here a. hears_line None rest refl)
 
@@ -28,7 +29,8 @@ returns-in-Err-say g c = λ watch rest kept.
     (with_left (asking None rest) (outputs (g.W.Write.contents c.args.out.now) kept))
     (outputs (g.W.Write.contents c.say.new.out) kept) None
     c.wrong-answer.result c.args.line.now said.0 _ c.requires.wrong c.wrong-answer.ensures.answered
-    (λ n turns here a. wrong_line_is watch said.0 session.engine.memory _ n turns here c.wrong-answer.result c.memory.ensures a)
+    (λ n turns here a. wrong_line_is watch said.0 session.engine.memory _ n turns here c.wrong-answer.result
+    c.memory.ensures a)
     (ap (λ (a : LineAnswer). backup_by session.engine.memory a ++ kept) (sym c.wrong-answer.ensures.answer))
     (left_behind true rest) said.1 (λ n turns here a. hears_line None rest refl)
 

@@ -23,20 +23,21 @@ returns-in-Ok-clause-talks g c = λ line read rest.
     let old = c.args.self.now.session in
     let answer = c.in-Ok-Some.answer in
     let said = c.in-Ok.ensures in
-    let told : c.told_with-told.result.now ≡ told_with answer (told_by watch old.engine.memory (Some c.args.asked)) = search
-    rules
-    in
+    let told : c.told_with-told.result.now ≡ told_with answer (told_by watch old.engine.memory (Some c.args.asked))
+    = search rules in
     talks_on watch old c.answer.new.session
     (with_left (asking (Some c.args.asked) rest)
     (outputs (g.W.Write.contents c.args.out.now) (g.B.Backups.kept c.args.backups.now)))
     (with_left (left_behind true rest)
     (outputs (g.W.Write.contents c.say.new.out) (g.B.Backups.kept c.answer.new.backups)))
     (Some c.args.asked) answer line said.0 _ read (rw c.in-Ok-Some.field-0-is at c.in-Ok-Some.ensures.answered)
-    (λ n turns here a. line_is watch said.0 old.engine.memory _ n turns here c.args.asked answer c.told_with-told.result.now
+    (λ n turns here a. line_is watch said.0 old.engine.memory _ n turns here c.args.asked answer
+    c.told_with-told.result.now
     (λ look is. c.memory-in-Ok-Some.ensures
     ∙ ap (λ (s : SessionState _). s.engine.memory) (c.answer.ensures.same look is))
     told a) (rw c.in-Ok-Some.field-0-is at c.in-Ok-Some.ensures.kept) said.1
-    (λ n turns here a. hears_line (Some c.args.asked) rest (not_quit old.engine.memory n turns here c.args.asked answer a))
+    (λ n turns here a. hears_line (Some c.args.asked) rest
+    (not_quit old.engine.memory n turns here c.args.asked answer a))
 
 pub returns-in-Err-say-clause-talks : goal.returns-in-Err-say-clause-talks
 returns-in-Err-say-clause-talks g c = λ line read rest.
@@ -44,19 +45,20 @@ returns-in-Err-say-clause-talks g c = λ line read rest.
     let old = c.args.self.now.session in
     let answer = c.in-Ok-Some.answer in
     let said = c.in-Err-say.ensures in
-    let told : c.told_with-told.result.now ≡ told_with answer (told_by watch old.engine.memory (Some c.args.asked)) = search
-    rules
-    in
+    let told : c.told_with-told.result.now ≡ told_with answer (told_by watch old.engine.memory (Some c.args.asked))
+    = search rules in
     talk_ends watch old c.answer.new.session
     (with_left (asking (Some c.args.asked) rest)
     (outputs (g.W.Write.contents c.args.out.now) (g.B.Backups.kept c.args.backups.now)))
     (outputs (g.W.Write.contents c.say.new.out) (g.B.Backups.kept c.answer.new.backups))
     (Some c.args.asked) answer line said.0 _ read (rw c.in-Ok-Some.field-0-is at c.in-Ok-Some.ensures.answered)
-    (λ n turns here a. line_is watch said.0 old.engine.memory _ n turns here c.args.asked answer c.told_with-told.result.now
+    (λ n turns here a. line_is watch said.0 old.engine.memory _ n turns here c.args.asked answer
+    c.told_with-told.result.now
     (λ look is. c.memory-in-Ok-Some.ensures
     ∙ ap (λ (s : SessionState _). s.engine.memory) (c.answer.ensures.same look is))
     told a) (rw c.in-Ok-Some.field-0-is at c.in-Ok-Some.ensures.kept) (left_behind true rest) said.1
-    (λ n turns here a. hears_line (Some c.args.asked) rest (not_quit old.engine.memory n turns here c.args.asked answer a))
+    (λ n turns here a. hears_line (Some c.args.asked) rest
+    (not_quit old.engine.memory n turns here c.args.asked answer a))
 
 pub returns-in-Err-answer-clause-talks : goal.returns-in-Err-answer-clause-talks
 returns-in-Err-answer-clause-talks g c = λ line read rest.

@@ -17,8 +17,8 @@ pub returns-clause-same : goal.returns-clause-same
 returns-clause-same g c =
     let e = c.sweep.ensures in
     let goes = sweep_goes g.D.Disk c.self.inside.engine c.sweep.new.self
-    (record { since = e.leaves; now = e.now; means = e.means; honest = e.honest }) c.args.most c.sweep.result e.answered e.faults
-    in
+    (record { since = e.leaves; now = e.now; means = e.means; honest = e.honest }) c.args.most c.sweep.result e.answered
+    e.faults in
     rw (← c.self.view_is) (record {
       same = refl;
       memory = memory_stays g.D.Disk c.self.inside.engine c.sweep.new.self goes;
