@@ -150,8 +150,8 @@ module _ {D : Type 0} (old new : EngineState D) (c : Command) (a : Result Outcom
       (λ accepted. ⊎_elim
       (λ none. let full = it.full f accepted none in
       stayed_by (inr (accepted, (full.0, (none, spent none)))) (ap (sure_by old.memory c) full.0)
-      (ap (doubted_by old.memory c) full.0 ∙ ap (λ (b : Bool). if b && is_device JournalFull then c ∷ [] else []) accepted)
-      full.1)
+      (ap (doubted_by old.memory c) full.0
+      ∙ ap (λ (b : Bool). if b && is_device JournalFull then c ∷ [] else []) accepted) full.1)
       (λ some. ⊎_elim
       (λ done. put_by_it accepted done.0 done.1)
       (λ fault. absurd (unless fault.0))
@@ -213,7 +213,8 @@ turns_append (t ∷ ts) us p q r first (mid, (before, last)) = (mid, (turns_appe
 
 -- an answer behind more turns
 answers_later : (m : Contents) (n : ℕ) (turns more : List TurnDone) (p : Point) (asked : Option Question)
-    (answer : LineAnswer) → AnswersQuestion m n turns p asked answer → AnswersQuestion m n (turns ++ more) p asked answer
+    (answer : LineAnswer) → AnswersQuestion m n turns p asked answer
+    → AnswersQuestion m n (turns ++ more) p asked answer
 answers_later m n turns more p (Some (asks.Serve command)) answer it = it
 answers_later m n turns more p (Some (asks.Look look)) answer it = it
 answers_later m n turns more p (Some (asks.Window element)) answer it = it
@@ -278,23 +279,25 @@ module _ {D : Type 0} (old mid new : SessionState D) (xs ys : List Exchange) (fi
   all_put = put_append was ys xs ∙ ap (λ (k : Contents). put_of was xs ++ put_of k ys) (sym first.memory)
 
   all_answered : AreAnswered been (point_of mid.engine) ys → AreAnswered was (point_of old.engine) (ys ++ xs)
-  all_answered it = answered_append was (point_of old.engine) xs (point_of mid.engine) first.turns first.lead first.count
-      ys (subst (λ (k : Contents). AreAnswered k (point_of mid.engine) ys) first.memory it) first.answered
+  all_answered it = answered_append was (point_of old.engine) xs (point_of mid.engine) first.turns first.lead
+      first.count ys (subst (λ (k : Contents). AreAnswered k (point_of mid.engine) ys) first.memory it) first.answered
 
   -- what the session has put then
   all_of_it : old.put ++ put_of was (ys ++ xs) ≡ (old.put ++ put_of was xs) ++ put_of been ys
-  all_of_it = ap (λ (l : List Command). old.put ++ l) all_put ∙ sym (append_assoc old.put (put_of was xs) (put_of been ys))
+  all_of_it = ap (λ (l : List Command). old.put ++ l) all_put
+      ∙ sym (append_assoc old.put (put_of was xs) (put_of been ys))
 
   pub said_on : HasSaid mid new ys → HasSaid old new (ys ++ xs)
   said_on it =
-      let before = turns_before was (point_of old.engine) xs (point_of mid.engine) first.turns first.lead first.count ys in
+      let before = turns_before was (point_of old.engine) xs (point_of mid.engine) first.turns first.lead first.count ys
+      in
       record {
         answered = all_answered it.answered;
         turns = it.turns ++ before.0;
         lead = turns_append it.turns before.0 (stands_behind was (point_of old.engine) (ys ++ xs))
             (stands_behind (after was (put_of was xs)) (point_of mid.engine) ys) (point_of new.engine) before.1
-            (subst (λ (k : Contents). TurnsLead it.turns (stands_behind k (point_of mid.engine) ys) (point_of new.engine))
-            first.memory it.lead);
+            (subst (λ (k : Contents). TurnsLead it.turns (stands_behind k (point_of mid.engine) ys)
+            (point_of new.engine)) first.memory it.lead);
         same = it.same
             ∙ ap (λ (s : SessionState D). session_of s.start (s.put ++ put_of been ys) s.doubt new.engine) first.same
             ∙ ap (λ (l : List Command). session_of old.start l old.doubt new.engine) (sym all_of_it);
@@ -421,8 +424,8 @@ module _ {D : Type 0} (old new : SessionState D) (c : Command) (a : Result Outco
               turns = [];
               lead = said.point;
               same = put
-                  ∙ ap (λ (l : List Command). session_of old.start (old.put ++ sure_by old.engine.memory c a) l new.engine)
-                  (ap (λ (l : List Command). old.doubt ++ l) said.doubt ∙ append-nil old.doubt);
+                  ∙ ap (λ (l : List Command). session_of old.start (old.put ++ sure_by old.engine.memory c a) l
+                  new.engine) (ap (λ (l : List Command). old.doubt ++ l) said.doubt ∙ append-nil old.doubt);
               memory = said.memory;
               count = said.count;
               works = said.works;
@@ -464,7 +467,8 @@ quiet_said {D} old new rest asked answer none answers line name read =
         );
         turns = [];
         lead = sym (ap (λ (l : List Command). point_behind (length l) here) nothing);
-        same = rest.same ∙ ap (λ (l : List Command). session_of old.start (old.put ++ l) old.doubt new.engine) (sym nothing);
+        same = rest.same
+            ∙ ap (λ (l : List Command). session_of old.start (old.put ++ l) old.doubt new.engine) (sym nothing);
         memory = rest.memory ∙ ap (λ (l : List Command). after old.engine.memory l) (sym nothing);
         count = omega (arith, count, ap (λ (l : List Command). length l) nothing);
         works = rest.works;
@@ -553,8 +557,8 @@ module _ {D : Type 0} (watch : Bool) where
             (Appends-trans was.text been.text (is n).text (texts_of watch old.engine.memory a.said)
             (texts_of watch mid.engine.memory b.said) a.printed b.printed);
         backups = all_kept old mid was been a b.said (is n) b.backups;
-        heard = subst (λ (l : List (Option Question)). Hears was.left (is n).left l) (sym (questions_append b.said a.said))
-            (hears_on was.left been.left (is n).left (questions_of a.said) (questions_of b.said) a.heard b.heard);
+        heard = subst (λ (l : List (Option Question)). Hears was.left (is n).left l)
+            (sym (questions_append b.said a.said)) (hears_on was.left been.left (is n).left (questions_of a.said) (questions_of b.said) a.heard b.heard);
       }
   then_talks old mid new was been is end (Err e) on it = λ f.
       let a = on f in
@@ -628,8 +632,8 @@ module _ {D : Type 0} (watch : Bool) where
 
   module _ (old new : SessionState D) (was is : Outputs) (asked : Option Question) (answer : LineAnswer)
       (line name told : List ℕ) (read : asked_of line ≡ asked) (says : SaysLine old new asked answer)
-      (tells : (n : ℕ) (turns : List TurnDone) (here : Point) → AnswersQuestion old.engine.memory n turns here asked answer
-      → told ≡ line_on name old.engine.memory answer)
+      (tells : (n : ℕ) (turns : List TurnDone) (here : Point)
+      → AnswersQuestion old.engine.memory n turns here asked answer → told ≡ line_on name old.engine.memory answer)
       (kept : is.backups ≡ backup_by old.engine.memory answer ++ was.backups) where
     abbrev many : ℕ
     many = old.engine.count + length (put_of old.engine.memory [])
@@ -640,8 +644,8 @@ module _ {D : Type 0} (watch : Bool) where
 
     -- it was printed, and those behind it
     pub talks_on : Appends was.text is.text told
-        → ((n : ℕ) (turns : List TurnDone) (here : Point) → AnswersQuestion old.engine.memory n turns here asked answer
-        → Hears was.left is.left (asked ∷ []))
+        → ((n : ℕ) (turns : List TurnDone) (here : Point)
+        → AnswersQuestion old.engine.memory n turns here asked answer → Hears was.left is.left (asked ∷ []))
         → On old was new is
     talks_on printed hears = λ f.
         let said = says f line name read in
@@ -651,13 +655,14 @@ module _ {D : Type 0} (watch : Bool) where
           done = said.1;
           printed = subst (Appends was.text is.text) (tells many said.1.answered.0 said.0 so) printed;
           backups = one_kept said.0;
-          heard = subst (λ (o : Option Question). Hears was.left is.left (o ∷ [])) (sym read) (hears many said.1.answered.0 said.0 so);
+          heard = subst (λ (o : Option Question). Hears was.left is.left (o ∷ [])) (sym read)
+              (hears many said.1.answered.0 said.0 so);
         }
 
     -- a beginning of them was printed
     pub talk_ends : (left : Left) → Begins was.text is.text told
-        → ((n : ℕ) (turns : List TurnDone) (here : Point) → AnswersQuestion old.engine.memory n turns here asked answer
-        → Hears was.left left (asked ∷ []))
+        → ((n : ℕ) (turns : List TurnDone) (here : Point)
+        → AnswersQuestion old.engine.memory n turns here asked answer → Hears was.left left (asked ∷ []))
         → Ends old was new is
     talk_ends left printed hears = λ f.
         let said = says f line name read in
@@ -668,7 +673,8 @@ module _ {D : Type 0} (watch : Bool) where
           printed = subst (Begins was.text is.text) (tells many said.1.answered.0 said.0 so) printed;
           backups = one_kept said.0;
           heard = heard_some was.left left (asked_of line ∷ [])
-              (subst (λ (o : Option Question). Hears was.left left (o ∷ [])) (sym read) (hears many said.1.answered.0 said.0 so));
+              (subst (λ (o : Option Question). Hears was.left left (o ∷ [])) (sym read)
+              (hears many said.1.answered.0 said.0 so));
         }
 
   -- ---- what is left, by another name

@@ -92,8 +92,8 @@ quiet_resumes cells who (Put a v) quiet = absurd (cc)
 
 -- ---- what is told behind an answer
 
-told_is : (watch : Bool) (m : Contents) (n : ℕ) (turns : List TurnDone) (here : Point) (asked : Option Question) (answer : LineAnswer)
-    → AnswersQuestion m n turns here asked answer → told_with answer (told_by watch m asked) ≡ watch_text watch m answer
+told_is : (watch : Bool) (m : Contents) (n : ℕ) (turns : List TurnDone) (here : Point) (asked : Option Question)
+    (answer : LineAnswer) → AnswersQuestion m n turns here asked answer → told_with answer (told_by watch m asked) ≡ watch_text watch m answer
 told_is watch m n turns here (Some (asks.Serve command)) answer (outcome, is, of) = by_answer answer outcome is
   where
     by_outcome : (o : Result Outcome Refusal)
@@ -108,12 +108,12 @@ told_is watch m n turns here (Some (asks.Look look)) answer is =
     subst (λ (x : LineAnswer). told_with x [] ≡ watch_text watch m x) (sym is) refl
 told_is watch m n turns here (Some (asks.Window element)) answer is = subst
     (λ (x : LineAnswer). told_with x [] ≡ watch_text watch m x) (sym is) refl
-told_is watch m n turns here (Some asks.Room) answer is = subst (λ (x : LineAnswer). told_with x [] ≡ watch_text watch m x)
-    (sym is) refl
+told_is watch m n turns here (Some asks.Room) answer is =
+    subst (λ (x : LineAnswer). told_with x [] ≡ watch_text watch m x) (sym is) refl
 told_is watch m n turns here (Some asks.Turn) answer (done, (is, last)) = subst
     (λ (x : LineAnswer). told_with x [] ≡ watch_text watch m x) (sym is) refl
-told_is watch m n turns here (Some asks.Count) answer is = subst (λ (x : LineAnswer). told_with x [] ≡ watch_text watch m x)
-    (sym is) refl
+told_is watch m n turns here (Some asks.Count) answer is =
+    subst (λ (x : LineAnswer). told_with x [] ≡ watch_text watch m x) (sym is) refl
 told_is watch m n turns here (Some asks.About) answer (slots, is) =
     subst (λ (x : LineAnswer). told_with x [] ≡ watch_text watch m x) (sym is) refl
 told_is watch m n turns here (Some (asks.Backup backup)) answer (kept, is, of) =
@@ -123,8 +123,8 @@ told_is watch m n turns here None answer (number, (fault, is)) = subst
     (λ (x : LineAnswer). told_with x [] ≡ watch_text watch m x) (sym is) refl
 
 -- the line of an answer, on the memory after it too, which is the same if the line only looks
-plain_line : (name : List ℕ) (m now : Contents) (n : ℕ) (turns : List TurnDone) (here : Point) (asked : Question) (answer : LineAnswer)
-    → ((look : Look) → asked ≡ asks.Look look → now ≡ m) → AnswersQuestion m n turns here (Some asked) answer
+plain_line : (name : List ℕ) (m now : Contents) (n : ℕ) (turns : List TurnDone) (here : Point) (asked : Question)
+    (answer : LineAnswer) → ((look : Look) → asked ≡ asks.Look look → now ≡ m) → AnswersQuestion m n turns here (Some asked) answer
     → answer_text name now answer ≡ answer_text name m answer
 plain_line name m now n turns here (asks.Look look) answer same is =
     ap (λ (x : Contents). answer_text name x answer) (same look refl)
@@ -145,16 +145,19 @@ plain_line name m now n turns here (asks.Backup backup) answer same (kept, is, o
 plain_line name m now n turns here asks.Quit answer same none = absurd none
 
 -- the line of an answer that was asked for, and what is told behind it
-pub line_is : (watch : Bool) (name : List ℕ) (m now : Contents) (n : ℕ) (turns : List TurnDone) (here : Point) (asked : Question) (answer : LineAnswer)
+pub line_is : (watch : Bool) (name : List ℕ) (m now : Contents) (n : ℕ) (turns : List TurnDone) (here : Point)
+    (asked : Question) (answer : LineAnswer)
     (told : List ℕ) → ((look : Look) → asked ≡ asks.Look look → now ≡ m)
     → told ≡ told_with answer (told_by watch m (Some asked)) → AnswersQuestion m n turns here (Some asked) answer
     → answer_text name now answer ++ told ≡ answer_text name m answer ++ watch_text watch m answer
 line_is watch name m now n turns here asked answer told same is answers =
     ap (λ (t : List ℕ). t ++ told) (plain_line name m now n turns here asked answer same answers)
-    ∙ ap (λ (t : List ℕ). answer_text name m answer ++ t) (is ∙ told_is watch m n turns here (Some asked) answer answers)
+    ∙ ap (λ (t : List ℕ). answer_text name m answer ++ t)
+    (is ∙ told_is watch m n turns here (Some asked) answer answers)
 
 -- the line that says where a line goes wrong, with nothing behind it
-pub wrong_line_is : (watch : Bool) (name : List ℕ) (m now : Contents) (n : ℕ) (turns : List TurnDone) (here : Point) (answer : LineAnswer) → now ≡ m
+pub wrong_line_is : (watch : Bool) (name : List ℕ) (m now : Contents) (n : ℕ) (turns : List TurnDone) (here : Point)
+    (answer : LineAnswer) → now ≡ m
     → AnswersQuestion m n turns here None answer
     → answer_text name now answer ++ [] ≡ answer_text name m answer ++ watch_text watch m answer
 wrong_line_is watch name m now n turns here answer same (number, (fault, is)) =
