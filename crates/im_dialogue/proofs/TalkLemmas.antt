@@ -28,8 +28,8 @@ use Rattle.im_engine.proofs.Accepting.{accepted_answers}
 use Rattle.im_session.specs.Kept.{SessionState, session_of}
 use Rattle.im_session.specs.Put.{doubted_by, sure_by}
 use Rattle.im_session.specs.Serving.{Rests, served_one}
-use Rattle.im_session.proofs.CallLemmas.{undoubted, unsure}
 use Rattle.im_session.proofs.RoomLemmas.{rests_none, rests_then, turn_works}
+use Rattle.im_session.proofs.ServedLemmas.{undoubted, unsure}
 use Rattle.im_dialogue.specs.declared.asking.Question.{Question}
 use Rattle.im_dialogue.specs.declared.asking.Question.TheVariants as asks
 use Rattle.im_dialogue.specs.declared.answers.LineAnswer.{LineAnswer}
@@ -482,7 +482,7 @@ pub quiet : {D : Type 0} (s : SessionState D) (asked : Option Question) (answer 
     turns (point_of s.engine) asked answer)
     → SaysNow s asked answer
 quiet s asked answer none answers = λ f line name read.
-    quiet_said s s (nothing_said s f) asked answer none (answers f []) line name read
+    let rest = nothing_said s f in quiet_said s s rest asked answer none (answers f rest.turns) line name read
 
 -- a turn that was asked for, and what it did
 pub turn_says : {D : Type 0} (old new : SessionState D) (a : Result TurnDone Refusal) (done : TurnDone) → Rests old new
@@ -516,16 +516,16 @@ begins_past a b c xs ys before (many, more) = (
   subst (Appends a c) (sym (take-past xs ys many)) (Appends-trans a b c xs (take many ys) before more),
 )
 
+-- the line of an answer on this memory, and what is told behind it
+abbrev line_on : Bool → List ℕ → Contents → LineAnswer → List ℕ
+line_on watch name m answer = answer_text name m answer ++ watch_text watch m answer
+
 module _ {D : Type 0} (watch : Bool) where
   abbrev On : SessionState D → Outputs → SessionState D → Outputs → Type 0
   On = TalksOn watch
 
   abbrev Ends : SessionState D → Outputs → SessionState D → Outputs → Type 0
   Ends = TalkEnds watch
-
-  -- the line of an answer on this memory, and what is told behind it
-  abbrev line_on : List ℕ → Contents → LineAnswer → List ℕ
-  line_on name m answer = answer_text name m answer ++ watch_text watch m answer
 
   -- what was said, and then more
   module _ (old mid : SessionState D) (was been : Outputs) (a : Talking watch old was mid been) (ys : List Exchange)
@@ -582,7 +582,7 @@ module _ {D : Type 0} (watch : Bool) where
   pub ends_after : (old mid new : SessionState D) (was been is : Outputs) → On old was mid been → Ends mid been new is
       → Ends old was new is
   ends_after old mid new was been is on it =
-      then_talks {T = ⊥} old mid new was been (λ done. is) is (Err tt) on it
+      then_talks {T = ⊥} {E = Unit {0}} old mid new was been (λ done. is) is (Err tt) on it
 
   -- nothing was said, and what is left is known as well by another name
   pub nothing_talked : (old new : SessionState D) (was : Outputs) (later : Left)
@@ -633,7 +633,7 @@ module _ {D : Type 0} (watch : Bool) where
   module _ (old new : SessionState D) (was is : Outputs) (asked : Option Question) (answer : LineAnswer)
       (line name told : List ℕ) (read : asked_of line ≡ asked) (says : SaysLine old new asked answer)
       (tells : (n : ℕ) (turns : List TurnDone) (here : Point)
-      → AnswersQuestion old.engine.memory n turns here asked answer → told ≡ line_on name old.engine.memory answer)
+      → AnswersQuestion old.engine.memory n turns here asked answer → told ≡ line_on watch name old.engine.memory answer)
       (kept : is.backups ≡ backup_by old.engine.memory answer ++ was.backups) where
     abbrev many : ℕ
     many = old.engine.count + length (put_of old.engine.memory [])

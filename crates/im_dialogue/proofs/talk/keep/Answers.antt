@@ -14,7 +14,7 @@ returns-in-Ok-clause-answered g c = quiet c.args.session.now (Some (asks.Backup 
     (λ f turns. (
       Ok c.count-count.result,
       refl,
-      c.count-count.ensures ∙ ap (λ (e : EngineState _). e.count) c.engine-count.ensures.state,
+      c.count-count.ensures ∙ ap (λ (e : EngineState _). e.count) c.engine.ensures.state,
     ))
 
 pub returns-in-Ok-clause-kept : goal.returns-in-Ok-clause-kept
