@@ -1,5 +1,5 @@
 use Rattle.std.proofs.Common.{rules, arith, ◌≡◌, ◌∙◌, ◌≤◌, map, subst, false, true, length, take, string_bytes, refl}
-use Rattle.std.proofs.lemmas.List.{length-take-le}
+use Rattle.std.proofs.lemmas.List.{length-take}
 use Rattle.im_types.specs.declared.TheConstants.{MAX_GROUP}
 use Rattle.im_types.specs.Contents.{Contents}
 use Rattle.im_types.specs.Memory.{IsMemory}
@@ -19,8 +19,8 @@ returns-then-failed-clause-talks g c = λ watch group before later hears kept.
     let new = c.serve_commands.new.self in
     let members = c.args.group.now.members.items in
     let all : length members ≤ MAX_GROUP = group.few in
-    let same = length-take-le many members e.begins.within in
-    let few : length (take many members) ≤ MAX_GROUP = omega (arith, same, all, e.begins.within) in
+    let same = length-take many members in
+    let few : length (take many members) ≤ MAX_GROUP = omega (arith, same, all) in
     let dead : new.engine.failed ≡ true = search rules in
     halts_talk watch old new (with_left before (outputs (g.W.Write.contents c.args.out.now) kept)) None
     (group_halts old new (take many members) c.serve_commands.new.served.items e.answered e.put few dead)

@@ -1,11 +1,20 @@
-use Rattle.std.proofs.Common.{◌∙◌, subst, ap}
+use Rattle.std.proofs.Common.{◌∙◌, subst, ap, refl}
 use Rattle.std.specs.Prelude.{None}
 use Rattle.im_dialogue.specs.declared.serving.Setting.{Setting}
 use Rattle.im_dialogue.specs.Hearing.{asked_after, questions_left}
 use Rattle.im_dialogue.specs.Talk.{TalkEnds, TalksOn, outputs, with_input, with_left}
 use Rattle.im_dialogue.proofs.HearingLemmas.{left_some, same_left}
-use Rattle.im_dialogue.proofs.TalkLemmas.{end_here, ends_after, on_after, to_left}
+use Rattle.im_dialogue.proofs.TalkLemmas.{end_here, ends_after, goes_talk, nothing_said, on_after, to_left}
 use Rattle.im_dialogue.proofs.serving.Dialogue.serve_lines.Goals as goal
+
+pub loop-served-init : goal.loop-served-init
+loop-served-init g c = (
+  goes_talk c.args.self.now.setting.watch c.args.self.now.session c.args.self.now.session
+      (with_input (g.R.Read.remaining c.args.input.now)
+      (outputs (g.W.Write.contents c.args.out.now) (g.B.Backups.kept c.args.backups.now)))
+      (nothing_said c.args.self.now.session),
+  refl,
+)
 
 pub returns-in-Err-clause-talks : goal.returns-in-Err-clause-talks
 returns-in-Err-clause-talks g c =
