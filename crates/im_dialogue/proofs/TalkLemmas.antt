@@ -558,7 +558,8 @@ module _ {D : Type 0} (watch : Bool) where
             (texts_of watch mid.engine.memory b.said) a.printed b.printed);
         backups = all_kept old mid was been a b.said (is n) b.backups;
         heard = subst (λ (l : List (Option Question)). Hears was.left (is n).left l)
-            (sym (questions_append b.said a.said)) (hears_on was.left been.left (is n).left (questions_of a.said) (questions_of b.said) a.heard b.heard);
+            (sym (questions_append b.said a.said)) (hears_on was.left been.left (is n).left (questions_of a.said)
+            (questions_of b.said) a.heard b.heard);
       }
   then_talks old mid new was been is end (Err e) on it = λ f.
       let a = on f in
@@ -633,13 +634,14 @@ module _ {D : Type 0} (watch : Bool) where
   module _ (old new : SessionState D) (was is : Outputs) (asked : Option Question) (answer : LineAnswer)
       (line name told : List ℕ) (read : asked_of line ≡ asked) (says : SaysLine old new asked answer)
       (tells : (n : ℕ) (turns : List TurnDone) (here : Point)
-      → AnswersQuestion old.engine.memory n turns here asked answer → told ≡ line_on watch name old.engine.memory answer)
+      → AnswersQuestion old.engine.memory n turns here asked answer
+      → told ≡ line_on watch name old.engine.memory answer)
       (kept : is.backups ≡ backup_by old.engine.memory answer ++ was.backups) where
     abbrev many : ℕ
     many = old.engine.count + length (put_of old.engine.memory [])
 
-    one_kept : (here : Point) → AreKept old.engine.memory was is (exchange_at line answer name here ∷ [])
-    one_kept here = kept
+    one_kept : (p : Point) → AreKept old.engine.memory was is (exchange_at line answer name p ∷ [])
+    one_kept p = kept
         ∙ ap (λ (l : List Backup). l ++ was.backups) (sym (append-nil (backup_by old.engine.memory answer)))
 
     -- it was printed, and those behind it

@@ -93,7 +93,8 @@ quiet_resumes cells who (Put a v) quiet = absurd (cc)
 -- ---- what is told behind an answer
 
 told_is : (watch : Bool) (m : Contents) (n : ℕ) (turns : List TurnDone) (here : Point) (asked : Option Question)
-    (answer : LineAnswer) → AnswersQuestion m n turns here asked answer → told_with answer (told_by watch m asked) ≡ watch_text watch m answer
+    (answer : LineAnswer) → AnswersQuestion m n turns here asked answer
+    → told_with answer (told_by watch m asked) ≡ watch_text watch m answer
 told_is watch m n turns here (Some (asks.Serve command)) answer (outcome, is, of) = by_answer answer outcome is
   where
     by_outcome : (o : Result Outcome Refusal)
@@ -124,7 +125,8 @@ told_is watch m n turns here None answer (number, (fault, is)) = subst
 
 -- the line of an answer, on the memory after it too, which is the same if the line only looks
 plain_line : (name : List ℕ) (m now : Contents) (n : ℕ) (turns : List TurnDone) (here : Point) (asked : Question)
-    (answer : LineAnswer) → ((look : Look) → asked ≡ asks.Look look → now ≡ m) → AnswersQuestion m n turns here (Some asked) answer
+    (answer : LineAnswer) → ((look : Look) → asked ≡ asks.Look look → now ≡ m)
+    → AnswersQuestion m n turns here (Some asked) answer
     → answer_text name now answer ≡ answer_text name m answer
 plain_line name m now n turns here (asks.Look look) answer same is =
     ap (λ (x : Contents). answer_text name x answer) (same look refl)
@@ -146,8 +148,7 @@ plain_line name m now n turns here asks.Quit answer same none = absurd none
 
 -- the line of an answer that was asked for, and what is told behind it
 pub line_is : (watch : Bool) (name : List ℕ) (m now : Contents) (n : ℕ) (turns : List TurnDone) (here : Point)
-    (asked : Question) (answer : LineAnswer)
-    (told : List ℕ) → ((look : Look) → asked ≡ asks.Look look → now ≡ m)
+    (asked : Question) (answer : LineAnswer) (told : List ℕ) → ((look : Look) → asked ≡ asks.Look look → now ≡ m)
     → told ≡ told_with answer (told_by watch m (Some asked)) → AnswersQuestion m n turns here (Some asked) answer
     → answer_text name now answer ++ told ≡ answer_text name m answer ++ watch_text watch m answer
 line_is watch name m now n turns here asked answer told same is answers =

@@ -34,8 +34,8 @@ use std::io::{BufRead, Write};
 ///   of them, or up to `quit`, else the first of them.
 /// - `talked`, a crash: the opening leaves nothing that couldn't be left before. From then on a session's record says
 ///   it of the commands that were put, which are those that were answered, and of those in doubt, which are of the line
-///   or group for which a call of the disk failed. A crash leaves the memory after a prefix of them. At the end it leaves
-///   the memory after all that were put, with all of those in doubt or none.
+///   or group for which a call of the disk failed. A crash leaves the memory after a prefix of them. At the end it
+///   leaves the memory after all that were put, with all of those in doubt or none.
 /// - `talked`, what was printed: a prefix of the answers, then at most the refusal. With status 0 it is all answers and
 ///   nothing else.
 /// - `talked`, backups: each that was answered is kept, with the memory and the count of commands after the lines

@@ -95,8 +95,8 @@ returns-in-Err-clause-talks g c = λ watch group before later hears kept.
     let room = rw c.engine.ensures.state at c.lacks_places.ensures in
     let text = some_text watch (group_start old.engine) many group_now.parts.items
     (map string_bytes group_now.nows.items) group_now.members.items group (room c.if-lacks_places.false) in
-    group_cut old new (take many group_now.members.items) c.serve_commands.new.served.items e.answered e.put watch text.0
-    _ text.2 alive (g.W.Write.contents c.args.out.now) (g.W.Write.contents c.args.out.now) before
+    group_cut old new (take many group_now.members.items) c.serve_commands.new.served.items e.answered e.put watch
+    text.0 _ text.2 alive (g.W.Write.contents c.args.out.now) (g.W.Write.contents c.args.out.now) before
     (none_of (g.W.Write.contents c.args.out.now) text.0) (hears_parts before later group_now.parts.items text.1 hears)
     kept
 

@@ -46,8 +46,8 @@ loop-served-preserved g c =
           (on_after c.args.self.now.setting.watch c.args.self.now.session
           c.loop-served.self.session c.serve_rested.new.self.session was been
           (with_left (asked_after c.in-Ok.many later) is)
-          c.loop-served.invariant.0 (subst (λ (s : Setting). TalksOn s.watch
-          c.loop-served.self.session been c.serve_rested.new.self.session (with_left (asked_after c.in-Ok.many later) is))
+          c.loop-served.invariant.0 (subst (λ (s : Setting). TalksOn s.watch c.loop-served.self.session been
+          c.serve_rested.new.self.session (with_left (asked_after c.in-Ok.many later) is))
           c.loop-served.invariant.1 c.in-Ok.ensures.talks)),
       c.serve_rested.ensures.same ∙ c.loop-served.invariant.1,
     )
