@@ -82,10 +82,10 @@ module _ (b : GroupStart) (ahead ones : List Command) (is : ones ≡ commands_at
     asks = refl;
   }
 
-  pub count_shown : (n : ℕ) → n ≡ b.count + length ones
+  pub count_shown : (n : ℕ) → n ≡ b.point.count + length ones
       → IsKnownBehind b ahead asks.Count (answer.Count n)
   count_shown n same = record {
-    answers = λ turns. ap (λ k. answer.Count k) (same ∙ ap (λ (l : List Command). b.count + length l) is);
+    answers = λ turns. ap (λ k. answer.Count k) (same ∙ ap (λ (l : List Command). b.point.count + length l) is);
     puts = λ any. refl;
     tells = λ watch any. refl;
     keeps = λ any. refl;
@@ -94,16 +94,16 @@ module _ (b : GroupStart) (ahead ones : List Command) (is : ones ≡ commands_at
 
   pub about_shown : IsMemory (length b.memory.cells) (length b.memory.windows) b.memory
       → (slots room : ℕ) (about : About) → room ≡ (point_behind (length ones) b.point).room
-      → about ≡ about_of b.memory slots (b.count + length ones) room
+      → about ≡ about_of b.memory slots (b.point.count + length ones) room
       → IsKnownBehind b ahead asks.About
       (answer.About about)
   about_shown memory slots room about room_same same =
       let now = after_memory (length b.memory.cells) (length b.memory.windows) b.memory b.places ahead memory in
       let cells = sym now.cell_count in
       let windows = sym now.window_count in
-      let count = ap (λ (l : List Command). b.count + length l) is in
+      let count = ap (λ (l : List Command). b.point.count + length l) is in
       let rooms = room_is room room_same in
-      let alike : about_of b.memory slots (b.count + length ones) room ≡ about_of (memory_between b ahead) slots
+      let alike : about_of b.memory slots (b.point.count + length ones) room ≡ about_of (memory_between b ahead) slots
       (count_between b ahead) (point_between b ahead).room
       = λ i. record {
         version = layout_in_use.version;

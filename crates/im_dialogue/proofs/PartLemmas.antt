@@ -19,7 +19,6 @@ use Rattle.im_laws.proofs.Tests.{or_left, or_right, true_false}
 use Rattle.im_groups.specs.Commands.{answer_with, answers_with, contents_with}
 use Rattle.im_groups.specs.Commands.{places_behind}
 use Rattle.im_groups.proofs.CommandLemmas.{left_behind}
-use Rattle.im_engine.specs.State.{EngineState}
 use Rattle.im_dialogue.specs.declared.asking.Question.{Question}
 use Rattle.im_dialogue.specs.declared.asking.Question.TheVariants as asks
 use Rattle.im_dialogue.specs.declared.answers.LineAnswer.{LineAnswer}
@@ -32,11 +31,11 @@ use Rattle.im_dialogue.specs.declared.look.Look.TheVariants.{Collect, Entry, Cel
 use Rattle.im_dialogue.specs.Answers.{answer_text, kept_line, look_text, recalled_line}
 use Rattle.im_dialogue.specs.Looks.{may_alter, may_change, may_reach}
 use Rattle.im_dialogue.specs.Showing.{block_said, cell_said, recall}
-use Rattle.im_dialogue.specs.Together.{LineAsksFor, GroupStart, group_start, memory_between, places_between}
+use Rattle.im_dialogue.specs.Together.{LineAsksFor, GroupStart, memory_between, places_between}
 use Rattle.im_dialogue.specs.Together.{with_member, members_in}
-use Rattle.im_dialogue.specs.Together.{disturbs, LeavesShown, IsKnown, IsKnownBehind, IsGroupLine, StandTogether, MayBeServed}
+use Rattle.im_dialogue.specs.Together.{disturbs, LeavesShown, IsKnownBehind, IsGroupLine, StandTogether, MayBeServed}
 use Rattle.im_dialogue.specs.Together.{MayStandNext, member_result, line_answer, answers_behind, part_question, question_of}
-use Rattle.im_dialogue.specs.Watching.{told_with, watch_text}
+use Rattle.im_dialogue.specs.Watching.{told_with}
 use Rattle.im_dialogue.specs.Telling.{SaysAll, WasServed}
 use Rattle.im_dialogue.proofs.GroupTalk.{left_and_put, put_few, told_none, told_member, told_shown}
 use Rattle.im_dialogue.proofs.HearingLemmas.{heard_some}
@@ -214,10 +213,7 @@ pub match_none : {X : Type 0} (o : Option X) (A : Type 0) (B : X → Type 0) →
 match_none None A B is not = is
 match_none (Some x) A B is not = absurd (not x refl)
 
-module _ {D : Type 0} (watch : Bool) (old : EngineState D) where
-  abbrev b : GroupStart
-  b = group_start old
-
+module _ (watch : Bool) (b : GroupStart) where
   -- These members were served; the answers to some parts, which asked for these, were told; these parts and answers are
   -- left.
   pub record Telling (cs : List Command) (parts : List GroupLine) (texts : List (List ℕ)) (answers : List Served)
@@ -230,7 +226,7 @@ module _ {D : Type 0} (watch : Bool) (old : EngineState D) where
     pub first : more ≡ take many (members_in parts)
     pub parts_are : StandTogether watch b ahead shown parts texts
     pub answers_are : answers ≡ map as_served (answers_with (memory_between b ahead) (places_between b ahead) more)
-    pub tells : SaysAll watch old ahead text qs
+    pub tells : SaysAll watch b ahead text qs
     pub places : length cs ≤ b.places
 
   -- a place is left for one more member than those ahead
@@ -243,24 +239,24 @@ module _ {D : Type 0} (watch : Bool) (old : EngineState D) where
 
   -- a member's answer
   tells_member : (ahead : List Command) (text told more name : List ℕ) (qs : List (Option Question)) (c : Command)
-      → SaysAll watch old ahead text qs
+      → SaysAll watch b ahead text qs
       → length ahead < b.places → IsGroupLine watch b ahead (Member c) told
       → let a = answer_with (memory_between b ahead) (places_between b ahead) c in
       more ≡ text ++ (answer_text name (memory_between b ahead) (answer.Served c a)
       ++ told_with (answer.Served c a) told)
-      → SaysAll watch old (ahead ++ c ∷ []) more (qs ++ Some (asks.Serve c) ∷ [])
-  tells_member ahead text told more name qs c tells few (asked, is_told) is = λ start base at.
-      told_member watch start b base ahead text qs (tells start base at) asked.0 name c asked.1 (some_left ahead few) more
+      → SaysAll watch b (ahead ++ c ∷ []) more (qs ++ Some (asks.Serve c) ∷ [])
+  tells_member ahead text told more name qs c tells few (asked, is_told) is =
+      told_member watch b ahead text qs tells asked.0 name c asked.1 (some_left ahead few) more
       (is ∙ ap (λ (t : List ℕ). text ++ (answer_text name (memory_between b ahead)
       (answer.Served c (answer_with (memory_between b ahead) (places_between b ahead) c)) ++ t)) (is_told _ refl))
 
   tells_shown : (ahead : List Command) (text more name : List ℕ) (qs : List (Option Question)) (asked : Question)
-      (given : LineAnswer) → SaysAll watch old ahead text qs → LineAsksFor asked
+      (given : LineAnswer) → SaysAll watch b ahead text qs → LineAsksFor asked
       → IsKnownBehind b ahead asked given
       → more ≡ text ++ (answer_text name (memory_between b ahead) given ++ told_with given [])
-      → SaysAll watch old ahead more (qs ++ Some asked ∷ [])
-  tells_shown ahead text more name qs asked given tells read shown is = λ start base at.
-      told_shown watch start b base ahead text qs (tells start base at) read.0 name asked given read.1 shown more
+      → SaysAll watch b ahead more (qs ++ Some asked ∷ [])
+  tells_shown ahead text more name qs asked given tells read shown is =
+      told_shown watch b ahead text qs tells read.0 name asked given read.1 shown more
       (is ∙ ap (λ (t : List ℕ). text ++ (answer_text name (memory_between b ahead) given ++ t))
       (told_nothing given ∙ sym (shown.tells watch (memory_between b ahead))))
 
@@ -277,14 +273,14 @@ module _ {D : Type 0} (watch : Bool) (old : EngineState D) where
 
   -- a part with a known answer
   tells_known : (ahead : List Command) (text more name told : List ℕ) (qs : List (Option Question)) (known : LineAnswer)
-      → SaysAll watch old ahead text qs → IsGroupLine watch b ahead (Known known) told
+      → SaysAll watch b ahead text qs → IsGroupLine watch b ahead (Known known) told
       → more ≡ text ++ (answer_text name (memory_between b ahead) known ++ told_with known [])
-      → SaysAll watch old ahead more (qs ++ question_of known ∷ [])
+      → SaysAll watch b ahead more (qs ++ question_of known ∷ [])
   tells_known ahead text more name told qs known tells part is =
-      subst (λ (o : Option Question). SaysAll watch old ahead more (qs ++ o ∷ [])) (sym part.0.2.asks)
+      subst (λ (o : Option Question). SaysAll watch b ahead more (qs ++ o ∷ [])) (sym part.0.2.asks)
       (tells_shown ahead text more name qs part.0.0 known tells part.0.1 part.0.2 is)
 
-  module _ (cells elements : ℕ) (is : IsMemory cells elements old.memory) (m : Contents) (cs : List Command)
+  module _ (cells elements : ℕ) (is : IsMemory cells elements b.memory) (m : Contents) (cs : List Command)
       (after_all : m ≡ memory_between b cs) where
     -- the next part's answer
     pub telling_next : (p : GroupLine) (parts : List GroupLine) (t : List ℕ) (texts : List (List ℕ))
@@ -394,13 +390,13 @@ module _ {D : Type 0} (watch : Bool) (old : EngineState D) where
   -- ---- all of them
 
   no_more : (ahead more cs : List Command) (text : List ℕ) (qs : List (Option Question)) → cs ≡ ahead ++ more → more ≡ []
-      → SaysAll watch old ahead text qs → SaysAll watch old cs text qs
-  no_more ahead more cs text qs all none tells = subst (λ (l : List Command). SaysAll watch old l text qs)
+      → SaysAll watch b ahead text qs → SaysAll watch b cs text qs
+  no_more ahead more cs text qs all none tells = subst (λ (l : List Command). SaysAll watch b l text qs)
       (sym (all ∙ ap (λ (l : List Command). ahead ++ l) none ∙ append-nil ahead)) tells
 
   -- no part is left
   pub telling_done : (cs : List Command) (texts : List (List ℕ)) (answers : List Served) (text : List ℕ)
-      (qs : List (Option Question)) → Telling cs [] texts answers text qs → SaysAll watch old cs text qs
+      (qs : List (Option Question)) → Telling cs [] texts answers text qs → SaysAll watch b cs text qs
   telling_done cs texts answers text qs telling = no_more telling.ahead telling.more cs text qs telling.all
       (telling.first ∙ nothing telling.many) telling.tells
     where
@@ -411,7 +407,7 @@ module _ {D : Type 0} (watch : Bool) (old : EngineState D) where
   -- no answer is left
   pub telling_cut : (cs : List Command) (p : GroupLine) (parts : List GroupLine) (texts : List (List ℕ))
       (answers : List Served) (text : List ℕ) (qs : List (Option Question))
-      → Telling cs (p ∷ parts) texts answers text qs → line_answer answers p ≡ None → SaysAll watch old cs text qs
+      → Telling cs (p ∷ parts) texts answers text qs → line_answer answers p ≡ None → SaysAll watch b cs text qs
   telling_cut cs (Member c) parts texts (a ∷ answers) text qs telling none = absurd (cc)
   telling_cut cs (line.Look look) parts texts answers text qs telling none = absurd (cc)
   telling_cut cs (Known given) parts texts answers text qs telling none = absurd (cc)
@@ -427,20 +423,20 @@ module _ {D : Type 0} (watch : Bool) (old : EngineState D) where
   -- there is such a text for the first parts, up to the last member that was served
   some_from : (k : ℕ) (ahead : List Command) (shown parts : List GroupLine) (texts : List (List ℕ)) (text : List ℕ)
       (qs : List (Option Question))
-      → SaysAll watch old ahead text qs → length ahead + length (members_in parts) ≤ b.places
+      → SaysAll watch b ahead text qs → length ahead + length (members_in parts) ≤ b.places
       → StandTogether watch b ahead shown parts texts → (all : List ℕ) × (j : ℕ)
-      × SaysAll watch old (ahead ++ take k (members_in parts)) all (qs ++ take j (map part_question parts))
+      × SaysAll watch b (ahead ++ take k (members_in parts)) all (qs ++ take j (map part_question parts))
   some_from zero ahead shown parts texts text qs tells few are = (
     text,
     0,
-    subst (λ (l : List Command). SaysAll watch old l text (qs ++ [])) (sym (append-nil ahead))
-        (subst (λ (l : List (Option Question)). SaysAll watch old ahead text l) (sym (append-nil qs)) tells),
+    subst (λ (l : List Command). SaysAll watch b l text (qs ++ [])) (sym (append-nil ahead))
+        (subst (λ (l : List (Option Question)). SaysAll watch b ahead text l) (sym (append-nil qs)) tells),
   )
   some_from (suc k) ahead shown [] texts text qs tells few are = (
     text,
     0,
-    subst (λ (l : List Command). SaysAll watch old l text (qs ++ [])) (sym (append-nil ahead))
-        (subst (λ (l : List (Option Question)). SaysAll watch old ahead text l) (sym (append-nil qs)) tells),
+    subst (λ (l : List Command). SaysAll watch b l text (qs ++ [])) (sym (append-nil ahead))
+        (subst (λ (l : List (Option Question)). SaysAll watch b ahead text l) (sym (append-nil qs)) tells),
   )
   some_from (suc k) ahead shown (p ∷ parts) [] text qs tells few are = absurd are
   some_from (suc k) ahead shown (Member c ∷ parts) (t ∷ texts) text qs tells few are =
@@ -449,10 +445,10 @@ module _ {D : Type 0} (watch : Bool) (old : EngineState D) where
       (omega (arith, few, length-append ahead (c ∷ []))) are.1.1 in (
         rest.0,
         suc rest.1,
-        subst (λ (l : List Command). SaysAll watch old l rest.0
+        subst (λ (l : List Command). SaysAll watch b l rest.0
             (qs ++ Some (asks.Serve c) ∷ take rest.1 (map part_question parts)))
             (append_assoc ahead (c ∷ []) (take k (members_in parts)))
-            (subst (λ (l : List (Option Question)). SaysAll watch old ((ahead ++ c ∷ []) ++ take k (members_in parts))
+            (subst (λ (l : List (Option Question)). SaysAll watch b ((ahead ++ c ∷ []) ++ take k (members_in parts))
             rest.0 l)
             (append_assoc qs (Some (asks.Serve c) ∷ []) (take rest.1 (map part_question parts))) rest.2),
       )
@@ -462,7 +458,7 @@ module _ {D : Type 0} (watch : Bool) (old : EngineState D) where
       are.1.1 in (
         rest.0,
         suc rest.1,
-        subst (λ (l : List (Option Question)). SaysAll watch old (ahead ++ take (suc k) (members_in parts)) rest.0 l)
+        subst (λ (l : List (Option Question)). SaysAll watch b (ahead ++ take (suc k) (members_in parts)) rest.0 l)
             (append_assoc qs (Some (asks.Look look) ∷ []) (take rest.1 (map part_question parts))) rest.2,
       )
   some_from (suc k) ahead shown (Known given ∷ parts) (t ∷ texts) text qs tells few are =
@@ -470,28 +466,28 @@ module _ {D : Type 0} (watch : Bool) (old : EngineState D) where
       (tells_known ahead text _ [] t qs given tells are.0 refl) few are.1.1 in (
         rest.0,
         suc rest.1,
-        subst (λ (l : List (Option Question)). SaysAll watch old (ahead ++ take (suc k) (members_in parts)) rest.0 l)
+        subst (λ (l : List (Option Question)). SaysAll watch b (ahead ++ take (suc k) (members_in parts)) rest.0 l)
             (append_assoc qs (question_of given ∷ []) (take rest.1 (map part_question parts))) rest.2,
       )
 
   pub some_text : (many : ℕ) (parts : List GroupLine) (texts : List (List ℕ)) (members : List Command)
       → MayBeServed watch b parts texts members → length members ≤ b.places
-      → (all : List ℕ) × (j : ℕ) × SaysAll watch old (take many members) all (take j (map part_question parts))
+      → (all : List ℕ) × (j : ℕ) × SaysAll watch b (take many members) all (take j (map part_question parts))
   some_text many parts texts members group few =
       let room : length (members_in parts) ≤ b.places
       = subst (λ (l : List Command). length l ≤ b.places) group.members_are few in
-      let all = some_from many [] [] parts texts [] [] (λ start base at. told_none watch start b base at)
+      let all = some_from many [] [] parts texts [] [] (told_none watch b)
       (omega (arith, room)) group.parts_are in (
         all.0,
         all.1,
-        subst (λ (l : List Command). SaysAll watch old (take many l) all.0 (take all.1 (map part_question parts)))
+        subst (λ (l : List Command). SaysAll watch b (take many l) all.0 (take all.1 (map part_question parts)))
             (sym group.members_are) all.2,
       )
 
   -- the next part, as the lists stand
   pub telling_step : (all : List GroupLine) (all_texts : List (List ℕ)) (members cs : List Command)
       (all_answers : List Served) (m : Contents)
-      → WasServed watch old all all_texts members cs all_answers m
+      → WasServed watch b all all_texts members cs all_answers m
       → (p : GroupLine) (parts rest : List GroupLine) (t : List ℕ) (texts others : List (List ℕ))
       (answers left : List Served) (text more name : List ℕ) (qs : List (Option Question)) (given : LineAnswer)
       → parts ≡ p ∷ rest → texts ≡ t ∷ others → left ≡ answers_behind p answers → line_answer answers p ≡ Some given
@@ -500,7 +496,7 @@ module _ {D : Type 0} (watch : Bool) (old : EngineState D) where
   telling_step all all_texts members cs all_answers m served p parts rest t texts others answers left text more name
       qs given parts_are texts_are left_is given_is same telling =
       subst (λ (l : List Served). Telling cs rest others l more (qs ++ part_question p ∷ [])) (sym left_is)
-      (telling_next (length old.memory.cells) (length old.memory.windows) served.is_memory m cs served.memory_is p rest
+      (telling_next (length b.memory.cells) (length b.memory.windows) served.is_memory m cs served.memory_is p rest
       t others answers text more name qs given
       (subst (λ (l : List GroupLine). Telling cs l (t ∷ others) answers text qs) parts_are
       (subst (λ (l : List (List ℕ)). Telling cs parts l answers text qs) texts_are telling)) given_is same)
@@ -508,38 +504,38 @@ module _ {D : Type 0} (watch : Bool) (old : EngineState D) where
   pub telling_ends : (cs : List Command) (p : GroupLine) (parts rest : List GroupLine)
       (texts : List (List ℕ)) (answers : List Served) (text : List ℕ) (qs : List (Option Question))
       → parts ≡ p ∷ rest → line_answer answers p ≡ None → Telling cs parts texts answers text qs
-      → SaysAll watch old cs text qs
+      → SaysAll watch b cs text qs
   telling_ends cs p parts rest texts answers text qs parts_are none telling =
       telling_cut cs p rest texts answers text qs
       (subst (λ (l : List GroupLine). Telling cs l texts answers text qs) parts_are telling) none
 
   pub telling_over : (cs : List Command) (parts : List GroupLine) (texts : List (List ℕ)) (answers : List Served)
       (text : List ℕ) (qs : List (Option Question)) → length parts ≡ 0
-      → Telling cs parts texts answers text qs → SaysAll watch old cs text qs
+      → Telling cs parts texts answers text qs → SaysAll watch b cs text qs
   telling_over cs [] texts answers text qs none telling = telling_done cs texts answers text qs telling
   telling_over cs (p ∷ parts) texts answers text qs none telling = absurd (omega (arith, none))
 
   -- there is a text for each part
   pub telling_lost : (cs : List Command) (p : GroupLine) (parts rest : List GroupLine) (texts : List (List ℕ))
       (answers : List Served) (text : List ℕ) (qs : List (Option Question))
-      → parts ≡ p ∷ rest → length texts ≡ 0 → Telling cs parts texts answers text qs → SaysAll watch old cs text qs
+      → parts ≡ p ∷ rest → length texts ≡ 0 → Telling cs parts texts answers text qs → SaysAll watch b cs text qs
   telling_lost cs p parts rest (t ∷ texts) answers text qs parts_are none telling = absurd (omega (arith, none))
   telling_lost cs p parts rest [] answers text qs parts_are none telling =
       absurd ((subst (λ (l : List GroupLine). Telling cs l [] answers text qs) parts_are telling).parts_are)
 
 -- the text tells these, by another list of what they asked for
-pub told_as : {D : Type 0} (watch : Bool) (old : EngineState D) (cs : List Command) (text : List ℕ)
-    (qs others : List (Option Question)) → qs ≡ others → SaysAll watch old cs text qs → SaysAll watch old cs text others
-told_as watch old cs text qs others same tells =
-    subst (λ (l : List (Option Question)). SaysAll watch old cs text l) same tells
+pub told_as : (watch : Bool) (b : GroupStart) (cs : List Command) (text : List ℕ)
+    (qs others : List (Option Question)) → qs ≡ others → SaysAll watch b cs text qs → SaysAll watch b cs text others
+told_as watch b cs text qs others same tells =
+    subst (λ (l : List (Option Question)). SaysAll watch b cs text l) same tells
 
 -- nothing is told yet
-pub telling_first : {D : Type 0} (watch : Bool) (old : EngineState D) (cs : List Command) (all : List GroupLine)
+pub telling_first : (watch : Bool) (b : GroupStart) (cs : List Command) (all : List GroupLine)
     (all_texts : List (List ℕ)) (members : List Command) (all_answers : List Served) (m : Contents)
     (parts : List GroupLine) (texts : List (List ℕ)) (answers : List Served) (text : List ℕ)
-    → WasServed watch old all all_texts members cs all_answers m → parts ≡ all → texts ≡ all_texts
-    → answers ≡ all_answers → text ≡ [] → Telling watch old cs parts texts answers text []
-telling_first watch old cs all all_texts members all_answers m parts texts answers text served parts_are texts_are
+    → WasServed watch b all all_texts members cs all_answers m → parts ≡ all → texts ≡ all_texts
+    → answers ≡ all_answers → text ≡ [] → Telling watch b cs parts texts answers text []
+telling_first watch b cs all all_texts members all_answers m parts texts answers text served parts_are texts_are
     answers_are none =
     let members_are = served.group.members_are in
     let few : length (take served.many members) ≤ length members = few_of served.many members in
@@ -551,13 +547,12 @@ telling_first watch old cs all all_texts members all_answers m parts texts answe
       all = refl;
       first = served.first ∙ ap (λ (l : List Command). take served.many l) members_are
           ∙ ap (λ (l : List GroupLine). take served.many (members_in l)) (sym parts_are);
-      parts_are = subst (λ (l : List GroupLine). StandTogether watch (group_start old) [] [] l texts) (sym parts_are)
-          (subst (λ (l : List (List ℕ)). StandTogether watch (group_start old) [] [] all l) (sym texts_are)
+      parts_are = subst (λ (l : List GroupLine). StandTogether watch b [] [] l texts) (sym parts_are)
+          (subst (λ (l : List (List ℕ)). StandTogether watch b [] [] all l) (sym texts_are)
           served.group.parts_are);
       answers_are = answers_are ∙ served.answers_are;
-      tells = subst (λ (t : List ℕ). SaysAll watch old [] t []) (sym none)
-          (λ start base at. told_none watch start (group_start old) base at);
-      places = subst (λ (l : List Command). length l ≤ (group_start old).places) (sym served.first)
+      tells = subst (λ (t : List ℕ). SaysAll watch b [] t []) (sym none) (told_none watch b);
+      places = subst (λ (l : List Command). length l ≤ b.places) (sym served.first)
           (omega (arith, few, served.room));
     }
   where

@@ -1,120 +1,67 @@
--- What was said over an engine, line by line.
+-- What was said over a session, line by line.
 use Rattle.std.proofs.Common.{◌≡◌, ◌∙◌, inl, inr, ⊎_elim, ℕ, suc, ◌+◌, ◌≤◌, Bool, false, List, [], ◌∷◌, ◌++◌, length}
-use Rattle.std.proofs.Common.{take, refl, sym, ap, subst, append_assoc, length-append, arith, ◌&&◌, true}
+use Rattle.std.proofs.Common.{take, refl, sym, ap, ap₂, subst, append_assoc, length-append, arith, ◌&&◌, true}
 use Rattle.std.proofs.Common.{if◌then◌else◌}
-use Rattle.std.specs.Prelude.{IfSome, Option, Some, Result, Ok, Err, MatchResult}
+use Rattle.std.specs.Prelude.{IfSome, Option, Some, None, Result, Ok, Err, MatchResult, OnOk}
 use Rattle.std.specs.Io.KnownBytes.{Appends}
-use Rattle.std.proofs.KnownBytes.{Appends-trans}
+use Rattle.std.proofs.KnownBytes.{Appends-nil, Appends-trans}
 use Rattle.std.proofs.lemmas.List.{append-nil}
 use Rattle.im_text.specs.Printing.{Begins}
-use Rattle.im_text.proofs.PrintingLemmas.{take-all, true_false}
+use Rattle.im_text.proofs.PrintingLemmas.{true_false}
 use Rattle.im_dialogue.specs.Answers.{answer_text}
 use Rattle.im_dialogue.specs.Watching.{watch_text}
 use Rattle.im_types.specs.declared.TheConstants.{MAX_GROUP}
 use Rattle.im_types.specs.declared.commands.Command.{Command}
 use Rattle.im_types.specs.declared.commands.Outcome.{Outcome}
 use Rattle.im_types.specs.declared.refusals.Refusal.{Refusal}
-use Rattle.im_types.specs.declared.refusals.Refusal.TheVariants.{Device}
+use Rattle.im_types.specs.declared.refusals.Refusal.TheVariants.{Device, JournalFull}
 use Rattle.im_types.specs.Contents.{Contents}
-use Rattle.im_types.specs.Step.{is_accepted}
+use Rattle.im_types.specs.Step.{step, is_accepted}
 use Rattle.im_types.specs.Run.{after}
+use Rattle.im_laws.proofs.RunLemmas.{after-append}
 use Rattle.im_laws.proofs.Tests.{true_or_false}
-use Rattle.im_disk.specs.Moment.{Moment}
-use Rattle.im_disk.specs.Since.{Leaves, LeavesNow}
-use Rattle.im_disk.proofs.SinceLemmas.{leaves_start}
 use Rattle.im_checkpoint.specs.declared.checkpoint.TurnDone.{TurnDone}
 use Rattle.im_checkpoint.proofs.Fitting.{none_or_some}
-use Rattle.im_engine.specs.State.{EngineState, MeansState, MeansEither}
-use Rattle.im_engine.specs.Run.{Answered, TurnAnswered, HasRun, MeansAfter, MeansBeginning, put_by_command}
-use Rattle.im_engine.specs.Run.{may_be_put as puts}
+use Rattle.im_engine.specs.State.{EngineState, with_command}
+use Rattle.im_engine.specs.Run.{Answered, TurnAnswered, is_device}
 use Rattle.im_engine.proofs.Accepting.{accepted_answers}
-use Rattle.im_engine.proofs.Running.{AllOrLess, far_on, far_start, far_turned, fails_by_device, leaves_on}
-use Rattle.im_engine.proofs.Running.{leaves_turned, means_all, now_on, went}
+use Rattle.im_session.specs.Kept.{SessionState, session_of}
+use Rattle.im_session.specs.Put.{doubted_by, sure_by}
+use Rattle.im_session.specs.Serving.{Rests, served_one}
+use Rattle.im_session.proofs.RoomLemmas.{rests_none, rests_then, turn_works}
+use Rattle.im_session.proofs.ServedLemmas.{undoubted, unsure}
 use Rattle.im_dialogue.specs.declared.asking.Question.{Question}
 use Rattle.im_dialogue.specs.declared.asking.Question.TheVariants as asks
 use Rattle.im_dialogue.specs.declared.answers.LineAnswer.{LineAnswer}
 use Rattle.im_dialogue.specs.declared.answers.LineAnswer.TheVariants.{Served, Turned}
 use Rattle.im_dialogue.specs.Asking.{asked_of}
 use Rattle.im_dialogue.specs.Backups.{Backup}
-use Rattle.im_turning.specs.Turning.{IsSpent, Point, point_of, with_one}
-use Rattle.im_turning.proofs.TurningLemmas.{taken_of}
-use Rattle.im_dialogue.specs.Talk.{Exchange, IsOutcomeOf, AnswersQuestion, put_by, put_of, is_end, IsAt, MeansSaid, HasEnded, SaysNothing}
+use Rattle.im_turning.specs.Turning.{HasMadeRoom, IsSpent, Point, TurnsLead, point_of}
+use Rattle.im_turning.proofs.TurningLemmas.{turn_leads}
 use Rattle.im_dialogue.specs.Hearing.{Hears, HearsSome, is_quit, questions_left}
-use Rattle.im_dialogue.specs.Talk.{Halts, SaysLine, texts_of, Silent, TalksOn, TalkEnds}
-use Rattle.im_dialogue.specs.Talk.{outputs, questions_of, with_left}
-use Rattle.im_dialogue.proofs.HearingLemmas.{hears_as, hears_on, hears_some_on, heard_some, none_heard}
-use Rattle.im_dialogue.specs.Talk.{AreKept, Outputs, AnswerPoint, backup_by, backups_of, exchange_at, point_behind}
+use Rattle.im_dialogue.specs.Talk.{AnswersQuestion, AreAnswered, AreKept, Exchange, IsOutcomeOf, Outputs}
+use Rattle.im_dialogue.specs.Talk.{HasEnded, HasSaid, Halts, OnlyTurned, SaysLine, SaysNow, TalkEnds, Talking, TalksOn}
+use Rattle.im_dialogue.specs.Talk.{backup_by, backups_of, exchange_at, is_end, outputs, point_behind}
+use Rattle.im_dialogue.specs.Talk.{put_by, put_of, questions_of, stands_behind, texts_of, with_left}
+use Rattle.im_dialogue.proofs.HearingLemmas.{hears_as, hears_none, hears_on, hears_some_on, heard_some, none_heard}
+use Rattle.im_dialogue.proofs.HearingLemmas.{on_default, same_left}
 
 -- what an input still asks for, where that is known
 abbrev pub Left : Type 0
 Left = Option (List (Option Question))
 
 -- what was answered doesn't end the dialogue
-pub not_quit : (m : Contents) (n : ℕ) (here : AnswerPoint) (asked : Question) (answer : LineAnswer)
-    → AnswersQuestion m n here (Some asked) answer → is_quit (Some asked) ≡ false
-not_quit m n here (asks.Serve command) answer it = refl
-not_quit m n here (asks.Look look) answer it = refl
-not_quit m n here (asks.Window element) answer it = refl
-not_quit m n here asks.Room answer it = refl
-not_quit m n here asks.Turn answer it = refl
-not_quit m n here asks.Count answer it = refl
-not_quit m n here asks.About answer it = refl
-not_quit m n here (asks.Backup name) answer it = refl
-not_quit m n here asks.Quit answer it = absurd it
-
--- what a command is answered, where the engine works still
-is_of : {D : Type 0} (old new : EngineState D) (c : Command) (a : Result Outcome Refusal) → old.failed ≡ false
-    → new.failed ≡ false → Answered old c a new
-    → (old.room ≡ 0 → IsSpent (point_of old)) → IsOutcomeOf old.memory (point_of old) c a
-is_of old new c a f g it spent = ⊎_elim
-    (λ accepted. ⊎_elim
-    (λ none. inr (accepted, ((it.full f accepted none).0, (none, spent none))))
-    (λ some. ⊎_elim
-    (λ done. inl done.0)
-    (λ fault. absurd (true_false new.failed (ap (λ (s : EngineState _). s.failed) fault.1) g))
-    (it.put f accepted some))
-    (none_or_some old.room))
-    (λ un. inl (it.unaccepted f un).0)
-    (true_or_false (is_accepted old.memory c))
-
--- where a command is put on the disk, or isn't
-none_moved : (c : Command) (p : Point) (b : Bool) → b ≡ false → p ≡ point_behind (length (if b then c ∷ [] else [])) p
-none_moved c p b not = subst (λ (x : Bool). p ≡ point_behind (length (if x then c ∷ [] else [])) p) (sym not) refl
-
-one_moved : (c : Command) (p : Point) (b : Bool) → b ≡ true
-    → with_one p ≡ point_behind (length (if b then c ∷ [] else [])) p
-one_moved c p b is = subst (λ (x : Bool). with_one p ≡ point_behind (length (if x then c ∷ [] else [])) p) (sym is) refl
-
--- where an engine stands behind a command
-served_point : {D : Type 0} (old new : EngineState D) (c : Command) (a : Result Outcome Refusal) → old.failed ≡ false
-    → new.failed ≡ false → Answered old c a new
-    → point_of new ≡ point_behind (length (put_by_command old.memory c a)) (point_of old)
-served_point old new c a f g it = ⊎_elim
-    (λ accepted.
-    let put : (b : Bool) → puts a ≡ b → (is_accepted old.memory c && puts a) ≡ b
-    = λ b is. ap (λ (x : Bool). x && puts a) accepted ∙ is in
-    ⊎_elim
-    (λ none. let full = it.full f accepted none in
-    ap (λ (s : EngineState _). point_of s) full.1
-    ∙ none_moved c (point_of old) (is_accepted old.memory c && puts a)
-    (put false (ap (λ (x : Result Outcome Refusal). puts x) full.0)))
-    (λ some. ⊎_elim
-    (λ done. ap (λ (s : EngineState _). point_of s) done.1
-    ∙ one_moved c (point_of old) (is_accepted old.memory c && puts a)
-    (put true
-    (ap (λ (x : Result Outcome Refusal). puts x) done.0 ∙ ap (λ (x : Result Outcome Refusal). puts x)
-    (accepted_answers old.memory c accepted).1)))
-    (λ fault. absurd (true_false new.failed (ap (λ (s : EngineState _). s.failed) fault.1) g))
-    (it.put f accepted some))
-    (none_or_some old.room))
-    (λ un. ap (λ (s : EngineState _). point_of s) (it.unaccepted f un).1
-    ∙ none_moved c (point_of old) (is_accepted old.memory c && puts a) (ap (λ (x : Bool). x && puts a) un))
-    (true_or_false (is_accepted old.memory c))
-
--- an answer that doesn't end the dialogue leaves the engine working
-works_on : {D : Type 0} (old new : EngineState D) (c : Command) (a : Result Outcome Refusal) → Answered old c a new
-    → old.failed ≡ false → (a ≡ Err Device → ⊥) → new.failed ≡ false
-works_on old new c a it f unless = ⊎_elim (λ dead. absurd (unless (fails_by_device old new c a it f dead))) (λ g. g) (true_or_false new.failed)
+pub not_quit : (m : Contents) (n : ℕ) (turns : List TurnDone) (here : Point) (asked : Question) (answer : LineAnswer)
+    → AnswersQuestion m n turns here (Some asked) answer → is_quit (Some asked) ≡ false
+not_quit m n turns here (asks.Serve command) answer it = refl
+not_quit m n turns here (asks.Look look) answer it = refl
+not_quit m n turns here (asks.Window element) answer it = refl
+not_quit m n turns here asks.Room answer it = refl
+not_quit m n turns here asks.Turn answer it = refl
+not_quit m n turns here asks.Count answer it = refl
+not_quit m n turns here asks.About answer it = refl
+not_quit m n turns here (asks.Backup name) answer it = refl
+not_quit m n turns here asks.Quit answer it = absurd it
 
 pub ok_no_device : (outcome : Outcome) → (a : Result Outcome Refusal) → a ≡ Ok outcome → a ≡ Err Device → ⊥
 ok_no_device outcome a is e = absurd (cc)
@@ -137,537 +84,643 @@ take-past (x ∷ xs) ys n =
     let e : length (x ∷ xs) + n ≡ suc (length xs + n) = omega arith in
     ap (λ k. take k (x ∷ (xs ++ ys))) e ∙ ap (λ l. x ∷ l) (take-past xs ys n)
 
--- one answer more, and the backup that it says is kept
-kept_on : (m here : Contents) (said : List Exchange) (x : Exchange) (held was is : List Backup)
-    → here ≡ after m (put_of m said) → was ≡ backups_of m said ++ held → is ≡ backup_by here x.answer ++ was
-    → is ≡ backups_of m (x ∷ said) ++ held
-kept_on m here said x held was is same kept more = more
-    ∙ ap (λ (l : List Backup). backup_by here x.answer ++ l) kept
-    ∙ sym (append_assoc (backup_by here x.answer) (backups_of m said) held)
-    ∙ ap (λ (n : Contents). (backup_by n x.answer ++ backups_of m said) ++ held) same
+-- ---- a command
 
-module _ {D : Type 0} (now : D → Moment) (past : D → List Moment) (honest : D → Type 0) where
-  abbrev At : EngineState D → EngineState D → List Exchange → Type 0
-  At start engine said = IsAt now past start engine said
+-- one command at most
+doubted_few : (m : Contents) (c : Command) (a : Result Outcome Refusal) → length (doubted_by m c a) ≤ MAX_GROUP
+doubted_few m c (Ok o) = omega arith
+doubted_few m c (Err r) = by_test (is_accepted m c && is_device r)
+  where
+    by_test : (b : Bool) → length (if b then c ∷ [] else []) ≤ MAX_GROUP
+    by_test true = omega arith
+    by_test false = omega arith
 
-  -- nothing was said yet
-  pub at_start : (start : EngineState D) → start.failed ≡ false → LeavesNow (now start.disk) (MeansState start)
-      → At start start []
-  at_start start f means = record {
-    answered = tt;
-    turns = [];
-    lead = refl;
-    works = f;
-    run = far_start start;
-    leaves = leaves_start (now start.disk) (past start.disk) (MeansBeginning start []);
-    kept = means;
+-- what an answer comes to that doesn't end the dialogue
+record CommandSaid {D : Type 0} (old new : EngineState D) (c : Command) (a : Result Outcome Refusal) : Type 0 where
+  outcome : IsOutcomeOf old.memory (point_of old) c a
+  doubt : doubted_by old.memory c a ≡ []
+  point : point_of new ≡ point_behind (length (sure_by old.memory c a)) (point_of old)
+  memory : new.memory ≡ after old.memory (sure_by old.memory c a)
+  count : new.count ≡ old.count + length (sure_by old.memory c a)
+  works : new.failed ≡ false
+
+module _ {D : Type 0} (old new : EngineState D) (c : Command) (a : Result Outcome Refusal) (f : old.failed ≡ false)
+    (it : Answered old c a new) where
+  -- nothing was put
+  stayed_by : IsOutcomeOf old.memory (point_of old) c a → sure_by old.memory c a ≡ [] → doubted_by old.memory c a ≡ []
+      → new ≡ old → CommandSaid old new c a
+  stayed_by outcome none doubt same = record {
+    outcome = outcome;
+    doubt = doubt;
+    point = ap (λ (s : EngineState D). point_of s) same
+        ∙ ap (λ (l : List Command). point_behind (length l) (point_of old)) (sym none);
+    memory = ap (λ (s : EngineState D). s.memory) same ∙ ap (λ (l : List Command). after old.memory l) (sym none);
+    count = omega (
+      arith,
+      ap (λ (s : EngineState D). s.count) same,
+      ap (λ (l : List Command). length l) none,
+    );
+    works = ap (λ (s : EngineState D). s.failed) same ∙ f;
   }
 
-  -- all that was said is in every file
-  said_now : (start old : EngineState D) (said : List Exchange) (file : List ℕ) → At start old said
-      → MeansState old file → MeansSaid start said [] file
-  said_now start old said file at means =
-      let put : List Command = put_of start.memory said in
-      let all : MeansAfter start put (length put) file = means_all start old put at.run at.works file means in
-      let same : put ++ [] ≡ put = append-nil put in (
-        length put,
-        inl refl,
-        subst (λ (l : List Command). MeansAfter start l (length put) file) (sym same) all,
-      )
-
-  pub ended_at : (start old : EngineState D) (said : List Exchange) → At start old said
-      → HasEnded now past start old.disk said []
-  ended_at start old said at = record {
-    answered = at.answered;
-    leaves = subst (λ (l : List Command). Leaves (now start.disk) (now old.disk) (past start.disk) (past old.disk) (MeansBeginning start l)) (sym (append-nil (put_of start.memory said))) at.leaves;
-    kept = λ file left. said_now start old said file at (at.kept file left);
-  }
-
-  -- it is ended where it stands
-  pub ends_here : (engine : EngineState D) → Halts now past honest engine engine
-  ends_here engine = λ start said so_far h. let far = so_far h in (far.0, ([], omega arith, ended_at start engine said far.1))
-
-  -- ---- turns
-
-  -- where it stands behind a turn, which is the last since the last answer
-  turned_at : (start old new : EngineState D) (said : List Exchange) (a : Result TurnDone Refusal) (done : TurnDone)
-      → At start old said → TurnAnswered old a new
-      → (old.failed ≡ false → Leaves (now old.disk) (now new.disk) (past old.disk) (past new.disk) (MeansState old))
-      → (new.failed ≡ false → LeavesNow (now new.disk) (MeansState new)) → a ≡ Ok done
-      → (at : At start new said) × ((before : List TurnDone) × (at.turns ≡ done ∷ before))
-  turned_at start old new said a done at it leaves means is =
-      let taken = taken_of old new a done it is in (
-        record {
-          answered = at.answered;
-          turns = done ∷ at.turns;
-          lead = (point_of old, (at.lead, taken.turned));
-          works = taken.alive;
-          run = far_turned start old new (put_of start.memory said) a at.run it;
-          leaves = leaves_turned start old new (put_of start.memory said) a at.run it now past at.leaves leaves;
-          kept = means taken.alive;
-        },
-        (at.turns, refl),
-      )
-
-  pub turn_goes : (old new : EngineState D) (a : Result TurnDone Refusal) (done : TurnDone) → TurnAnswered old a new
-      → (honest new.disk → honest old.disk)
-      → (honest new.disk → old.failed ≡ false
-      → Leaves (now old.disk) (now new.disk) (past old.disk) (past new.disk) (MeansState old))
-      → (honest new.disk → new.failed ≡ false → LeavesNow (now new.disk) (MeansState new)) → a ≡ Ok done
-      → SaysNothing now past honest old new
-  turn_goes old new a done it back leaves means is = λ start said so_far h. let far = so_far (back h) in
-      (far.0, (turned_at start old new said a done far.1 it (leaves h) (means h) is).0)
-
-  turn_ended : (start old new : EngineState D) (said : List Exchange) (a : Result TurnDone Refusal)
-      → At start old said → TurnAnswered old a new
-      → (old.failed ≡ false → Leaves (now old.disk) (now new.disk) (past old.disk) (past new.disk) (MeansState old))
-      → (old.failed ≡ false → LeavesNow (now new.disk) (MeansState old)) → HasEnded now past start new.disk said []
-  turn_ended start old new said a at it leaves means = record {
-    answered = at.answered;
-    leaves = subst (λ (l : List Command). Leaves (now start.disk) (now new.disk) (past start.disk) (past new.disk) (MeansBeginning start l)) (sym (append-nil (put_of start.memory said)))
-        (leaves_turned start old new (put_of start.memory said) a at.run it now past at.leaves leaves);
-    kept = λ file left. said_now start old said file at (means at.works file left);
-  }
-
-  pub turn_halts : (old new : EngineState D) (a : Result TurnDone Refusal) → TurnAnswered old a new
-      → (honest new.disk → honest old.disk)
-      → (honest new.disk → old.failed ≡ false
-      → Leaves (now old.disk) (now new.disk) (past old.disk) (past new.disk) (MeansState old))
-      → (honest new.disk → old.failed ≡ false → LeavesNow (now new.disk) (MeansState old))
-      → Halts now past honest old new
-  turn_halts old new a it back leaves means = λ start said so_far h. let far = so_far (back h) in (far.0, ([], omega arith, turn_ended start old new said a far.1 it (leaves h) (means h)))
-
-  -- ---- commands
-
-  served_at : (start old new : EngineState D) (said : List Exchange) (line name : List ℕ) (c : Command)
-      (a : Result Outcome Refusal) → asked_of line ≡ Some (asks.Serve c) → At start old said → Answered old c a new
-      → (old.failed ≡ false → Leaves (now old.disk) (now new.disk) (past old.disk) (past new.disk) (MeansEither old c))
-      → (new.failed ≡ false → LeavesNow (now new.disk) (MeansState new)) → (a ≡ Err Device → ⊥)
-      → (old.room ≡ 0 → IsSpent (point_of old))
-      → (here : AnswerPoint) × At start new (exchange_at line (Served c a) name here ∷ said)
-  served_at start old new said line name c a asked at it leaves means unless spent =
-      let put : List Command = put_of start.memory said in
-      let f : new.failed ≡ false = works_on old new c a it at.works unless in
-      let m : old.memory ≡ after start.memory (put_of start.memory said) = at.run.memory at.works in
-      let here : AnswerPoint = record { turns = at.turns; point = point_of old } in (
-        here,
-        record {
-          answered = (
-            subst (λ (o : Option Question). AnswersQuestion (after start.memory (put_of start.memory said))
-                (start.count + length (put_of start.memory said)) here o (Served c a)) (sym asked) (
-                  a,
-                  refl,
-                  subst (λ (m : Contents). IsOutcomeOf m (point_of old) c a) m
-                      (is_of old new c a at.works f it spent),
-                ),
-            (at.lead, at.answered),
-          );
-          turns = [];
-          lead = subst (λ (m : Contents). point_of new ≡ point_behind (length (put_by_command m c a)) (point_of old)) m
-              (served_point old new c a at.works f it);
-          works = f;
-          run = far_on start old new (put_of start.memory said) c a at.run it;
-          leaves = leaves_on start old new (put_of start.memory said) c a at.run it now past at.leaves leaves;
-          kept = means f;
-        },
-      )
-
-  pub serve_says : (old new : EngineState D) (c : Command) (a told : Result Outcome Refusal) → Answered old c a new
-      → (honest new.disk → honest old.disk)
-      → (honest new.disk → old.failed ≡ false
-      → Leaves (now old.disk) (now new.disk) (past old.disk) (past new.disk) (MeansEither old c))
-      → (honest new.disk → new.failed ≡ false → LeavesNow (now new.disk) (MeansState new)) → a ≡ told
-      → (a ≡ Err Device → ⊥)
-      → (old.room ≡ 0 → IsSpent (point_of old)) → SaysLine now past honest old new (Some (asks.Serve c)) (Served c told)
-  serve_says old new c a told it back leaves means is unless spent = λ start said line name asked so_far h.
-      let far = so_far (back h) in (
-        far.0,
-        subst (λ (a : Result Outcome Refusal). (here : AnswerPoint)
-            × At start new (exchange_at line (Served c a) name here ∷ said)) is
-            (served_at start old new said line name c a asked far.1 it (leaves h) (means h) unless spent),
-      )
-
-  -- the file has what was said, and the command in doubt or not
-  in_doubt : (start : EngineState D) (said : List Exchange) (c : Command) (more : List Command) (file : List ℕ)
-      → more ≡ c ∷ [] → AllOrLess start (put_of start.memory said ++ more) file → MeansSaid start said more file
-  in_doubt start said c more file one (many, inl all, means) = (many, inr all, means)
-  in_doubt start said c more file one (many, inr less, means) =
-      let len = length-append (put_of start.memory said) more in
-      let single : length more ≡ 1 = ap (λ (l : List Command). length l) one in
-      let e = less.1 in
-      (many, inl (omega arith), means)
-
-  serve_ended : (start old new : EngineState D) (said : List Exchange) (c : Command) (a : Result Outcome Refusal)
-      → At start old said → Answered old c a new
-      → (old.failed ≡ false → Leaves (now old.disk) (now new.disk) (past old.disk) (past new.disk) (MeansEither old c))
-      → (old.failed ≡ false → LeavesNow (now new.disk) (MeansEither old c))
-      → (doubt : List Command) × (length doubt ≤ MAX_GROUP) × HasEnded now past start new.disk said doubt
-  serve_ended start old new said c a at it leaves doubt = elim (went start old new (put_of start.memory said) c a at.run it) [
-    | inl same ↦ ([], omega arith, subst (λ (s : EngineState D). HasEnded now past start s.disk said []) (sym same.0) (ended_at start old said at))
-    | inr on ↦ (
-      put_by_command (after start.memory (put_of start.memory said)) c a,
-      subst (λ (l : List Command). length l ≤ MAX_GROUP) (sym on.0) (omega arith),
+  -- it was put
+  put_by_it : is_accepted old.memory c ≡ true → a ≡ (step old.memory c).answer
+      → new ≡ record (with_command old c) { disk = new.disk; pages = new.pages } → CommandSaid old new c a
+  put_by_it accepted told same =
+      let o = accepted_answers old.memory c accepted in
+      let is : a ≡ Ok o.0 = told ∙ o.1 in
+      let sure : sure_by old.memory c a ≡ c ∷ []
+      = ap (sure_by old.memory c) is ∙ ap (λ (b : Bool). if b then c ∷ [] else []) accepted in
       record {
-        answered = at.answered;
-        leaves = leaves_on start old new (put_of start.memory said) c a at.run it now past at.leaves leaves;
-        kept = λ file left. in_doubt start said c (put_by_command (after start.memory (put_of start.memory said)) c a) file on.0
-            (now_on start old new (put_of start.memory said) c a at.run it now
-            (λ f l. (length (put_of start.memory said), inl refl, means_all start old (put_of start.memory said) at.run at.works f (at.kept f l))) doubt file left);
+        outcome = inl told;
+        doubt = ap (doubted_by old.memory c) is;
+        point = ap (λ (s : EngineState D). point_of s) same
+            ∙ ap (λ (l : List Command). point_behind (length l) (point_of old)) (sym sure);
+        memory = ap (λ (s : EngineState D). s.memory) same ∙ ap (λ (l : List Command). after old.memory l) (sym sure);
+        count = omega (
+          arith,
+          ap (λ (s : EngineState D). s.count) same,
+          ap (λ (l : List Command). length l) sure,
+        );
+        works = ap (λ (s : EngineState D). s.failed) same ∙ f;
+      }
+
+  command_said : (a ≡ Err Device → ⊥) → (old.room ≡ 0 → IsSpent (point_of old)) → CommandSaid old new c a
+  command_said unless spent = ⊎_elim
+      (λ accepted. ⊎_elim
+      (λ none. let full = it.full f accepted none in
+      stayed_by (inr (accepted, (full.0, (none, spent none)))) (ap (sure_by old.memory c) full.0)
+      (ap (doubted_by old.memory c) full.0
+      ∙ ap (λ (b : Bool). if b && is_device JournalFull then c ∷ [] else []) accepted) full.1)
+      (λ some. ⊎_elim
+      (λ done. put_by_it accepted done.0 done.1)
+      (λ fault. absurd (unless fault.0))
+      (it.put f accepted some))
+      (none_or_some old.room))
+      (λ un. let same = it.unaccepted f un in
+      stayed_by (inl same.0) (unsure old.memory c a un) (undoubted old.memory c a un) same.1)
+      (true_or_false (is_accepted old.memory c))
+
+-- ---- what was said, and then more
+
+-- what was put by all of it
+pub put_append : (m : Contents) (ys xs : List Exchange)
+    → put_of m (ys ++ xs) ≡ put_of m xs ++ put_of (after m (put_of m xs)) ys
+put_append m [] xs = sym (append-nil (put_of m xs))
+put_append m (y ∷ ys) xs =
+    let here : Contents = after m (put_of m xs) in
+    let rest : put_of m (ys ++ xs) ≡ put_of m xs ++ put_of here ys = put_append m ys xs in
+    ap₂ (λ (l : List Command) (k : Contents). l ++ put_by k y.answer) rest
+    (ap (λ (l : List Command). after m l) rest ∙ after-append m (put_of m xs) (put_of here ys))
+    ∙ append_assoc (put_of m xs) (put_of here ys) (put_by (after here (put_of here ys)) y.answer)
+
+-- the memory behind it
+behind_append : (m : Contents) (ys xs : List Exchange)
+    → after m (put_of m (ys ++ xs)) ≡ after (after m (put_of m xs)) (put_of (after m (put_of m xs)) ys)
+behind_append m ys xs = ap (λ (l : List Command). after m l) (put_append m ys xs)
+    ∙ after-append m (put_of m xs) (put_of (after m (put_of m xs)) ys)
+
+-- its lines
+texts_append : (watch : Bool) (m : Contents) (ys xs : List Exchange)
+    → texts_of watch m (ys ++ xs) ≡ texts_of watch m xs ++ texts_of watch (after m (put_of m xs)) ys
+texts_append watch m [] xs = sym (append-nil (texts_of watch m xs))
+texts_append watch m (y ∷ ys) xs =
+    let here : Contents = after m (put_of m xs) in
+    let last : Contents → List ℕ = λ k. answer_text y.name k y.answer ++ watch_text watch k y.answer in
+    ap₂ (λ (t : List ℕ) (k : Contents). t ++ last k) (texts_append watch m ys xs) (behind_append m ys xs)
+    ∙ append_assoc (texts_of watch m xs) (texts_of watch here ys) (last (after here (put_of here ys)))
+
+-- its backups
+backups_append : (m : Contents) (ys xs : List Exchange)
+    → backups_of m (ys ++ xs) ≡ backups_of (after m (put_of m xs)) ys ++ backups_of m xs
+backups_append m [] xs = refl
+backups_append m (y ∷ ys) xs =
+    let here : Contents = after m (put_of m xs) in
+    ap₂ (λ (k : Contents) (l : List Backup). backup_by k y.answer ++ l) (behind_append m ys xs) (backups_append m ys xs)
+    ∙ sym (append_assoc (backup_by (after here (put_of here ys)) y.answer) (backups_of here ys) (backups_of m xs))
+
+-- what it asked for
+questions_append : (ys xs : List Exchange) → questions_of (ys ++ xs) ≡ questions_of xs ++ questions_of ys
+questions_append [] xs = sym (append-nil (questions_of xs))
+questions_append (y ∷ ys) xs =
+    ap (λ (l : List (Option Question)). l ++ asked_of y.line ∷ []) (questions_append ys xs)
+    ∙ append_assoc (questions_of xs) (questions_of ys) (asked_of y.line ∷ [])
+
+-- turns, and then more
+turns_append : (ts us : List TurnDone) (p q r : Point) → TurnsLead us p q → TurnsLead ts q r → TurnsLead (ts ++ us) p r
+turns_append [] us p q r first same = subst (λ (x : Point). TurnsLead us p x) (sym same) first
+turns_append (t ∷ ts) us p q r first (mid, (before, last)) = (mid, (turns_append ts us p q mid first before, last))
+
+-- an answer behind more turns
+answers_later : (m : Contents) (n : ℕ) (turns more : List TurnDone) (p : Point) (asked : Option Question)
+    (answer : LineAnswer) → AnswersQuestion m n turns p asked answer
+    → AnswersQuestion m n (turns ++ more) p asked answer
+answers_later m n turns more p (Some (asks.Serve command)) answer it = it
+answers_later m n turns more p (Some (asks.Look look)) answer it = it
+answers_later m n turns more p (Some (asks.Window element)) answer it = it
+answers_later m n turns more p (Some asks.Room) answer it = it
+answers_later m n turns more p (Some asks.Turn) answer (done, (is, (before, same))) =
+    (done, (is, (before ++ more, ap (λ (l : List TurnDone). l ++ more) same)))
+answers_later m n turns more p (Some asks.Count) answer it = it
+answers_later m n turns more p (Some asks.About) answer it = it
+answers_later m n turns more p (Some (asks.Backup name)) answer it = it
+answers_later m n turns more p (Some asks.Quit) answer it = it
+answers_later m n turns more p None answer it = it
+
+-- turns lead from behind what was said to where more was said
+module _ (m : Contents) (p : Point) (xs : List Exchange) (q : Point) (us : List TurnDone)
+    (lead : TurnsLead us (stands_behind m p xs) q) (counted : q.count ≡ p.count + length (put_of m xs)) where
+  abbrev here : Contents
+  here = after m (put_of m xs)
+
+  turns_before : (ys : List Exchange)
+      → (more : List TurnDone) × TurnsLead more (stands_behind m p (ys ++ xs)) (stands_behind here q ys)
+  turns_before [] = (us, lead)
+  turns_before (y ∷ ys) = ([], ap (λ (k : Contents). point_behind (length (put_by k y.answer)) y.here)
+      (sym (behind_append m ys xs)))
+
+  answered_append : (ys : List Exchange) → AreAnswered here q ys → AreAnswered m p xs → AreAnswered m p (ys ++ xs)
+  answered_append [] it base = base
+  answered_append (y ∷ ys) (turns, (answer, (led, rest))) base =
+      let before = turns_before ys in
+      let same : after here (put_of here ys) ≡ after m (put_of m (ys ++ xs)) = sym (behind_append m ys xs) in
+      let count : q.count + length (put_of here ys) ≡ p.count + length (put_of m (ys ++ xs)) = omega (
+        arith,
+        counted,
+        ap (λ (l : List Command). length l) (put_append m ys xs),
+        length-append (put_of m xs) (put_of here ys),
+      ) in (
+        turns ++ before.0,
+        (
+          subst (λ (n : ℕ). AnswersQuestion (after m (put_of m (ys ++ xs))) n (turns ++ before.0) y.here
+              (asked_of y.line) y.answer) count
+              (subst (λ (k : Contents). AnswersQuestion k (q.count + length (put_of here ys)) (turns ++ before.0) y.here
+              (asked_of y.line) y.answer) same
+              (answers_later (after here (put_of here ys)) (q.count + length (put_of here ys)) turns before.0 y.here
+              (asked_of y.line) y.answer answer)),
+          (
+            turns_append turns before.0 (stands_behind m p (ys ++ xs)) (stands_behind here q ys) y.here before.1 led,
+            answered_append ys rest base,
+          ),
+        ),
+      )
+
+-- ---- with a session
+
+module _ {D : Type 0} (old mid new : SessionState D) (xs ys : List Exchange) (first : HasSaid old mid xs) where
+  abbrev was : Contents
+  was = old.engine.memory
+
+  abbrev been : Contents
+  been = mid.engine.memory
+
+  -- what was put by all of it
+  all_put : put_of was (ys ++ xs) ≡ put_of was xs ++ put_of been ys
+  all_put = put_append was ys xs ∙ ap (λ (k : Contents). put_of was xs ++ put_of k ys) (sym first.memory)
+
+  all_answered : AreAnswered been (point_of mid.engine) ys → AreAnswered was (point_of old.engine) (ys ++ xs)
+  all_answered it = answered_append was (point_of old.engine) xs (point_of mid.engine) first.turns first.lead
+      first.count ys (subst (λ (k : Contents). AreAnswered k (point_of mid.engine) ys) first.memory it) first.answered
+
+  -- what the session has put then
+  all_of_it : old.put ++ put_of was (ys ++ xs) ≡ (old.put ++ put_of was xs) ++ put_of been ys
+  all_of_it = ap (λ (l : List Command). old.put ++ l) all_put
+      ∙ sym (append_assoc old.put (put_of was xs) (put_of been ys))
+
+  pub said_on : HasSaid mid new ys → HasSaid old new (ys ++ xs)
+  said_on it =
+      let before = turns_before was (point_of old.engine) xs (point_of mid.engine) first.turns first.lead first.count ys
+      in
+      record {
+        answered = all_answered it.answered;
+        turns = it.turns ++ before.0;
+        lead = turns_append it.turns before.0 (stands_behind was (point_of old.engine) (ys ++ xs))
+            (stands_behind (after was (put_of was xs)) (point_of mid.engine) ys) (point_of new.engine) before.1
+            (subst (λ (k : Contents). TurnsLead it.turns (stands_behind k (point_of mid.engine) ys)
+            (point_of new.engine)) first.memory it.lead);
+        same = it.same
+            ∙ ap (λ (s : SessionState D). session_of s.start (s.put ++ put_of been ys) s.doubt new.engine) first.same
+            ∙ ap (λ (l : List Command). session_of old.start l old.doubt new.engine) (sym all_of_it);
+        memory = it.memory ∙ ap (λ (k : Contents). after k (put_of been ys)) first.memory
+            ∙ sym (after-append was (put_of was xs) (put_of been ys))
+            ∙ ap (λ (l : List Command). after was l) (sym all_put);
+        count = omega (
+          arith,
+          it.count,
+          first.count,
+          ap (λ (l : List Command). length l) all_put,
+          length-append (put_of was xs) (put_of been ys),
+        );
+        works = it.works;
+      }
+
+  pub ended_on : HasEnded mid new ys → HasEnded old new (ys ++ xs)
+  ended_on it = record {
+    answered = all_answered it.answered;
+    doubt = it.doubt;
+    few = it.few;
+    same = it.same
+        ∙ ap (λ (s : SessionState D). session_of s.start (s.put ++ put_of been ys) (s.doubt ++ it.doubt) new.engine)
+        first.same
+        ∙ ap (λ (l : List Command). session_of old.start l (old.doubt ++ it.doubt) new.engine) (sym all_of_it);
+  }
+
+-- nothing was said yet
+pub nothing_said : {D : Type 0} (s : SessionState D) → s.engine.failed ≡ false → HasSaid s s []
+nothing_said s f = record {
+  answered = tt;
+  turns = [];
+  lead = refl;
+  same = ap (λ (l : List Command). session_of s.start l s.doubt s.engine) (sym (append-nil s.put));
+  memory = refl;
+  count = omega arith;
+  works = f;
+}
+
+-- it is ended where it stands
+pub ended_here : {D : Type 0} (old new : SessionState D) (said : List Exchange) → HasSaid old new said
+    → HasEnded old new said
+ended_here old new said it = record {
+  answered = it.answered;
+  doubt = [];
+  few = omega arith;
+  same = it.same
+      ∙ ap (λ (l : List Command). session_of old.start (old.put ++ put_of old.engine.memory said) l new.engine)
+      (sym (append-nil old.doubt));
+}
+
+-- ---- turns
+
+abbrev pub taken_none : {D : Type 0} (s : SessionState D) → OnlyTurned s s
+taken_none s = record { rests = rests_none s; works = refl; turns = []; lead = refl }
+
+abbrev pub taken_more : {D : Type 0} (old mid new : SessionState D) (a : Result TurnDone Refusal) (done : TurnDone)
+    → OnlyTurned old mid → Rests mid new → TurnAnswered mid.engine a new.engine → a ≡ Ok done → OnlyTurned old new
+taken_more old mid new a done it rests answered is = record {
+  rests = rests_then old mid new it.rests rests;
+  works = turn_works mid.engine new.engine a done answered is ∙ it.works;
+  turns = done ∷ it.turns;
+  lead = (point_of mid.engine, (it.lead, turn_leads mid.engine new.engine a done answered is));
+}
+
+-- the same by a call that made room
+pub taken_room : {D T E : Type 0} (old new : SessionState D) (least : ℕ) (r : Result T E) → Rests old new
+    → OnOk r (new.engine.failed ≡ old.engine.failed)
+    → OnOk r (HasMadeRoom least (point_of old.engine) (point_of new.engine))
+    → ((e : E) → r ≡ Err e → ⊥) → OnlyTurned old new
+taken_room old new least r rests works room done = let made = on_default r room done in record {
+  rests = rests;
+  works = on_default r works done;
+  turns = made.turns;
+  lead = made.lead;
+}
+
+-- nothing was said by them
+abbrev pub taken_said : {D : Type 0} (old new : SessionState D) → OnlyTurned old new → old.engine.failed ≡ false
+    → HasSaid old new []
+taken_said {D} old new it f = record {
+  answered = tt;
+  turns = it.turns;
+  lead = it.lead;
+  same = it.rests.same
+      ∙ ap (λ (l : List Command). session_of old.start l old.doubt new.engine) (sym (append-nil old.put));
+  memory = it.rests.memory;
+  count = let count = it.rests.count in omega (arith, count);
+  works = it.works ∙ f;
+}
+
+-- it was ended by a turn
+pub rests_halts : {D : Type 0} (old new : SessionState D) → Rests old new → Halts old new
+rests_halts {D} old new rests = λ f. record {
+  answered = tt;
+  doubt = [];
+  few = omega arith;
+  same = rests.same ∙ ap₂ (λ (l k : List Command). session_of old.start l k new.engine) (sym (append-nil old.put))
+      (sym (append-nil old.doubt));
+}
+
+-- ---- one line
+
+module _ {D : Type 0} (old new : SessionState D) (c : Command) (a : Result Outcome Refusal)
+    (it : Answered old.engine c a new.engine) (put : new ≡ served_one old c a new.engine) where
+  -- a command was answered
+  pub serve_says : (told : Result Outcome Refusal) → a ≡ told → (a ≡ Err Device → ⊥)
+      → (old.engine.room ≡ 0 → IsSpent (point_of old.engine)) → SaysLine old new (Some (asks.Serve c)) (Served c told)
+  serve_says told is unless spent = λ f line name asked.
+      let said = command_said old.engine new.engine c a f it unless spent in
+      let here : Point = point_of old.engine in (
+        here,
+        subst (λ (x : Result Outcome Refusal). HasSaid old new (exchange_at line (Served c x) name here ∷ [])) is
+            (record {
+              answered = (
+                [],
+                (
+                  subst (λ (o : Option Question). AnswersQuestion old.engine.memory
+                      (old.engine.count + length (put_of old.engine.memory [])) [] here o (Served c a)) (sym asked)
+                      (a, refl, said.outcome),
+                  (refl, tt),
+                ),
+              );
+              turns = [];
+              lead = said.point;
+              same = put
+                  ∙ ap (λ (l : List Command). session_of old.start (old.put ++ sure_by old.engine.memory c a) l
+                  new.engine) (ap (λ (l : List Command). old.doubt ++ l) said.doubt ∙ append-nil old.doubt);
+              memory = said.memory;
+              count = said.count;
+              works = said.works;
+            }),
+      )
+
+  -- it was refused, and may be in doubt
+  pub serve_halts : (refusal : Refusal) → a ≡ Err refusal → Halts old new
+  serve_halts refusal is = λ f. record {
+    answered = tt;
+    doubt = doubted_by old.engine.memory c a;
+    few = doubted_few old.engine.memory c a;
+    same = put
+        ∙ ap (λ (x : Result Outcome Refusal). session_of old.start (old.put ++ sure_by old.engine.memory c x)
+        (old.doubt ++ doubted_by old.engine.memory c a) new.engine) is;
+  }
+
+-- a line that puts nothing was answered behind turns
+quiet_said : {D : Type 0} (old new : SessionState D) (rest : HasSaid old new []) (asked : Option Question)
+    (answer : LineAnswer) → ((m : Contents) → put_by m answer ≡ [])
+    → AnswersQuestion old.engine.memory old.engine.count rest.turns (point_of new.engine) asked answer
+    → (line name : List ℕ) → asked_of line ≡ asked
+    → (here : Point) × HasSaid old new (exchange_at line answer name here ∷ [])
+quiet_said {D} old new rest asked answer none answers line name read =
+    let here : Point = point_of new.engine in
+    let nothing : put_by old.engine.memory answer ≡ [] = none old.engine.memory in
+    let n : old.engine.count ≡ old.engine.count + length (put_of old.engine.memory []) = omega arith in
+    let count = rest.count in (
+      here,
+      record {
+        answered = (
+          rest.turns,
+          (
+            subst (λ (o : Option Question). AnswersQuestion old.engine.memory
+                (old.engine.count + length (put_of old.engine.memory [])) rest.turns here o answer) (sym read)
+                (subst (λ (k : ℕ). AnswersQuestion old.engine.memory k rest.turns here asked answer) n answers),
+            (rest.lead, tt),
+          ),
+        );
+        turns = [];
+        lead = sym (ap (λ (l : List Command). point_behind (length l) here) nothing);
+        same = rest.same
+            ∙ ap (λ (l : List Command). session_of old.start (old.put ++ l) old.doubt new.engine) (sym nothing);
+        memory = rest.memory ∙ ap (λ (l : List Command). after old.engine.memory l) (sym nothing);
+        count = omega (arith, count, ap (λ (l : List Command). length l) nothing);
+        works = rest.works;
       },
     )
-  ]
 
-  pub serve_halts : (old new : EngineState D) (c : Command) (a : Result Outcome Refusal) → Answered old c a new
-      → (honest new.disk → honest old.disk)
-      → (honest new.disk → old.failed ≡ false
-      → Leaves (now old.disk) (now new.disk) (past old.disk) (past new.disk) (MeansEither old c))
-      → (honest new.disk → old.failed ≡ false → LeavesNow (now new.disk) (MeansEither old c))
-      → Halts now past honest old new
-  serve_halts old new c a it back leaves doubt = λ start said so_far h. let far = so_far (back h) in (far.0, serve_ended start old new said c a far.1 it (leaves h) (doubt h))
+-- a line was answered, and the session is as it was
+pub quiet : {D : Type 0} (s : SessionState D) (asked : Option Question) (answer : LineAnswer)
+    → ((m : Contents) → put_by m answer ≡ [])
+    → (s.engine.failed ≡ false → (turns : List TurnDone) → AnswersQuestion s.engine.memory s.engine.count
+    turns (point_of s.engine) asked answer)
+    → SaysNow s asked answer
+quiet s asked answer none answers = λ f line name read.
+    let rest = nothing_said s f in quiet_said s s rest asked answer none (answers f rest.turns) line name read
 
-  -- ---- answers that leave the engine as it is
+-- a turn that was asked for, and what it did
+pub turn_says : {D : Type 0} (old new : SessionState D) (a : Result TurnDone Refusal) (done : TurnDone) → Rests old new
+    → TurnAnswered old.engine a new.engine → a ≡ Ok done → SaysLine old new (Some asks.Turn) (Turned done)
+turn_says old new a done rests answered is = λ f line name read.
+    quiet_said old new (taken_said old new (taken_more old old new a done (taken_none old) rests answered is) f)
+    (Some asks.Turn) (Turned done) (λ m. refl) (done, (refl, ([], refl))) line name read
 
-  quiet_at : (start engine : EngineState D) (said : List Exchange) (line name : List ℕ) (asked : Option Question)
-      (answer : LineAnswer) → asked_of line ≡ asked → (at : At start engine said)
-      → ((m : Contents) → put_by m answer ≡ []) → AnswersQuestion engine.memory engine.count
-      (record { turns = at.turns; point = point_of engine }) asked answer
-      → (here : AnswerPoint) × At start engine (exchange_at line answer name here ∷ said)
-  quiet_at start engine said line name asked answer is at none answers =
-      let here : AnswerPoint = record { turns = at.turns; point = point_of engine } in
-      let m : engine.memory ≡ after start.memory (put_of start.memory said) = at.run.memory at.works in
-      let n : engine.count ≡ start.count + length (put_of start.memory said) = at.run.count at.works in
-      let nothing = none (after start.memory (put_of start.memory said)) in
-      let same : put_of start.memory said ++ put_by (after start.memory (put_of start.memory said)) answer ≡ put_of start.memory said
-      = ap (λ (l : List Command). put_of start.memory said ++ l) nothing ∙ append-nil (put_of start.memory said) in (
-        here,
+-- the answer of the last call, behind turns that made room
+pub then_says : {D : Type 0} (old mid new : SessionState D) (asked : Option Question)
+    (result : Result LineAnswer Refusal) → (old.engine.failed ≡ false → HasSaid old mid [])
+    → MatchResult result (λ answer. SaysLine mid new asked answer) (λ e. Halts mid new)
+    → MatchResult result (λ answer. SaysLine old new asked answer) (λ e. Halts old new)
+then_says old mid new asked (Ok answer) before it = λ f line name read.
+    let first = before f in
+    let said = it first.works line name read in
+    (said.0, said_on old mid new [] (exchange_at line answer name said.0 ∷ []) first said.1)
+then_says old mid new asked (Err refusal) before it = λ f.
+    let first = before f in ended_on old mid new [] [] first (it first.works)
+
+pub says_as : {D : Type 0} (old new : SessionState D) (asked other : Option Question) (answer : LineAnswer)
+    → other ≡ asked → SaysLine old new asked answer → SaysLine old new other answer
+says_as old new asked other answer same says = λ f line name read. says f line name (read ∙ same)
+
+-- ---- what was printed
+
+-- a text, and a beginning of what follows
+begins_past : (a b c : Option (List ℕ)) (xs ys : List ℕ) → Appends a b xs → Begins b c ys → Begins a c (xs ++ ys)
+begins_past a b c xs ys before (many, more) = (
+  length xs + many,
+  subst (Appends a c) (sym (take-past xs ys many)) (Appends-trans a b c xs (take many ys) before more),
+)
+
+-- the line of an answer on this memory, and what is told behind it
+abbrev line_on : Bool → List ℕ → Contents → LineAnswer → List ℕ
+line_on watch name m answer = answer_text name m answer ++ watch_text watch m answer
+
+module _ {D : Type 0} (watch : Bool) where
+  abbrev On : SessionState D → Outputs → SessionState D → Outputs → Type 0
+  On = TalksOn watch
+
+  abbrev Ends : SessionState D → Outputs → SessionState D → Outputs → Type 0
+  Ends = TalkEnds watch
+
+  -- what was said, and then more
+  module _ (old mid : SessionState D) (was been : Outputs) (a : Talking watch old was mid been) (ys : List Exchange)
+      where
+    all_texts : texts_of watch old.engine.memory a.said ++ texts_of watch mid.engine.memory ys
+        ≡ texts_of watch old.engine.memory (ys ++ a.said)
+    all_texts = ap (λ (k : Contents). texts_of watch old.engine.memory a.said ++ texts_of watch k ys) a.done.memory
+        ∙ sym (texts_append watch old.engine.memory ys a.said)
+
+    all_kept : (is : Outputs) → AreKept mid.engine.memory been is ys → AreKept old.engine.memory was is (ys ++ a.said)
+    all_kept is kept = kept
+        ∙ ap₂ (λ (k : Contents) (l : List Backup). backups_of k ys ++ l) a.done.memory a.backups
+        ∙ sym (append_assoc (backups_of (after old.engine.memory (put_of old.engine.memory a.said)) ys)
+        (backups_of old.engine.memory a.said) was.backups)
+        ∙ ap (λ (l : List Backup). l ++ was.backups) (sym (backups_append old.engine.memory ys a.said))
+
+  -- what was said, and then what the last call comes to
+  pub then_talks : {T E : Type 0} (old mid new : SessionState D) (was been : Outputs) (is : T → Outputs) (end : Outputs)
+      (result : Result T E) → On old was mid been
+      → MatchResult result (λ n. On mid been new (is n)) (λ e. Ends mid been new end)
+      → MatchResult result (λ n. On old was new (is n)) (λ e. Ends old was new end)
+  then_talks old mid new was been is end (Ok n) on it = λ f.
+      let a = on f in
+      let b = it a.done.works in
+      record {
+        said = b.said ++ a.said;
+        done = said_on old mid new a.said b.said a.done b.done;
+        printed = subst (Appends was.text (is n).text) (all_texts old mid was been a b.said)
+            (Appends-trans was.text been.text (is n).text (texts_of watch old.engine.memory a.said)
+            (texts_of watch mid.engine.memory b.said) a.printed b.printed);
+        backups = all_kept old mid was been a b.said (is n) b.backups;
+        heard = subst (λ (l : List (Option Question)). Hears was.left (is n).left l)
+            (sym (questions_append b.said a.said)) (hears_on was.left been.left (is n).left (questions_of a.said)
+            (questions_of b.said) a.heard b.heard);
+      }
+  then_talks old mid new was been is end (Err e) on it = λ f.
+      let a = on f in
+      let b = it a.done.works in
+      record {
+        said = b.said ++ a.said;
+        ended = ended_on old mid new a.said b.said a.done b.ended;
+        printed = subst (Begins was.text end.text) (all_texts old mid was been a b.said)
+            (begins_past was.text been.text end.text (texts_of watch old.engine.memory a.said)
+            (texts_of watch mid.engine.memory b.said) a.printed b.printed);
+        backups = all_kept old mid was been a b.said end b.backups;
+        heard = subst (λ (l : List (Option Question)). HearsSome was.left l) (sym (questions_append b.said a.said))
+            (hears_some_on was.left been.left (questions_of a.said) (questions_of b.said) a.heard b.heard);
+      }
+
+  pub on_after : (old mid new : SessionState D) (was been is : Outputs) → On old was mid been → On mid been new is
+      → On old was new is
+  on_after old mid new was been is on it =
+      then_talks {E = ⊥} old mid new was been (λ (done : Unit {0}). is) is (Ok tt) on it
+
+  pub ends_after : (old mid new : SessionState D) (was been is : Outputs) → On old was mid been → Ends mid been new is
+      → Ends old was new is
+  ends_after old mid new was been is on it =
+      then_talks {T = ⊥} {E = Unit {0}} old mid new was been (λ done. is) is (Err tt) on it
+
+  -- nothing was said, and what is left is known as well by another name
+  pub nothing_talked : (old new : SessionState D) (was : Outputs) (later : Left)
+      → (old.engine.failed ≡ false → HasSaid old new []) → IfSome was.left (λ l. later ≡ Some l)
+      → On old was new (with_left later was)
+  nothing_talked old new was later done same = λ f. record {
+    said = [];
+    done = done f;
+    printed = Appends-nil was.text;
+    backups = refl;
+    heard = hears_as was.left was.left later [] (hears_none was.left) same;
+  }
+
+  pub goes_talk : (old new : SessionState D) (was : Outputs) → (old.engine.failed ≡ false → HasSaid old new [])
+      → On old was new was
+  goes_talk old new was done = nothing_talked old new was was.left done (same_left was.left was.left refl)
+
+  -- it was ended, and nothing was said
+  pub halts_talk : (old new : SessionState D) (was : Outputs) (left : Left) → Halts old new
+      → Ends old was new (with_left left was)
+  halts_talk old new was left halts = λ f. record {
+    said = [];
+    ended = halts f;
+    printed = (0, Appends-nil was.text);
+    backups = refl;
+    heard = heard_some was.left was.left [] (hears_none was.left);
+  }
+
+  pub talk_ends_here : (s : SessionState D) (was : Outputs) (left : Left) → Ends s was s (with_left left was)
+  talk_ends_here s was left = halts_talk s s was left (λ f. ended_here s s [] (nothing_said s f))
+
+  -- what was said is ended where it stands
+  pub end_here : (old new : SessionState D) (was is : Outputs) (left : Left) → On old was new is
+      → Ends old was new (with_left left is)
+  end_here old new was is left on = ends_after old new new was is (with_left left is) on (talk_ends_here new is left)
+
+  -- ---- a line
+
+  -- what was answered
+  answered_so : (old new : SessionState D) (asked : Option Question) (answer : LineAnswer) (line name : List ℕ)
+      (here : Point) → asked_of line ≡ asked → (it : HasSaid old new (exchange_at line answer name here ∷ []))
+      → AnswersQuestion old.engine.memory (old.engine.count + length (put_of old.engine.memory [])) it.answered.0 here
+      asked answer
+  answered_so old new asked answer line name here read it =
+      subst (λ (o : Option Question). AnswersQuestion old.engine.memory
+      (old.engine.count + length (put_of old.engine.memory [])) it.answered.0 here o answer) read it.answered.1.0
+
+  module _ (old new : SessionState D) (was is : Outputs) (asked : Option Question) (answer : LineAnswer)
+      (line name told : List ℕ) (read : asked_of line ≡ asked) (says : SaysLine old new asked answer)
+      (tells : (n : ℕ) (turns : List TurnDone) (here : Point)
+      → AnswersQuestion old.engine.memory n turns here asked answer
+      → told ≡ line_on watch name old.engine.memory answer)
+      (kept : is.backups ≡ backup_by old.engine.memory answer ++ was.backups) where
+    abbrev many : ℕ
+    many = old.engine.count + length (put_of old.engine.memory [])
+
+    one_kept : (p : Point) → AreKept old.engine.memory was is (exchange_at line answer name p ∷ [])
+    one_kept p = kept
+        ∙ ap (λ (l : List Backup). l ++ was.backups) (sym (append-nil (backup_by old.engine.memory answer)))
+
+    -- it was printed, and those behind it
+    pub talks_on : Appends was.text is.text told
+        → ((n : ℕ) (turns : List TurnDone) (here : Point)
+        → AnswersQuestion old.engine.memory n turns here asked answer → Hears was.left is.left (asked ∷ []))
+        → On old was new is
+    talks_on printed hears = λ f.
+        let said = says f line name read in
+        let so = answered_so old new asked answer line name said.0 read said.1 in
         record {
-          answered = (
-            subst (λ (o : Option Question). AnswersQuestion (after start.memory (put_of start.memory said))
-                (start.count + length (put_of start.memory said)) here o answer) (sym is)
-                (subst (λ (m : Contents). AnswersQuestion m
-                (start.count + length (put_of start.memory said)) here asked answer) m
-                (subst (λ (n : ℕ). AnswersQuestion engine.memory n here asked answer) n answers)),
-            (at.lead, at.answered),
-          );
-          turns = [];
-          lead = sym (ap (λ (l : List Command). point_behind (length l) (point_of engine)) nothing);
-          works = at.works;
-          run = subst (λ (l : List Command). HasRun start engine l) (sym same) at.run;
-          leaves = subst
-              (λ (l : List Command). Leaves (now start.disk) (now engine.disk) (past start.disk) (past engine.disk)
-              (MeansBeginning start l)) (sym same) at.leaves;
-          kept = at.kept;
-        },
-      )
-
-  pub quiet : (engine : EngineState D) (asked : Option Question) (answer : LineAnswer)
-      → ((m : Contents) → put_by m answer ≡ [])
-      → (engine.failed ≡ false → (turns : List TurnDone) → AnswersQuestion engine.memory engine.count
-      (record { turns = turns; point = point_of engine }) asked answer)
-      → SaysLine now past honest engine engine asked answer
-  quiet engine asked answer none answers = λ start said line name is so_far h. let far = so_far h in
-      (far.0, quiet_at start engine said line name asked answer is far.1 none (answers far.1.works far.1.turns))
-
-  -- a turn that was asked for, and what it did
-  pub turn_says : (old new : EngineState D) (a : Result TurnDone Refusal) (done : TurnDone) → TurnAnswered old a new
-      → (honest new.disk → honest old.disk)
-      → (honest new.disk → old.failed ≡ false
-      → Leaves (now old.disk) (now new.disk) (past old.disk) (past new.disk) (MeansState old))
-      → (honest new.disk → new.failed ≡ false → LeavesNow (now new.disk) (MeansState new)) → a ≡ Ok done
-      → SaysLine now past honest old new (Some asks.Turn) (Turned done)
-  turn_says old new a done it back leaves means is = λ start said line name asked so_far h.
-      let far = so_far (back h) in
-      let at = turned_at start old new said a done far.1 it (leaves h) (means h) is in (
-        far.0,
-        quiet_at start new said line name (Some asks.Turn) (Turned done) asked at.0 (λ m. refl)
-            (done, (refl, at.1)),
-      )
-
-  pub goes_after : (old mid new : EngineState D) → SaysNothing now past honest old mid
-      → SaysNothing now past honest mid new
-      → SaysNothing now past honest old new
-  goes_after old mid new goes it = λ start said so_far. it start said (goes start said so_far)
-
-  -- after a call that said nothing
-  pub says_after : (old mid new : EngineState D) (asked : Option Question) (answer : LineAnswer)
-      → SaysNothing now past honest old mid → SaysLine now past honest mid new asked answer
-      → SaysLine now past honest old new asked answer
-  says_after old mid new asked answer goes says = λ start said line name is so_far. says start said line name is (goes start said so_far)
-
-  pub halts_after : (old mid new : EngineState D) → SaysNothing now past honest old mid
-      → Halts now past honest mid new → Halts now past honest old new
-  halts_after old mid new goes halts = λ start said so_far. halts start said (goes start said so_far)
-
-  -- the answer of the last call, after one that said nothing
-  pub then_says : (old mid new : EngineState D) (asked : Option Question) (result : Result LineAnswer Refusal)
-      → SaysNothing now past honest old mid
-      → MatchResult result (λ answer. SaysLine now past honest mid new asked answer) (λ e. Halts now past honest mid new)
-      → MatchResult result (λ answer. SaysLine now past honest old new asked answer) (λ e. Halts now past honest old new)
-  then_says old mid new asked (Ok answer) goes it = says_after old mid new asked answer goes it
-  then_says old mid new asked (Err refusal) goes it = halts_after old mid new goes it
-
-  pub says_as : (old new : EngineState D) (asked other : Option Question) (answer : LineAnswer) → other ≡ asked
-      → SaysLine now past honest old new asked answer → SaysLine now past honest old new other answer
-  says_as old new asked other answer same says = λ start said line name is. says start said line name (is ∙ same)
-
-  -- ---- what was printed
-
-  module _ (watch : Bool) where
-    abbrev On : EngineState D → Outputs → EngineState D → Outputs → Type 0
-    On = TalksOn watch now past honest
-
-    abbrev Ends : EngineState D → Outputs → EngineState D → Outputs → Type 0
-    Ends = TalkEnds watch now past honest
-
-    pub silent : (start engine : EngineState D) (held was is : Outputs) (said after_all : List Exchange) (text : List ℕ)
-        → At start engine after_all
-        → texts_of watch start.memory after_all ≡ texts_of watch start.memory said ++ text
-        → Appends held.text was.text (texts_of watch start.memory said) → Begins was.text is.text text
-        → AreKept start.memory held is after_all → HearsSome held.left (questions_of after_all)
-        → Silent watch now past start held engine.disk is
-    silent start engine held was is said after_all text at same before (many, more) kept heard =
-        let here : List ℕ = texts_of watch start.memory said in
-        record {
-          said = after_all;
-          doubt = [];
-          few = omega arith;
-          ended = ended_at start engine after_all at;
-          printed = (
-            length here + many,
-            subst (λ (l : List ℕ). Appends held.text is.text (take (length here + many) l)) (sym same)
-                (subst (Appends held.text is.text) (sym (take-past here text many))
-                (Appends-trans held.text was.text is.text here (take many text) before more)),
-          );
-          backups = kept;
-          heard = heard;
+          said = exchange_at line answer name said.0 ∷ [];
+          done = said.1;
+          printed = subst (Appends was.text is.text) (tells many said.1.answered.0 said.0 so) printed;
+          backups = one_kept said.0;
+          heard = subst (λ (o : Option Question). Hears was.left is.left (o ∷ [])) (sym read)
+              (hears many said.1.answered.0 said.0 so);
         }
 
-    -- nothing more was printed of what was said and is ended
-    silent_here : (start engine : EngineState D) (held is : Outputs) (said : List Exchange) (doubt : List Command)
-        → length doubt ≤ MAX_GROUP → HasEnded now past start engine.disk said doubt
-        → Appends held.text is.text (texts_of watch start.memory said) → AreKept start.memory held is said
-        → HearsSome held.left (questions_of said) → Silent watch now past start held engine.disk is
-    silent_here start engine held is said doubt few ended printed kept heard = record {
-      said = said;
-      doubt = doubt;
-      few = few;
-      ended = ended;
-      printed = (
-        length (texts_of watch start.memory said),
-        subst (Appends held.text is.text) (sym (take-all (texts_of watch start.memory said))) printed,
-      );
-      backups = kept;
-      heard = heard;
-    }
-
-    -- it is ended with nothing more said
-    pub halts_talk : (old new : EngineState D) (was : Outputs) (left : Left) → (honest new.disk → honest old.disk)
-        → Halts now past honest old new → Ends old was new (with_left left was)
-    halts_talk old new was left back halts = λ start held so_far h.
-        let far = so_far (back h) in
-        let out = far.1.1.1.1 in
-        let ended = halts start far.1.0 (λ b. (far.0, far.1.1.0)) h in (
-          far.0,
-          silent_here start new held (with_left left was) far.1.0 ended.1.0 ended.1.1 ended.1.2 far.1.1.1.0 out.0
-              (heard_some held.left was.left (questions_of far.1.0) out.1),
-        )
-
-    pub talk_ends_here : (engine : EngineState D) (was : Outputs) (left : Left)
-        → Ends engine was engine (with_left left was)
-    talk_ends_here engine was left = halts_talk engine engine was left (λ h. h) (ends_here engine)
-
-    -- what was said without a line of its own goes on
-    pub goes_talk : (old new : EngineState D) (was : Outputs) → (honest new.disk → honest old.disk)
-        → SaysNothing now past honest old new → On old was new was
-    goes_talk old new was back goes = λ start held so_far h.
-        let far = so_far (back h) in
-        let on = goes start far.1.0 (λ b. (far.0, far.1.1.0)) h in
-        (far.0, (far.1.0, (on.1, far.1.1.1)))
-
-    -- the line of an answer on this memory, and what is told behind it
-    abbrev line_on : List ℕ → Contents → LineAnswer → List ℕ
-    line_on name m answer = answer_text name m answer ++ watch_text watch m answer
-
-    -- what was answered, at the memory where it was
-    answers_at : (start old new : EngineState D) (said : List Exchange) (asked : Option Question) (answer : LineAnswer)
-        (line name : List ℕ) (here : AnswerPoint) → asked_of line ≡ asked → At start old said
-        → At start new (exchange_at line answer name here ∷ said)
-        → AnswersQuestion old.memory (start.count + length (put_of start.memory said)) here asked answer
-    answers_at start old new said asked answer line name here read at after_it =
-        let same : old.memory ≡ after start.memory (put_of start.memory said) = at.run.memory at.works in
-        subst (λ (m : Contents). AnswersQuestion m (start.count + length (put_of start.memory said)) here asked answer)
-        (sym same)
-        (subst (λ (o : Option Question). AnswersQuestion (after start.memory (put_of start.memory said))
-        (start.count + length (put_of start.memory said)) here o answer) read after_it.answered.0)
-
-    -- the same line, at the memory after what was put before it
-    told_at : (start old new : EngineState D) (said : List Exchange) (asked : Option Question) (answer : LineAnswer)
-        (line name told : List ℕ) (here : AnswerPoint) → asked_of line ≡ asked → At start old said
-        → At start new (exchange_at line answer name here ∷ said)
-        → ((n : ℕ) (here : AnswerPoint) → AnswersQuestion old.memory n here asked answer
-        → told ≡ line_on name old.memory answer)
-        → told ≡ line_on name (after start.memory (put_of start.memory said)) answer
-    told_at start old new said asked answer line name told here read at after_it is =
-        subst (λ (m : Contents). told ≡ line_on name m answer) (at.run.memory at.works)
-        (is (start.count + length (put_of start.memory said)) here
-        (answers_at start old new said asked answer line name here read at after_it))
-
-    -- the line of an answer was printed, and those behind it
-    pub talks_on : (old new : EngineState D) (was is : Outputs) (asked : Option Question) (answer : LineAnswer)
-        (line name told : List ℕ)
-        → asked_of line ≡ asked → (honest new.disk → honest old.disk)
-        → SaysLine now past honest old new asked answer
-        → ((n : ℕ) (here : AnswerPoint) → AnswersQuestion old.memory n here asked answer
-        → told ≡ line_on name old.memory answer)
-        → Appends was.text is.text told → is.backups ≡ backup_by old.memory answer ++ was.backups
-        → ((n : ℕ) (here : AnswerPoint) → AnswersQuestion old.memory n here asked answer
-        → Hears was.left is.left (asked ∷ []))
-        → On old was new is
-    talks_on old new was is asked answer line name told read back says tells printed kept hears = λ start held so_far h.
-        let far = so_far (back h) in
-        let out = far.1.1.1.1 in
-        let said = says start far.1.0 line name read (λ b. (far.0, far.1.1.0)) h in
-        let same = told_at start old new far.1.0 asked answer line name told said.1.0 read far.1.1.0 said.1.1 tells in
-        let answers = answers_at start old new far.1.0 asked answer line name said.1.0 read far.1.1.0 said.1.1 in (
-          far.0,
-          (
-            exchange_at line answer name said.1.0 ∷ far.1.0,
-            (
-              said.1.1,
-              (
-                subst (λ (t : List ℕ). Appends held.text is.text (texts_of watch start.memory far.1.0 ++ t)) same
-                    (Appends-trans held.text was.text is.text (texts_of watch start.memory far.1.0) told far.1.1.1.0
-                    printed),
-                (
-                  kept_on start.memory old.memory far.1.0 (exchange_at line answer name said.1.0)
-                      held.backups was.backups is.backups (far.1.1.0.run.memory far.1.1.0.works) out.0 kept,
-                  hears_on held.left was.left is.left (questions_of far.1.0) (asked_of line ∷ []) out.1
-                      (subst (λ (o : Option Question). Hears was.left is.left (o ∷ [])) (sym read)
-                      (hears _ said.1.0 answers)),
-                ),
-              ),
-            ),
-          ),
-        )
-
     -- a beginning of them was printed
-    pub talk_ends : (old new : EngineState D) (was is : Outputs) (asked : Option Question) (answer : LineAnswer)
-        (line name told : List ℕ) (left : Left)
-        → asked_of line ≡ asked → (honest new.disk → honest old.disk)
-        → SaysLine now past honest old new asked answer
-        → ((n : ℕ) (here : AnswerPoint) → AnswersQuestion old.memory n here asked answer
-        → told ≡ line_on name old.memory answer)
-        → Begins was.text is.text told → is.backups ≡ backup_by old.memory answer ++ was.backups
-        → ((n : ℕ) (here : AnswerPoint) → AnswersQuestion old.memory n here asked answer
-        → Hears was.left left (asked ∷ []))
+    pub talk_ends : (left : Left) → Begins was.text is.text told
+        → ((n : ℕ) (turns : List TurnDone) (here : Point)
+        → AnswersQuestion old.engine.memory n turns here asked answer → Hears was.left left (asked ∷ []))
         → Ends old was new is
-    talk_ends old new was is asked answer line name told left read back says tells printed kept hears =
-        λ start held so_far h.
-        let far = so_far (back h) in
-        let out = far.1.1.1.1 in
-        let said = says start far.1.0 line name read (λ b. (far.0, far.1.1.0)) h in
-        let same = told_at start old new far.1.0 asked answer line name told said.1.0 read far.1.1.0 said.1.1 tells in
-        let answers = answers_at start old new far.1.0 asked answer line name said.1.0 read far.1.1.0 said.1.1 in (
-          far.0,
-          silent start new held was is far.1.0 (exchange_at line answer name said.1.0 ∷ far.1.0) told said.1.1
-              (ap (λ (t : List ℕ). texts_of watch start.memory far.1.0 ++ t) (sym same)) far.1.1.1.0 printed
-              (kept_on start.memory old.memory far.1.0 (exchange_at line answer name said.1.0)
-              held.backups was.backups is.backups (far.1.1.0.run.memory far.1.1.0.works) out.0 kept)
-              (hears_some_on held.left was.left (questions_of far.1.0) (asked_of line ∷ []) out.1
-              (heard_some was.left left (asked_of line ∷ [])
-              (subst (λ (o : Option Question). Hears was.left left (o ∷ [])) (sym read) (hears _ said.1.0 answers)))),
-        )
+    talk_ends left printed hears = λ f.
+        let said = says f line name read in
+        let so = answered_so old new asked answer line name said.0 read said.1 in
+        record {
+          said = exchange_at line answer name said.0 ∷ [];
+          ended = ended_here old new (exchange_at line answer name said.0 ∷ []) said.1;
+          printed = subst (Begins was.text is.text) (tells many said.1.answered.0 said.0 so) printed;
+          backups = one_kept said.0;
+          heard = heard_some was.left left (asked_of line ∷ [])
+              (subst (λ (o : Option Question). Hears was.left left (o ∷ [])) (sym read)
+              (hears many said.1.answered.0 said.0 so));
+        }
 
-    pub ends_after : (old mid new : EngineState D) (was been is : Outputs)
-        → On old was mid been → Ends mid been new is
-        → Ends old was new is
-    ends_after old mid new was been is on ends = λ start held so_far. ends start held (on start held so_far)
+  -- ---- what is left, by another name
 
-    -- what was said is ended where it stands
-    pub end_here : (old new : EngineState D) (was is : Outputs) (left : Left)
-        → On old was new is → Ends old was new (with_left left is)
-    end_here old new was is left on = ends_after old new new was is (with_left left is) on (talk_ends_here new is left)
+  pub left_as : (s : SessionState D) (was : Outputs) (before later : Left) → IfSome before (λ l. later ≡ Some l)
+      → On s (with_left before was) s (with_left later was)
+  left_as s was before later same = nothing_talked s s (with_left before was) later (nothing_said s) same
 
-    -- what was said, and then what the last call comes to
-    pub then_talks : {T E : Type 0} (old mid new : EngineState D) (was been : Outputs) (is : T → Outputs) (end : Outputs)
-        (result : Result T E) → On old was mid been
-        → MatchResult result (λ n. On mid been new (is n))
-        (λ e. Ends mid been new end)
-        → MatchResult result (λ n. On old was new (is n))
-        (λ e. Ends old was new end)
-    then_talks old mid new was been is end (Ok n) on it = λ start held so_far. it start held (on start held so_far)
-    then_talks old mid new was been is end (Err e) on it = ends_after old mid new was been end on it
+  -- the same before a call, and behind it
+  pub from_left : (old new : SessionState D) (was is : Outputs) (before mid : Left)
+      → IfSome before (λ l. mid ≡ Some l) → On old (with_left mid was) new is
+      → On old (with_left before was) new is
+  from_left old new was is before mid same on =
+      on_after old old new (with_left before was) (with_left mid was) is (left_as old was before mid same) on
 
-    pub on_after : (old mid new : EngineState D) (was been is : Outputs)
-        → On old was mid been → On mid been new is
-        → On old was new is
-    on_after old mid new was been is on it = λ start held so_far. it start held (on start held so_far)
+  pub to_left : (old new : SessionState D) (was is : Outputs) (mid later : Left)
+      → IfSome mid (λ l. later ≡ Some l) → On old was new (with_left mid is)
+      → On old was new (with_left later is)
+  to_left old new was is mid later same on =
+      on_after old new new was (with_left mid is) (with_left later is) on (left_as new is mid later same)
 
-    -- ---- what is left, by another name
+  -- nothing was said of what is left
+  pub nothing_heard : (s : SessionState D) (was : Outputs) (before : Left) (later : ℕ → Left)
+      (asked : List (Option Question))
+      → ((k : ℕ) → k ≤ length asked → Hears before (later k) (take k asked))
+      → On s (with_left before was) s (with_left (later 0) was)
+  nothing_heard s was before later asked hears =
+      left_as s was before (later 0) (none_heard before (later 0) (hears 0 (omega arith)))
 
-    -- nothing was said, and what is left is known as well by that
-    pub left_as : (engine : EngineState D) (was : Outputs) (before later : Left)
-        → IfSome before (λ l. later ≡ Some l)
-        → On engine (with_left before was) engine (with_left later was)
-    left_as engine was before later same = λ start held so_far h.
-        let far = so_far h in
-        let out = far.1.1.1.1 in (
-          far.0,
-          (
-            far.1.0,
-            (
-              far.1.1.0,
-              (
-                far.1.1.1.0,
-                (out.0, hears_as held.left before later (questions_of far.1.0) out.1 same),
-              ),
-            ),
-          ),
-        )
+  -- the end was asked for, and nothing was said
+  pub quit_talk : (old new : SessionState D) (text : Option (List ℕ)) (was is : List Backup) (before later : Left)
+      → new ≡ old → is ≡ was → IfSome before (λ l. later ≡ Some l)
+      → On old (with_left before (outputs text was)) new (with_left later (outputs text is))
+  quit_talk old new text was is before later same kept left =
+      subst (λ (s : SessionState D). On old (with_left before (outputs text was)) s (with_left later (outputs text is)))
+      (sym same)
+      (subst (λ (l : List Backup). On old (with_left before (outputs text was)) old (with_left later (outputs text l)))
+      (sym kept) (left_as old (outputs text was) before later left))
 
-    -- the same before a call, and behind it
-    pub from_left : (old new : EngineState D) (was is : Outputs) (before mid : Left)
-        → IfSome before (λ l. mid ≡ Some l) → On old (with_left mid was) new is
-        → On old (with_left before was) new is
-    from_left old new was is before mid same on =
-        on_after old old new (with_left before was) (with_left mid was) is (left_as old was before mid same) on
-
-    pub ends_left : (old new : EngineState D) (was is : Outputs) (before mid : Left)
-        → IfSome before (λ l. mid ≡ Some l) → Ends old (with_left mid was) new is
-        → Ends old (with_left before was) new is
-    ends_left old new was is before mid same ends =
-        ends_after old old new (with_left before was) (with_left mid was) is (left_as old was before mid same) ends
-
-    pub to_left : (old new : EngineState D) (was is : Outputs) (mid later : Left)
-        → IfSome mid (λ l. later ≡ Some l) → On old was new (with_left mid is)
-        → On old was new (with_left later is)
-    to_left old new was is mid later same on =
-        on_after old new new was (with_left mid is) (with_left later is) on (left_as new is mid later same)
-
-    -- nothing was said of what is left
-    pub nothing_heard : (engine : EngineState D) (was : Outputs) (before : Left) (later : ℕ → Left)
-        (asked : List (Option Question))
-        → ((k : ℕ) → k ≤ length asked → Hears before (later k) (take k asked))
-        → On engine (with_left before was) engine (with_left (later 0) was)
-    nothing_heard engine was before later asked hears =
-        left_as engine was before (later 0) (none_heard before (later 0) (hears 0 (omega arith)))
-
-    -- the end was asked for, and nothing was said
-    pub quit_talk : (old new : EngineState D) (text : Option (List ℕ)) (was is : List Backup) (before later : Left)
-        → new ≡ old → is ≡ was → IfSome before (λ l. later ≡ Some l)
-        → On old (with_left before (outputs text was)) new (with_left later (outputs text is))
-    quit_talk old new text was is before later same kept left =
-        subst (λ (e : EngineState D). On old (with_left before (outputs text was)) e
-        (with_left later (outputs text is))) (sym same)
-        (subst (λ (l : List Backup). On old (with_left before (outputs text was)) old
-        (with_left later (outputs text l))) (sym kept) (left_as old (outputs text was) before later left))
-
-    -- turns were taken while nobody asked, and the reader still has what it had
-    pub goes_quiet : (old new : EngineState D) (was : Outputs) (before later : Option (List ℕ))
-        → (honest new.disk → honest old.disk) → SaysNothing now past honest old new → later ≡ before
-        → On old (with_left (questions_left before) was) new
-        (with_left (questions_left later) was)
-    goes_quiet old new was before later back goes same =
-        subst (λ (o : Option (List ℕ)). On old (with_left (questions_left before) was) new
-        (with_left (questions_left o) was)) (sym same)
-        (goes_talk old new (with_left (questions_left before) was) back goes)
+  -- turns were taken while nobody asked, and the reader still has what it had
+  pub goes_quiet : (old new : SessionState D) (was : Outputs) (before later : Option (List ℕ))
+      → (old.engine.failed ≡ false → HasSaid old new []) → later ≡ before
+      → On old (with_left (questions_left before) was) new (with_left (questions_left later) was)
+  goes_quiet old new was before later done same =
+      subst (λ (o : Option (List ℕ)). On old (with_left (questions_left before) was) new
+      (with_left (questions_left o) was)) (sym same)
+      (goes_talk old new (with_left (questions_left before) was) done)

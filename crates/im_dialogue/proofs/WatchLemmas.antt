@@ -24,7 +24,9 @@ use Rattle.im_dialogue.specs.declared.answers.LineAnswer.TheVariants.{Served as 
 use Rattle.im_dialogue.specs.Watching.{watch_text, is_quiet, told_by, told_with}
 use Rattle.im_dialogue.specs.declared.look.Look.{Look}
 use Rattle.im_dialogue.specs.Answers.{answer_text}
-use Rattle.im_dialogue.specs.Talk.{AnswersQuestion, AnswerPoint}
+use Rattle.im_checkpoint.specs.declared.checkpoint.TurnDone.{TurnDone}
+use Rattle.im_turning.specs.Turning.{Point}
+use Rattle.im_dialogue.specs.Talk.{AnswersQuestion}
 
 -- ---- who is resumed
 
@@ -90,9 +92,10 @@ quiet_resumes cells who (Put a v) quiet = absurd (cc)
 
 -- ---- what is told behind an answer
 
-told_is : (watch : Bool) (m : Contents) (n : ℕ) (here : AnswerPoint) (asked : Option Question) (answer : LineAnswer)
-    → AnswersQuestion m n here asked answer → told_with answer (told_by watch m asked) ≡ watch_text watch m answer
-told_is watch m n here (Some (asks.Serve command)) answer (outcome, is, of) = by_answer answer outcome is
+told_is : (watch : Bool) (m : Contents) (n : ℕ) (turns : List TurnDone) (here : Point) (asked : Option Question)
+    (answer : LineAnswer) → AnswersQuestion m n turns here asked answer
+    → told_with answer (told_by watch m asked) ≡ watch_text watch m answer
+told_is watch m n turns here (Some (asks.Serve command)) answer (outcome, is, of) = by_answer answer outcome is
   where
     by_outcome : (o : Result Outcome Refusal)
         → told_with (ServedAs command o) (told_by watch m (Some (asks.Serve command))) ≡ watch_text watch m (ServedAs command o)
@@ -102,58 +105,61 @@ told_is watch m n here (Some (asks.Serve command)) answer (outcome, is, of) = by
     by_answer : (a : LineAnswer) (o : Result Outcome Refusal) → a ≡ ServedAs command o
         → told_with a (told_by watch m (Some (asks.Serve command))) ≡ watch_text watch m a
     by_answer a o is = subst (λ (x : LineAnswer). told_with x (told_by watch m (Some (asks.Serve command))) ≡ watch_text watch m x) (sym is) (by_outcome o)
-told_is watch m n here (Some (asks.Look look)) answer is =
+told_is watch m n turns here (Some (asks.Look look)) answer is =
     subst (λ (x : LineAnswer). told_with x [] ≡ watch_text watch m x) (sym is) refl
-told_is watch m n here (Some (asks.Window element)) answer is = subst
+told_is watch m n turns here (Some (asks.Window element)) answer is = subst
     (λ (x : LineAnswer). told_with x [] ≡ watch_text watch m x) (sym is) refl
-told_is watch m n here (Some asks.Room) answer is = subst (λ (x : LineAnswer). told_with x [] ≡ watch_text watch m x)
-    (sym is) refl
-told_is watch m n here (Some asks.Turn) answer (done, (is, last)) = subst
+told_is watch m n turns here (Some asks.Room) answer is =
+    subst (λ (x : LineAnswer). told_with x [] ≡ watch_text watch m x) (sym is) refl
+told_is watch m n turns here (Some asks.Turn) answer (done, (is, last)) = subst
     (λ (x : LineAnswer). told_with x [] ≡ watch_text watch m x) (sym is) refl
-told_is watch m n here (Some asks.Count) answer is = subst (λ (x : LineAnswer). told_with x [] ≡ watch_text watch m x)
-    (sym is) refl
-told_is watch m n here (Some asks.About) answer (slots, is) =
+told_is watch m n turns here (Some asks.Count) answer is =
     subst (λ (x : LineAnswer). told_with x [] ≡ watch_text watch m x) (sym is) refl
-told_is watch m n here (Some (asks.Backup backup)) answer (kept, is, of) =
+told_is watch m n turns here (Some asks.About) answer (slots, is) =
     subst (λ (x : LineAnswer). told_with x [] ≡ watch_text watch m x) (sym is) refl
-told_is watch m n here (Some asks.Quit) answer none = absurd none
-told_is watch m n here None answer (number, (fault, is)) = subst
+told_is watch m n turns here (Some (asks.Backup backup)) answer (kept, is, of) =
+    subst (λ (x : LineAnswer). told_with x [] ≡ watch_text watch m x) (sym is) refl
+told_is watch m n turns here (Some asks.Quit) answer none = absurd none
+told_is watch m n turns here None answer (number, (fault, is)) = subst
     (λ (x : LineAnswer). told_with x [] ≡ watch_text watch m x) (sym is) refl
 
 -- the line of an answer, on the memory after it too, which is the same if the line only looks
-plain_line : (name : List ℕ) (m now : Contents) (n : ℕ) (here : AnswerPoint) (asked : Question) (answer : LineAnswer)
-    → ((look : Look) → asked ≡ asks.Look look → now ≡ m) → AnswersQuestion m n here (Some asked) answer
+plain_line : (name : List ℕ) (m now : Contents) (n : ℕ) (turns : List TurnDone) (here : Point) (asked : Question)
+    (answer : LineAnswer) → ((look : Look) → asked ≡ asks.Look look → now ≡ m)
+    → AnswersQuestion m n turns here (Some asked) answer
     → answer_text name now answer ≡ answer_text name m answer
-plain_line name m now n here (asks.Look look) answer same is =
+plain_line name m now n turns here (asks.Look look) answer same is =
     ap (λ (x : Contents). answer_text name x answer) (same look refl)
-plain_line name m now n here (asks.Serve command) answer same (outcome, is, of) =
+plain_line name m now n turns here (asks.Serve command) answer same (outcome, is, of) =
     subst (λ (x : LineAnswer). answer_text name now x ≡ answer_text name m x) (sym is) refl
-plain_line name m now n here (asks.Window element) answer same is =
+plain_line name m now n turns here (asks.Window element) answer same is =
     subst (λ (x : LineAnswer). answer_text name now x ≡ answer_text name m x) (sym is) refl
-plain_line name m now n here asks.Room answer same is =
+plain_line name m now n turns here asks.Room answer same is =
     subst (λ (x : LineAnswer). answer_text name now x ≡ answer_text name m x) (sym is) refl
-plain_line name m now n here asks.Turn answer same (done, (is, last)) =
+plain_line name m now n turns here asks.Turn answer same (done, (is, last)) =
     subst (λ (x : LineAnswer). answer_text name now x ≡ answer_text name m x) (sym is) refl
-plain_line name m now n here asks.Count answer same is =
+plain_line name m now n turns here asks.Count answer same is =
     subst (λ (x : LineAnswer). answer_text name now x ≡ answer_text name m x) (sym is) refl
-plain_line name m now n here asks.About answer same (slots, is) =
+plain_line name m now n turns here asks.About answer same (slots, is) =
     subst (λ (x : LineAnswer). answer_text name now x ≡ answer_text name m x) (sym is) refl
-plain_line name m now n here (asks.Backup backup) answer same (kept, is, of) =
+plain_line name m now n turns here (asks.Backup backup) answer same (kept, is, of) =
     subst (λ (x : LineAnswer). answer_text name now x ≡ answer_text name m x) (sym is) refl
-plain_line name m now n here asks.Quit answer same none = absurd none
+plain_line name m now n turns here asks.Quit answer same none = absurd none
 
 -- the line of an answer that was asked for, and what is told behind it
-pub line_is : (watch : Bool) (name : List ℕ) (m now : Contents) (n : ℕ) (here : AnswerPoint) (asked : Question) (answer : LineAnswer)
-    (told : List ℕ) → ((look : Look) → asked ≡ asks.Look look → now ≡ m)
-    → told ≡ told_with answer (told_by watch m (Some asked)) → AnswersQuestion m n here (Some asked) answer
+pub line_is : (watch : Bool) (name : List ℕ) (m now : Contents) (n : ℕ) (turns : List TurnDone) (here : Point)
+    (asked : Question) (answer : LineAnswer) (told : List ℕ) → ((look : Look) → asked ≡ asks.Look look → now ≡ m)
+    → told ≡ told_with answer (told_by watch m (Some asked)) → AnswersQuestion m n turns here (Some asked) answer
     → answer_text name now answer ++ told ≡ answer_text name m answer ++ watch_text watch m answer
-line_is watch name m now n here asked answer told same is answers =
-    ap (λ (t : List ℕ). t ++ told) (plain_line name m now n here asked answer same answers)
-    ∙ ap (λ (t : List ℕ). answer_text name m answer ++ t) (is ∙ told_is watch m n here (Some asked) answer answers)
+line_is watch name m now n turns here asked answer told same is answers =
+    ap (λ (t : List ℕ). t ++ told) (plain_line name m now n turns here asked answer same answers)
+    ∙ ap (λ (t : List ℕ). answer_text name m answer ++ t)
+    (is ∙ told_is watch m n turns here (Some asked) answer answers)
 
 -- the line that says where a line goes wrong, with nothing behind it
-pub wrong_line_is : (watch : Bool) (name : List ℕ) (m now : Contents) (n : ℕ) (here : AnswerPoint) (answer : LineAnswer) → now ≡ m
-    → AnswersQuestion m n here None answer
+pub wrong_line_is : (watch : Bool) (name : List ℕ) (m now : Contents) (n : ℕ) (turns : List TurnDone) (here : Point)
+    (answer : LineAnswer) → now ≡ m
+    → AnswersQuestion m n turns here None answer
     → answer_text name now answer ++ [] ≡ answer_text name m answer ++ watch_text watch m answer
-wrong_line_is watch name m now n here answer same (number, (fault, is)) =
+wrong_line_is watch name m now n turns here answer same (number, (fault, is)) =
     subst (λ (x : LineAnswer). answer_text name now x ++ [] ≡ answer_text name m x ++ watch_text watch m x) (sym is) refl

@@ -1,72 +1,69 @@
--- What a dialogue leaves on a disk. (Own.)
-use Rattle.std.specs.Prelude.{◌≡◌, ◌⊎◌, ℕ, ◌≤◌, Bool, List, [], ◌++◌, length, Option}
+-- What a dialogue on the image of a disk comes to. (Own.)
+use Rattle.std.specs.Prelude.{◌≡◌, ◌⊎◌, ℕ, ◌≤◌, Bool, false, List, [], length, Option}
 use Rattle.std.specs.Io.KnownBytes.{Appends}
 use Rattle.im_types.specs.declared.TheConstants.{MAX_GROUP}
-use Rattle.im_types.specs.declared.commands.Command.{Command}
 use Rattle.im_types.specs.Contents.{Contents}
 use Rattle.im_types.specs.Layout.{image_length, layout_in_use}
 use Rattle.im_types.specs.Sizes.{AreLimits}
 use Rattle.im_disk.specs.declared.disk.Disk.{Ghosts}
 use Rattle.im_disk.specs.Moment.{Moment, Left}
-use Rattle.im_disk.specs.Since.{Leaves, LeavesNow, LeavesWithin}
+use Rattle.im_disk.specs.Since.{Leaves, LeavesWithin}
 use Rattle.im_engine.specs.State.{EngineState, MeansState}
-use Rattle.im_engine.specs.Run.{MeansBeginning}
+use Rattle.im_session.specs.Kept.{Kept, SessionState, session_of, start_at}
 use Rattle.im_turning.specs.Turning.{point_of}
 use Rattle.im_text.specs.Printing.{Begins, IsLast}
 use Rattle.im_dialogue.specs.Hearing.{HearsAll}
-use Rattle.im_dialogue.specs.Talk.{AreAnswered, AreKept, Exchange, HasEnded, MeansSaid, Outputs, put_of, questions_of}
-use Rattle.im_dialogue.specs.Talk.{texts_of, with_input}
+use Rattle.im_dialogue.specs.Talk.{AreAnswered, AreKept, Exchange, Outputs, put_of, questions_of, texts_of, with_input}
 
 -- a prefix of the text was written, and then at most a refusal
 abbrev pub PrintsThenLast : Option (List ℕ) → Option (List ℕ) → List ℕ → Type 0
 PrintsThenLast was is text =
     (mid : Option (List ℕ)) × Begins was mid text × ((last : List ℕ) × (IsLast last × Begins mid is last))
 
--- An engine was closed, and this status was given, after this was said on it. If the status is 0, nothing is in doubt,
--- and all answers were printed, and nothing else. The backups that were answered are kept. What was said is what the
--- input asked for.
-pub record TalkClosed {D : Type 0} (watch : Bool) (now : D → Moment) (past : D → List Moment) (start : EngineState D)
-    (disk : D) (was is : Outputs) (status : ℕ) : Type 0 where
-  pub said : List Exchange
-  pub doubt : List Command
-  pub few : length doubt ≤ MAX_GROUP
-  pub ended : HasEnded now past start disk said doubt
-  pub printed : PrintsThenLast was.text is.text (texts_of watch start.memory said)
-  pub whole : status ≡ 0 → (doubt ≡ []) × Appends was.text is.text (texts_of watch start.memory said)
-  pub backups : AreKept start.memory was is said
-  pub heard : HearsAll was.left (questions_of said) status
+-- An image was opened with this engine, and what could be left of the disk before is what could be left then: one of
+-- those files means what the engine is, with at least its room.
+pub record WasOpened {D : Type 0} (disk : Ghosts D) (old : D) (first : EngineState D) : Type 0 where
+  pub leaves : LeavesWithin disk.now disk.past old first.disk (Left (disk.now old))
+  pub found : (file : List ℕ) × Left (disk.now old) file × MeansState first file
 
--- the same, of an input with these bytes, if the disk is honest at the end
-abbrev pub ClosesTalk : {D : Type 0} → Ghosts D → Bool → EngineState D → Option (List ℕ) → D → Outputs → Outputs → ℕ
-    → Type 0
-ClosesTalk disk watch start input new was is status =
-    disk.honest new → TalkClosed watch disk.now disk.past start new (with_input input was) is status
+-- the session begins with its engine as it is now: nothing was put yet
+abbrev pub BeginsNow : {D : Type 0} → SessionState D → Type 0
+BeginsNow s = s ≡ session_of (start_at s.engine.disk s.engine) [] [] s.engine
 
--- a crash leaves nothing that it couldn't leave before
-abbrev pub AddsNothing : {D : Type 0} → Ghosts D → D → D → Type 0
-AddsNothing disk old new = disk.honest new → LeavesWithin disk.now disk.past old new (Left (disk.now old))
+-- A session begins behind the opening of this disk's image.
+pub record BeginsTalk {D : Type 0} (disk : Ghosts D) (old : D) (s : SessionState D) : Type 0 where
+  pub begins : BeginsNow s
+  pub works : s.engine.failed ≡ false
+  pub honest : disk.honest s.engine.disk → disk.honest old
+  pub opened : disk.honest s.engine.disk → WasOpened disk old s.engine
 
--- The image was opened, with the meaning of a file that a crash could leave then, and this was said on it, the last
--- first. Each line was answered on the memory after those before it. From then on a crash leaves the memory after a
--- prefix of the commands that were put. At the end it leaves the memory after all of them, with those in doubt all
--- together or not at all. If the status is 0, none is in doubt, and all answers were printed, and nothing else. The
--- backups that were answered are kept, each with the memory and the count after the commands before it. What was said
--- is what the input asked for, line by line; if the status is 0, up to its end or to `quit`.
-pub record Talked {D : Type 0} (watch : Bool) (now : D → Moment) (past : D → List Moment) (old new : D)
+-- A session that began with this engine was ended, and this status was given. This was said by it, the last first: each
+-- line was answered on the memory after those before it. What was put is what the answers say, and the commands of one
+-- line or group may be in doubt. A prefix of the answers was printed, and then at most a refusal. If the status is 0,
+-- nothing is in doubt, and all answers were printed, and nothing else. The backups that were answered are kept, each
+-- with the memory and the count after the commands before it. What was said is what the input asked for, line by line;
+-- if the status is 0, up to its end or to `quit`.
+pub record TalkClosed {D : Type 0} (disk : Ghosts D) (watch : Bool) (first : EngineState D) (new : D)
     (was is : Outputs) (status : ℕ) : Type 0 where
-  pub start : EngineState D
+  pub session : SessionState D
+  pub begins : session.start ≡ start_at first.disk first
+  pub closed : new ≡ session.engine.disk
+  pub kept : Kept disk session
   pub said : List Exchange
-  pub doubt : List Command
-  pub few : length doubt ≤ MAX_GROUP
-  pub found : (file : List ℕ) × Left (now old) file × MeansState start file
-  pub answered : AreAnswered start.memory (point_of start) said
-  pub leaves : Leaves (now old) (now new) (past old) (past new)
-      (MeansBeginning start (put_of start.memory said ++ doubt))
-  pub kept : LeavesNow (now new) (MeansSaid start said doubt)
-  pub printed : PrintsThenLast was.text is.text (texts_of watch start.memory said)
-  pub whole : status ≡ 0 → (doubt ≡ []) × Appends was.text is.text (texts_of watch start.memory said)
-  pub backups : AreKept start.memory was is said
+  pub answered : AreAnswered first.memory (point_of first) said
+  pub put : session.put ≡ put_of first.memory said
+  pub few : length session.doubt ≤ MAX_GROUP
+  pub printed : PrintsThenLast was.text is.text (texts_of watch first.memory said)
+  pub whole : status ≡ 0 → (session.doubt ≡ []) × Appends was.text is.text (texts_of watch first.memory said)
+  pub backups : AreKept first.memory was is said
   pub heard : HearsAll was.left (questions_of said) status
+
+-- The image was opened, and lines were answered by a session that began with its engine.
+pub record Talked {D : Type 0} (disk : Ghosts D) (watch : Bool) (old new : D) (was is : Outputs) (status : ℕ) : Type 0
+  where
+    pub first : EngineState D
+    pub opened : WasOpened disk old first
+    pub closed : TalkClosed disk watch first new was is status
 
 -- The image was not opened: a crash leaves nothing that it couldn't leave before, at most a refusal was printed, and no
 -- backup was kept.
@@ -82,15 +79,16 @@ pub record TalkUnopened {D : Type 0} (now : D → Moment) (past : D → List Mom
 abbrev pub TalkedOn : {D : Type 0} → Ghosts D → Bool → Option (List ℕ) → D → D → Outputs → Outputs → ℕ → Type 0
 TalkedOn disk watch input old new was is status = disk.honest new
     → TalkUnopened disk.now disk.past old new (with_input input was) is status
-    ⊎ Talked watch disk.now disk.past old new (with_input input was) is status
+    ⊎ Talked disk watch old new (with_input input was) is status
 
 -- The same of a disk that is at this moment, and has no moment before it.
-pub record TalkedFrom {D : Type 0} (watch : Bool) (now : D → Moment) (past : D → List Moment) (first : Moment) (new : D)
+pub record TalkedFrom {D : Type 0} (disk : Ghosts D) (watch : Bool) (first : Moment) (new : D)
     (before after : Outputs) (status : ℕ) : Type 0 where
   pub old : D
-  pub was : now old ≡ first
-  pub none : past old ≡ []
-  pub talked : TalkUnopened now past old new before after status ⊎ Talked watch now past old new before after status
+  pub was : disk.now old ≡ first
+  pub none : disk.past old ≡ []
+  pub talked : TalkUnopened disk.now disk.past old new before after status
+      ⊎ Talked disk watch old new before after status
 
 -- it is how many slots the journal has of an image with this memory, of this many bytes
 abbrev pub CountsSlots : Contents → ℕ → ℕ → Type 0

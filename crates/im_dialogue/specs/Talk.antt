@@ -1,6 +1,6 @@
--- A dialogue over an engine: what was asked, what it was answered, and what a crash leaves of it. (Own.)
+-- A dialogue over a session: what was asked, what it was answered, and what was put. (Own.)
 use Rattle.std.specs.Prelude.{◌≡◌, ◌⊎◌, ℕ, zero, suc, ◌+◌, ◌≤◌, Bool, true, false, List, [], ◌∷◌, ◌++◌, length, take}
-use Rattle.std.specs.Prelude.{Option, None, Some, MatchOption, MatchResult, Result, Ok, Err}
+use Rattle.std.specs.Prelude.{Option, None, Some, IfOk, MatchOption, MatchResult, Result, Ok, Err}
 use Rattle.im_types.specs.declared.TheConstants.{MAX_GROUP}
 use Rattle.std.specs.Io.KnownBytes.{Appends}
 use Rattle.im_types.specs.declared.commands.Command.{Command}
@@ -12,11 +12,9 @@ use Rattle.im_types.specs.Contents.{Contents}
 use Rattle.im_types.specs.Window.{bounds}
 use Rattle.im_types.specs.Step.{step, is_accepted}
 use Rattle.im_types.specs.Run.{after}
-use Rattle.im_disk.specs.declared.disk.Disk.{Ghosts}
-use Rattle.im_disk.specs.Moment.{Moment}
-use Rattle.im_disk.specs.Since.{Leaves, LeavesNow}
-use Rattle.im_engine.specs.State.{EngineState, MeansState}
-use Rattle.im_engine.specs.Run.{HasRun, MeansAfter, MeansBeginning, put_by_command}
+use Rattle.im_session.specs.Kept.{SessionState, session_of}
+use Rattle.im_session.specs.Put.{sure_by}
+use Rattle.im_session.specs.Serving.{Rests}
 use Rattle.im_turning.specs.Turning.{IsSpent, Point, TurnsLead, point_of, with_one}
 use Rattle.im_text.specs.Printing.{Begins}
 use Rattle.im_checkpoint.specs.declared.checkpoint.TurnDone.{TurnDone}
@@ -36,18 +34,13 @@ use Rattle.im_dialogue.specs.Watching.{watch_text}
 
 -- ---- what was said
 
--- where an engine stood as it answered: the turns since the answer before, the last first, and where they led
-pub record AnswerPoint : Type 0 where
-  pub turns : List TurnDone
-  pub point : Point
-
 -- a line that was asked, without its line feed, or the first 4,097 bytes of a longer one; its answer; the name of the
 -- refusal, or the words for where the line goes wrong or why a backup isn't kept; and where the engine stood
 pub record Exchange : Type 0 where
   pub line : List ℕ
   pub answer : LineAnswer
   pub name : List ℕ
-  pub here : AnswerPoint
+  pub here : Point
 
 -- what an answer says of a command: its result on this memory, or that there is no room for it in the journal, and that
 -- no turn makes any
@@ -66,31 +59,29 @@ about_of m slots commands room = record {
   room = room;
 }
 
--- if a backup is kept, it is said to be of this many commands
-abbrev pub CountsIf : ℕ → Result ℕ BackupFault → Type 0
-CountsIf commands (Ok count) = count ≡ commands
-CountsIf commands (Err fault) = Unit {0}
-
--- the answer to what is asked, on this memory, after this many commands, of an engine that stands here
-abbrev pub AnswersQuestion : Contents → ℕ → AnswerPoint → Option Question → LineAnswer → Type 0
-AnswersQuestion m commands here (Some (asks.Serve command)) answer =
-    (outcome : Result Outcome Refusal) × (answer ≡ Served command outcome) × IsOutcomeOf m here.point command outcome
-AnswersQuestion m commands here (Some (asks.Look look)) answer = answer ≡ Looked look
-AnswersQuestion m commands here (Some (asks.Window element)) answer = answer ≡ Window element (bounds m.windows element)
-AnswersQuestion m commands here (Some asks.Room) answer = answer ≡ Room here.point.room
-AnswersQuestion m commands here (Some asks.Turn) answer =
-    (done : TurnDone) × ((answer ≡ Turned done) × ((before : List TurnDone) × (here.turns ≡ done ∷ before)))
-AnswersQuestion m commands here (Some asks.Count) answer = answer ≡ Count commands
-AnswersQuestion m commands here (Some asks.About) answer =
-    (slots : ℕ) × (answer ≡ Facts (about_of m slots commands here.point.room))
-AnswersQuestion m commands here (Some (asks.Backup name)) answer =
-    (kept : Result ℕ BackupFault) × (answer ≡ BackedUp name kept) × CountsIf commands kept
-AnswersQuestion m commands here (Some asks.Quit) answer = ⊥
-AnswersQuestion m commands here None answer = (number : ℕ) × ((fault : LineFault) × (answer ≡ Wrong number fault))
+-- The answer to what is asked, on this memory, after this many commands, of an engine that stands here behind these
+-- turns, the last first. A backup that is kept is said to be of that many commands.
+abbrev pub AnswersQuestion : Contents → ℕ → List TurnDone → Point → Option Question → LineAnswer → Type 0
+AnswersQuestion m commands turns here (Some (asks.Serve command)) answer =
+    (outcome : Result Outcome Refusal) × (answer ≡ Served command outcome) × IsOutcomeOf m here command outcome
+AnswersQuestion m commands turns here (Some (asks.Look look)) answer = answer ≡ Looked look
+AnswersQuestion m commands turns here (Some (asks.Window element)) answer =
+    answer ≡ Window element (bounds m.windows element)
+AnswersQuestion m commands turns here (Some asks.Room) answer = answer ≡ Room here.room
+AnswersQuestion m commands turns here (Some asks.Turn) answer =
+    (done : TurnDone) × ((answer ≡ Turned done) × ((before : List TurnDone) × (turns ≡ done ∷ before)))
+AnswersQuestion m commands turns here (Some asks.Count) answer = answer ≡ Count commands
+AnswersQuestion m commands turns here (Some asks.About) answer =
+    (slots : ℕ) × (answer ≡ Facts (about_of m slots commands here.room))
+AnswersQuestion m commands turns here (Some (asks.Backup name)) answer =
+    (kept : Result ℕ BackupFault) × (answer ≡ BackedUp name kept) × IfOk kept (λ count. count ≡ commands)
+AnswersQuestion m commands turns here (Some asks.Quit) answer = ⊥
+AnswersQuestion m commands turns here None answer =
+    (number : ℕ) × ((fault : LineFault) × (answer ≡ Wrong number fault))
 
 -- the command, if this answer says that it was put on the disk
 abbrev pub put_by : Contents → LineAnswer → List Command
-put_by m (Served command outcome) = put_by_command m command outcome
+put_by m (Served command outcome) = sure_by m command outcome
 put_by m answer = []
 
 -- the commands that were put on the disk, given what was said, the last first
@@ -103,22 +94,18 @@ abbrev pub point_behind : ℕ → Point → Point
 point_behind zero p = p
 point_behind (suc n) p = with_one (point_behind n p)
 
--- where an engine on this memory stands behind an answer
-abbrev pub behind_answer : Contents → Exchange → Point
-behind_answer m x = point_behind (length (put_by m x.answer)) x.here.point
-
--- where it stands behind all that was said, with no turn since
+-- where an engine stands behind all that was said on this memory from this point on, with no turn since
 abbrev pub stands_behind : Contents → Point → List Exchange → Point
 stands_behind m p [] = p
-stands_behind m p (x ∷ xs) = behind_answer (after m (put_of m xs)) x
+stands_behind m p (x ∷ xs) = point_behind (length (put_by (after m (put_of m xs)) x.answer)) x.here
 
 -- Each line was answered on the memory after what was put before it, at a point to which turns led from where the
 -- engine stood behind the line before.
 abbrev pub AreAnswered : Contents → Point → List Exchange → Type 0
 AreAnswered m p [] = Unit {0}
-AreAnswered m p (x ∷ xs) =
-    AnswersQuestion (after m (put_of m xs)) (p.count + length (put_of m xs)) x.here (asked_of x.line) x.answer
-    × (TurnsLead x.here.turns (stands_behind m p xs) x.here.point × AreAnswered m p xs)
+AreAnswered m p (x ∷ xs) = (turns : List TurnDone)
+    × (AnswersQuestion (after m (put_of m xs)) (p.count + length (put_of m xs)) turns x.here (asked_of x.line) x.answer
+    × (TurnsLead turns (stands_behind m p xs) x.here × AreAnswered m p xs))
 
 -- the lines that were answered on this memory, one below the other; if the dialogue is watched, each is followed by the
 -- lines of the requests that it answered
@@ -152,99 +139,60 @@ is_end Device = true
 is_end Failed = true
 is_end refusal = false
 
--- ---- what is on the disk
-
--- All that was said was done, and turns led from behind the last answer to where the engine stands. The memory is the
--- one after all commands that were put, and every file that a crash leaves means it.
-pub record IsAt {D : Type 0} (now : D → Moment) (past : D → List Moment) (start engine : EngineState D)
-    (said : List Exchange) : Type 0 where
-  pub answered : AreAnswered start.memory (point_of start) said
-  pub turns : List TurnDone
-  pub lead : TurnsLead turns (stands_behind start.memory (point_of start) said) (point_of engine)
-  pub works : engine.failed ≡ false
-  pub run : HasRun start engine (put_of start.memory said)
-  pub leaves : Leaves (now start.disk) (now engine.disk) (past start.disk) (past engine.disk)
-      (MeansBeginning start (put_of start.memory said))
-  pub kept : LeavesNow (now engine.disk) (MeansState engine)
-
--- the file means the engine's state after all commands that were put by what was said, with those in doubt all together
--- or not at all
-abbrev pub MeansSaid : {D : Type 0} → EngineState D → List Exchange → List Command → List ℕ → Type 0
-MeansSaid s said doubt file =
-    (many : ℕ) × ((many ≡ length (put_of s.memory said)) ⊎ (many ≡ length (put_of s.memory said ++ doubt)))
-    × MeansAfter s (put_of s.memory said ++ doubt) many file
-
--- All that was said was done, and the dialogue was ended, by commands in doubt or without any. What was said is in
--- every file that a crash leaves.
-pub record HasEnded {D : Type 0} (now : D → Moment) (past : D → List Moment) (start : EngineState D) (disk : D)
-    (said : List Exchange) (doubt : List Command) : Type 0 where
-  pub answered : AreAnswered start.memory (point_of start) said
-  pub leaves : Leaves (now start.disk) (now disk) (past start.disk) (past disk)
-      (MeansBeginning start (put_of start.memory said ++ doubt))
-  pub kept : LeavesNow (now disk) (MeansSaid start said doubt)
-
--- a disk that is honest now was honest at the start, and this was said since
-abbrev pub Going : {D : Type 0} → (D → Moment) → (D → List Moment) → (D → Type 0) → EngineState D → EngineState D
-    → List Exchange → Type 0
-Going now past honest start engine said = honest engine.disk → honest start.disk × IsAt now past start engine said
-
--- the same, and it was ended
-abbrev pub Ended : {D : Type 0} → (D → Moment) → (D → List Moment) → (D → Type 0) → EngineState D → D → List Exchange
-    → Type 0
-Ended now past honest start disk said =
-    honest disk → honest start.disk
-    × ((doubt : List Command) × (length doubt ≤ MAX_GROUP) × HasEnded now past start disk said doubt)
-
--- nothing more was said
-abbrev pub SaysNothing : {D : Type 0} → (D → Moment) → (D → List Moment) → (D → Type 0) → EngineState D → EngineState D
-    → Type 0
-SaysNothing {D} now past honest old new =
-    (start : EngineState D) (said : List Exchange) → Going now past honest start old said
-    → Going now past honest start new said
-
--- nothing more was said, and it was ended
-abbrev pub Halts : {D : Type 0} → (D → Moment) → (D → List Moment) → (D → Type 0) → EngineState D → EngineState D
-    → Type 0
-Halts {D} now past honest old new =
-    (start : EngineState D) (said : List Exchange) → Going now past honest start old said
-    → Ended now past honest start new.disk said
+-- ---- with a session
 
 -- a line with this answer and this name of a refusal was said where the engine stood here
-abbrev pub exchange_at : List ℕ → LineAnswer → List ℕ → AnswerPoint → Exchange
+abbrev pub exchange_at : List ℕ → LineAnswer → List ℕ → Point → Exchange
 exchange_at line answer name here = record { line = line; answer = answer; name = name; here = here }
 
--- this was asked and answered, if a line asks so
-abbrev pub SaysLine : {D : Type 0} → (D → Moment) → (D → List Moment) → (D → Type 0) → EngineState D → EngineState D
-    → Option Question → LineAnswer → Type 0
-SaysLine {D} now past honest old new asked answer =
-    (start : EngineState D) (said : List Exchange) (line name : List ℕ) → asked_of line ≡ asked
-    → Going now past honest start old said → honest new.disk → honest start.disk
-    × ((here : AnswerPoint) × IsAt now past start new (exchange_at line answer name here ∷ said))
+module _ {D : Type 0} (old new : SessionState D) where
+  -- Only turns were taken: they led from where the engine stood to where it stands.
+  pub record OnlyTurned : Type 0 where
+    pub rests : Rests old new
+    pub works : new.engine.failed ≡ old.engine.failed
+    pub turns : List TurnDone
+    pub lead : TurnsLead turns (point_of old.engine) (point_of new.engine)
 
--- this was asked and answered, and the engine is as it was
-abbrev pub SaysNow : {D : Type 0} → Ghosts D → EngineState D → Option Question → LineAnswer → Type 0
-SaysNow disk engine asked answer = SaysLine disk.now disk.past disk.honest engine engine asked answer
+  -- This was said between two states of a session, the last first. Each line was answered, and exactly what the answers
+  -- say was put. Turns led from behind the last answer to where the engine stands, and it works.
+  pub record HasSaid (said : List Exchange) : Type 0 where
+    pub answered : AreAnswered old.engine.memory (point_of old.engine) said
+    pub turns : List TurnDone
+    pub lead : TurnsLead turns (stands_behind old.engine.memory (point_of old.engine) said) (point_of new.engine)
+    pub same : new ≡ session_of old.start (old.put ++ put_of old.engine.memory said) old.doubt new.engine
+    pub memory : new.engine.memory ≡ after old.engine.memory (put_of old.engine.memory said)
+    pub count : new.engine.count ≡ old.engine.count + length (put_of old.engine.memory said)
+    pub works : new.engine.failed ≡ false
 
--- what a call comes to that answers nothing: nothing more was said, or it was ended
-abbrev pub GoesOrHalts : {D T E : Type 0} → Ghosts D → EngineState D → EngineState D → Result T E → Type 0
-GoesOrHalts disk old new result = MatchResult result (λ done. SaysNothing disk.now disk.past disk.honest old new)
-    (λ e. Halts disk.now disk.past disk.honest old new)
+  -- The same, and it was ended: commands of one line or group may be in doubt.
+  pub record HasEnded (said : List Exchange) : Type 0 where
+    pub answered : AreAnswered old.engine.memory (point_of old.engine) said
+    pub doubt : List Command
+    pub few : length doubt ≤ MAX_GROUP
+    pub same : new ≡ session_of old.start (old.put ++ put_of old.engine.memory said) (old.doubt ++ doubt) new.engine
 
--- what a call comes to that does what is asked: it was answered, or it was ended
-abbrev pub SaysOrHalts : {D E : Type 0} → Ghosts D → EngineState D → EngineState D → Option Question
-    → Result LineAnswer E
-    → Type 0
-SaysOrHalts disk old new asked result = MatchResult result
-    (λ answer. SaysLine disk.now disk.past disk.honest old new asked answer)
-    (λ e. Halts disk.now disk.past disk.honest old new)
+  -- if the engine worked, nothing was said, and it was ended
+  abbrev pub Halts : Type 0
+  Halts = old.engine.failed ≡ false → HasEnded []
 
--- the same of a call that may also be asked for the end; that has no answer, and changes nothing
-abbrev pub AnswersOrHalts : {D E : Type 0} → Ghosts D → EngineState D → EngineState D → Question
-    → Result (Option LineAnswer) E → Type 0
-AnswersOrHalts disk old new asked result = MatchResult result
-    (λ given. MatchOption given ((asked ≡ asks.Quit) × (new ≡ old))
-    (λ answer. SaysLine disk.now disk.past disk.honest old new (Some asked) answer))
-    (λ e. Halts disk.now disk.past disk.honest old new)
+  -- if the engine worked, this was asked and answered, if a line asks so
+  abbrev pub SaysLine : Option Question → LineAnswer → Type 0
+  SaysLine asked answer = old.engine.failed ≡ false → (line name : List ℕ) → asked_of line ≡ asked
+      → (here : Point) × HasSaid (exchange_at line answer name here ∷ [])
+
+  -- what a call comes to that does what is asked: it was answered, or it was ended
+  abbrev pub SaysOrHalts : {E : Type 0} → Option Question → Result LineAnswer E → Type 0
+  SaysOrHalts asked result = MatchResult result (λ answer. SaysLine asked answer) (λ e. Halts)
+
+  -- the same of a call that may also be asked for the end; that has no answer, and changes nothing
+  abbrev pub AnswersOrHalts : {E : Type 0} → Question → Result (Option LineAnswer) E → Type 0
+  AnswersOrHalts asked result = MatchResult result
+      (λ given. MatchOption given ((asked ≡ asks.Quit) × (new ≡ old)) (λ answer. SaysLine (Some asked) answer))
+      (λ e. Halts)
+
+-- this was asked and answered, and the session is as it was
+abbrev pub SaysNow : {D : Type 0} → SessionState D → Option Question → LineAnswer → Type 0
+SaysNow s asked answer = SaysLine s s asked answer
 
 -- besides the backups that were kept, exactly the one is kept that was answered on this memory
 abbrev pub KeepsAnswered : {E : Type 0} → Contents → List Backup → List Backup → Result (Option LineAnswer) E → Type 0
@@ -278,97 +226,71 @@ with_left left o = record o { left = left }
 
 -- the same, where the input has these bytes
 abbrev pub with_input : Option (List ℕ) → Outputs → Outputs
-with_input known o = with_left (questions_left known) o
+with_input known o = record o { left = questions_left known }
 
 -- Exactly the backups that were answered are kept besides those that were.
 abbrev pub AreKept : Contents → Outputs → Outputs → List Exchange → Type 0
 AreKept m was is said = is.backups ≡ backups_of m said ++ was.backups
 
--- the same, and what was said is what the input asked for since
-abbrev pub AreOut : Contents → Outputs → Outputs → List Exchange → Type 0
-AreOut m was is said = AreKept m was is said × Hears was.left is.left (questions_of said)
+module _ {D : Type 0} (watch : Bool) (old : SessionState D) (was : Outputs) (new : SessionState D) (is : Outputs) where
+  -- this was said, it was printed line by line, its backups are kept, and it is what the input asked for
+  pub record Talking : Type 0 where
+    pub said : List Exchange
+    pub done : HasSaid old new said
+    pub printed : Appends was.text is.text (texts_of watch old.engine.memory said)
+    pub backups : AreKept old.engine.memory was is said
+    pub heard : Hears was.left is.left (questions_of said)
 
--- since then what was said was printed, line by line, its backups are kept, and it is what the input asked for
-abbrev pub Talking : {D : Type 0} → Bool → (D → Moment) → (D → List Moment) → (D → Type 0) → EngineState D → Outputs
-    → EngineState D → Outputs → Type 0
-Talking watch now past honest start was engine is =
-    honest engine.disk → honest start.disk × ((said : List Exchange) × (IsAt now past start engine said
-    × (Appends was.text is.text (texts_of watch start.memory said) × AreOut start.memory was is said)))
+  -- This was said, and it was ended. A prefix of it was printed, the backups that were answered are kept, and the input
+  -- asked for what was said before all else.
+  pub record Silent : Type 0 where
+    pub said : List Exchange
+    pub ended : HasEnded old new said
+    pub printed : Begins was.text is.text (texts_of watch old.engine.memory said)
+    pub backups : AreKept old.engine.memory was is said
+    pub heard : HearsSome was.left (questions_of said)
 
--- what was said, a prefix of which was printed, and the commands in doubt, if there are some; the backups that were
--- answered are kept, and the input asked for what was said before all else
-pub record Silent {D : Type 0} (watch : Bool) (now : D → Moment) (past : D → List Moment) (start : EngineState D)
-    (was : Outputs) (disk : D) (is : Outputs) : Type 0 where
-  pub said : List Exchange
-  pub doubt : List Command
-  pub few : length doubt ≤ MAX_GROUP
-  pub ended : HasEnded now past start disk said doubt
-  pub printed : Begins was.text is.text (texts_of watch start.memory said)
-  pub backups : AreKept start.memory was is said
-  pub heard : HearsSome was.left (questions_of said)
+  -- if the engine worked, lines were asked and answered, their answers printed, and their backups kept
+  abbrev pub TalksOn : Type 0
+  TalksOn = old.engine.failed ≡ false → Talking
 
--- the same, and it was ended
-abbrev pub Silenced : {D : Type 0} → Bool → (D → Moment) → (D → List Moment) → (D → Type 0) → EngineState D → Outputs
-    → D → Outputs → Type 0
-Silenced watch now past honest start was disk is =
-    honest disk → honest start.disk × Silent watch now past start was disk is
+  -- the same, and it was ended
+  abbrev pub TalkEnds : Type 0
+  TalkEnds = old.engine.failed ≡ false → Silent
 
--- lines were asked and answered, their answers printed, and their backups kept
-abbrev pub TalksOn : {D : Type 0} → Bool → (D → Moment) → (D → List Moment) → (D → Type 0) → EngineState D → Outputs
-    → EngineState D → Outputs → Type 0
-TalksOn {D} watch now past honest old was new is =
-    (start : EngineState D) (held : Outputs) → Talking watch now past honest start held old was
-    → Talking watch now past honest start held new is
+module _ {D : Type 0} (watch : Bool) where
+  -- What a call comes to that serves lines of no backup, and of an input that asks for something else: whatever is kept
+  -- and left stays as it is.
+  abbrev pub TalksThrough : {T E : Type 0} → SessionState D → Option (List ℕ) → Option (List (Option Question))
+      → SessionState D → Option (List ℕ) → (T → Option (List (Option Question))) → Result T E → Type 0
+  TalksThrough old was before new is later result = MatchResult result
+      (λ done. (backups : List Backup) → TalksOn watch old (with_left before (outputs was backups)) new
+      (with_left (later done) (outputs is backups)))
+      (λ e. (backups : List Backup) → TalkEnds watch old (with_left before (outputs was backups)) new
+      (outputs is backups))
 
--- the same, and it was ended
-abbrev pub TalkEnds : {D : Type 0} → Bool → (D → Moment) → (D → List Moment) → (D → Type 0) → EngineState D → Outputs
-    → EngineState D → Outputs → Type 0
-TalkEnds {D} watch now past honest old was new is =
-    (start : EngineState D) (held : Outputs) → Talking watch now past honest start held old was
-    → Silenced watch now past honest start held new.disk is
+  -- What a call comes to that serves the first of these questions, and returns how many, whatever is left behind them.
+  abbrev pub TalksQueue : {E : Type 0} → List (Option Question) → SessionState D → Option (List ℕ) → SessionState D
+      → Option (List ℕ) → Result ℕ E → Type 0
+  TalksQueue asked old was new is result =
+      (before : Option (List (Option Question))) (later : ℕ → Option (List (Option Question)))
+      → ((k : ℕ) → k ≤ length asked → Hears before (later k) (take k asked))
+      → TalksThrough old was before new is later result
 
--- the same of a disk as contracts know it
-abbrev pub On : {D : Type 0} → Ghosts D → Bool → EngineState D → Outputs → EngineState D → Outputs → Type 0
-On disk watch = TalksOn watch disk.now disk.past disk.honest
+  -- What a call comes to that serves this line, whatever is left behind it. It returns whether the dialogue continues.
+  abbrev pub TalksLine : {E : Type 0} → Option Question → SessionState D → Outputs → SessionState D → Outputs
+      → Result Bool E → Type 0
+  TalksLine asked old was new is result = (rest : Option (List (Option Question))) → MatchResult result
+      (λ goes_on. TalksOn watch old (with_left (asking asked rest) was) new (with_left (left_behind goes_on rest) is))
+      (λ e. TalkEnds watch old (with_left (asking asked rest) was) new is)
 
--- the same of the end
-abbrev pub Ends : {D : Type 0} → Ghosts D → Bool → EngineState D → Outputs → EngineState D → Outputs → Type 0
-Ends disk watch = TalkEnds watch disk.now disk.past disk.honest
-
--- What a call comes to that serves lines of no backup, and of an input that asks for something else: whatever is kept
--- and left stays as it is.
-abbrev pub TalksThrough : {D T E : Type 0} → Ghosts D → Bool → EngineState D → Option (List ℕ)
-    → Option (List (Option Question)) → EngineState D → Option (List ℕ) → (T → Option (List (Option Question)))
-    → Result T E → Type 0
-TalksThrough disk watch old was before new is later result = MatchResult result
-    (λ done. (backups : List Backup) → On disk watch old (with_left before (outputs was backups)) new
-    (with_left (later done) (outputs is backups)))
-    (λ e. (backups : List Backup) → Ends disk watch old (with_left before (outputs was backups)) new
-    (outputs is backups))
-
--- What a call comes to that serves the first of these questions, and returns how many, whatever is left behind them.
-abbrev pub TalksQueue : {D E : Type 0} → Ghosts D → Bool → List (Option Question) → EngineState D → Option (List ℕ)
-    → EngineState D → Option (List ℕ) → Result ℕ E → Type 0
-TalksQueue disk watch asked old was new is result =
-    (before : Option (List (Option Question))) (later : ℕ → Option (List (Option Question)))
-    → ((k : ℕ) → k ≤ length asked → Hears before (later k) (take k asked))
-    → TalksThrough disk watch old was before new is later result
-
--- What a call comes to that serves this line, whatever is left behind it. It returns whether the dialogue continues.
-abbrev pub TalksLine : {D E : Type 0} → Ghosts D → Bool → Option Question → EngineState D → Outputs → EngineState D
-    → Outputs → Result Bool E → Type 0
-TalksLine disk watch asked old was new is result = (rest : Option (List (Option Question))) → MatchResult result
-    (λ goes_on. On disk watch old (with_left (asking asked rest) was) new (with_left (left_behind goes_on rest) is))
-    (λ e. Ends disk watch old (with_left (asking asked rest) was) new is)
+  -- the same of a call that does what a line asks, if a line asks so
+  abbrev pub TalksAsked : {E : Type 0} → Question → SessionState D → Outputs → SessionState D → Outputs → Result Bool E
+      → Type 0
+  TalksAsked asked old was new is result =
+      (line : List ℕ) → asked_of line ≡ Some asked → TalksLine (Some asked) old was new is result
 
 -- the same of a line that isn't in the grammar; the dialogue continues
-abbrev pub TalksWrong : {D T E : Type 0} → Ghosts D → EngineState D → Option (List ℕ) → Option (List ℕ) → Result T E
-    → Type 0
-TalksWrong disk engine was is result = (watch : Bool) (rest : Option (List (Option Question)))
-    → TalksThrough disk watch engine was (asking None rest) engine is (λ _. left_behind true rest) result
-
--- the same of a call that does what a line asks, if a line asks so
-abbrev pub TalksAsked : {D E : Type 0} → Ghosts D → Bool → Question → EngineState D → Outputs → EngineState D → Outputs
-    → Result Bool E → Type 0
-TalksAsked disk watch asked old was new is result = (line : List ℕ) → asked_of line ≡ Some asked
-    → TalksLine disk watch (Some asked) old was new is result
+abbrev pub TalksWrong : {D T E : Type 0} → SessionState D → Option (List ℕ) → Option (List ℕ) → Result T E → Type 0
+TalksWrong s was is result = (watch : Bool) (rest : Option (List (Option Question)))
+    → TalksThrough watch s was (asking None rest) s is (λ _. left_behind true rest) result

@@ -63,18 +63,15 @@ member_result served.Unserved = Err NoMemory
 
 -- ---- the memory between two members
 
--- where an engine is before a group: its memory, how many more commands it can accept, how many it accepted, and where
--- it stands
+-- where an engine is before a group: its memory, how many more commands it can accept, and where it stands
 pub record GroupStart : Type 0 where
   pub memory : Contents
   pub places : ℕ
-  pub count : ℕ
   pub point : Point
 
 -- an engine as it is before a group
 abbrev pub group_start : {D : Type 0} → EngineState D → GroupStart
-group_start s =
-    record { memory = s.memory; places = places s.count s.room; count = s.count; point = point_of s }
+group_start s = record { memory = s.memory; places = places s.count s.room; point = point_of s }
 
 -- the memory after these members
 abbrev pub memory_between : GroupStart → List Command → Contents
@@ -86,7 +83,7 @@ places_between b ahead = left_after b.memory b.places ahead
 
 -- how many commands were accepted after them
 abbrev pub count_between : GroupStart → List Command → ℕ
-count_between b ahead = b.count + length (commands_at b.memory b.places ahead)
+count_between b ahead = b.point.count + length (commands_at b.memory b.places ahead)
 
 -- where the engine stands after them
 abbrev pub point_between : GroupStart → List Command → Point
@@ -123,7 +120,7 @@ LeavesShown m ahead shown (Known answer) = Unit {0}
 -- disk, told or kept for it
 pub record IsKnown (m : Contents) (commands : ℕ) (point : Point) (asked : Question) (answer : LineAnswer) : Type 0 where
   pub answers : (turns : List TurnDone)
-      → AnswersQuestion m commands (record { turns = turns; point = point }) (Some asked) answer
+      → AnswersQuestion m commands turns point (Some asked) answer
   pub puts : (any : Contents) → put_by any answer ≡ []
   pub tells : (watch : Bool) (any : Contents) → watch_text watch any answer ≡ []
   pub keeps : KeepsNone answer

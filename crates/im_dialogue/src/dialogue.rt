@@ -1,8 +1,6 @@
 //! A dialogue on the image of a disk.
 ghost use Rattle.std.specs.Prelude.{◌≡◌, ◌≤◌, false};
-ghost use Rattle.im_disk.specs.Since.{LeavesNow};
-ghost use Rattle.im_engine.specs.State.{MeansState};
-ghost use Rattle.im_dialogue.specs.Dialogue.{TalkedOn};
+ghost use Rattle.im_dialogue.specs.Dialogue.{BeginsNow, TalkedOn};
 ghost use Rattle.im_dialogue.specs.Serving.{ClosesDialogue};
 ghost use Rattle.im_dialogue.specs.Talk.{outputs};
 
@@ -34,9 +32,10 @@ use std::io::{BufRead, Write};
 /// - `talked`, answers: each line is answered on the memory after the lines before it.
 /// - `talked`, the input: what was said is what its lines ask for, where its bytes are known. With status 0 it is all
 ///   of them, or up to `quit`, else the first of them.
-/// - `talked`, a crash: from the opening on it leaves the memory after a prefix of the commands that were put. At the
-///   end it leaves the memory after all commands that were answered. If a call of the disk failed, the commands of the
-///   line or group that it was for may be there too, all of them or none.
+/// - `talked`, a crash: the opening leaves nothing that couldn't be left before. From then on a session's record says
+///   it of the commands that were put, which are those that were answered, and of those in doubt, which are of the line
+///   or group for which a call of the disk failed. A crash leaves the memory after a prefix of them. At the end it
+///   leaves the memory after all that were put, with all of those in doubt or none.
 /// - `talked`, what was printed: a prefix of the answers, then at most the refusal. With status 0 it is all answers and
 ///   nothing else.
 /// - `talked`, backups: each that was answered is kept, with the memory and the count of commands after the lines
@@ -58,9 +57,9 @@ pub fn dialogue_on<D: Disk, B: Backups, R: BufRead + Ear, W: Write, N: Observer<
     ensures honest { D.honest result.1 → D.honest disk }
 {
     match open_with_slots(alloc, disk) {
-        Ok((engine, slots)) => {
+        Ok((session, slots)) => {
             let setting = Setting { watch, slots };
-            let dialogue = Dialogue::new(alloc, engine, setting);
+            let dialogue = Dialogue::new(alloc, session, setting);
             talk_on(dialogue, backups, input, out, observer)
         }
         Err((refusal, mut disk)) => {
@@ -70,7 +69,7 @@ pub fn dialogue_on<D: Disk, B: Backups, R: BufRead + Ear, W: Write, N: Observer<
     }
 }
 
-// Serves a dialogue to its end. Returns the status and the engine's disk.
+// Serves a dialogue to its end, by a session that has put nothing. Returns the status and the session's disk.
 fn talk_on<D: Disk, B: Backups, R: BufRead + Ear, W: Write, N: Observer<News>>(
     mut dialogue: Dialogue<D>,
     backups: &mut B,
@@ -78,14 +77,12 @@ fn talk_on<D: Disk, B: Backups, R: BufRead + Ear, W: Write, N: Observer<News>>(
     out: &mut W,
     observer: &mut N,
 ) -> (u8, D)
-    requires works { dialogue.engine.failed ≡ false }
-    requires means { D.honest dialogue.engine.disk
-        → LeavesNow (D.now dialogue.engine.disk) (MeansState dialogue.engine) }
+    requires begins { BeginsNow dialogue.session }
+    requires works { dialogue.session.engine.failed ≡ false }
     ensures status { result.0 ≤ 1 }
     ensures closed { ClosesDialogue D.Disk dialogue (R.remaining input.old) result.1
         (outputs (W.contents out.old) (B.kept backups.old)) (outputs (W.contents out.new) (B.kept backups.new))
         result.0 }
-    ensures honest { D.honest result.1 → D.honest dialogue.engine.disk }
 {
     let alloc = dialogue.alloc;
     match dialogue.serve_lines(backups, input, out) {

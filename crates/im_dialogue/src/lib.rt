@@ -35,4 +35,4 @@ pub use backups::{BackupFault, Backups, NoBackups};
 pub use dialogue::dialogue_on;
 pub use look::Look;
 pub use serving::{Dialogue, Setting};
-pub use talk::{answer, make_room};
+pub use talk::answer;

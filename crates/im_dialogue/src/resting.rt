@@ -1,12 +1,12 @@
 //! How many slots the journal of an image has, and when a dialogue makes room while nobody asks.
-ghost use Rattle.std.specs.Prelude.{◌≡◌, ◌≤◌, ◌/◌, ℕ, false, IfOk, MatchResult};
+ghost use Rattle.std.specs.Prelude.{◌≡◌, ◌≤◌, ◌/◌, ℕ, IfOk, IfErr};
 ghost use Rattle.im_types.specs.Layout.{image_length as length_of_image, layout_in_use};
-ghost use Rattle.im_disk.specs.Since.{LeavesNow};
-ghost use Rattle.im_engine.specs.State.{MeansState};
-ghost use Rattle.im_dialogue.specs.Dialogue.{AddsNothing, CountsSlots};
+ghost use Rattle.im_engine.specs.Leaving.{LeavesAsBefore};
+ghost use Rattle.im_dialogue.specs.Dialogue.{BeginsTalk, CountsSlots};
 
 use im_disk::Disk;
 use im_engine::Engine;
+use im_session::Session;
 use im_types::layout::{SLOT, image_length};
 use im_types::{Limits, MAX_SLOTS, MIN_SLOTS, Refusal};
 use std::alloc::Global;
@@ -41,22 +41,21 @@ fn slots_of<D: Disk>(engine: &Engine<D>, bytes: usize) -> u32
     }
 }
 
-/// Opens the image of a disk. Returns the engine, and how many slots its journal has.
+/// Opens the image of a disk. Returns a session that begins behind the opening, and how many slots the journal has.
 pub(crate) fn open_with_slots<D: Disk>(
     alloc: Global,
     mut disk: D,
-) -> Result<(Engine<D>, u32), (Refusal, D)>
-    ensures means { IfOk result (λ r. D.honest r.0.disk → LeavesNow (D.now r.0.disk) (MeansState r.0)) }
-    ensures works { IfOk result (λ r. r.0.failed ≡ false) }
-    ensures leaves { MatchResult result (λ r. AddsNothing D.Disk disk r.0.disk) (λ e. AddsNothing D.Disk disk e.1) }
-    ensures honest { MatchResult result (λ r. D.honest r.0.disk → D.honest disk) (λ e. D.honest e.1 → D.honest disk) }
+) -> Result<(Session<D>, u32), (Refusal, D)>
+    ensures begins { IfOk result (λ r. BeginsTalk D.Disk disk r.0) }
+    ensures leaves { IfErr result (λ e. LeavesAsBefore D.Disk disk e.1) }
+    ensures honest { IfErr result (λ e. D.honest e.1 → D.honest disk) }
 {
     let bytes = disk.len().unwrap_or(0);
     // A crash in this call leaves what a crash before it leaves: an opening writes nothing.
     match Engine::open(alloc, disk) {
         Ok(engine) => {
             let slots = slots_of(&engine, bytes);
-            Ok((engine, slots))
+            Ok((Session::of(engine), slots))
         }
         Err(refused) => Err(refused),
     }

@@ -8,8 +8,8 @@ use crate::answers::{LineAnswer, add_answer};
 use crate::explaining::explain;
 use crate::talk::wrong;
 use im_disk::Disk;
-use im_engine::Engine;
 use im_memory::Memory;
+use im_session::Session;
 use im_text::{Reason, put_through};
 use std::alloc::{AllocError, Global};
 use std::io::Write;
@@ -75,19 +75,19 @@ impl Draft {
 
 /// Answers a line that isn't in the grammar by where it goes wrong. Nothing changes.
 pub(crate) fn explain_line<D: Disk, W: Write>(
-    engine: &Engine<D>,
+    session: &Session<D>,
     number: u64,
     line: &[u8],
     draft: &mut Draft,
     out: &mut W,
 ) -> Result<(), Reason>
     requires wrong { asked_of line.now ≡ None }
-    ensures { TalksWrong D.Disk engine.now (W.contents out.old) (W.contents out.new) result }
+    ensures { TalksWrong session.now (W.contents out.old) (W.contents out.new) result }
 {
     match explain(draft.alloc, line) {
         Ok(fault) => {
-            let answer = wrong(engine, number, fault);
-            match draft.say(engine.memory(), answer, "", out) {
+            let answer = wrong(session, number, fault);
+            match draft.say(session.memory(), answer, "", out) {
                 Ok(()) => Ok(()),
                 Err(reason) => Err(reason),
             }

@@ -1,5 +1,6 @@
 //! Serves a dialogue, line by line.
 ghost use Rattle.std.specs.Prelude.{◌≡◌, ◌≤◌, IfOk, length};
+ghost use Rattle.im_session.specs.Kept.{Kept};
 ghost use Rattle.im_dialogue.specs.Hearing.{as_asked};
 ghost use Rattle.im_dialogue.specs.Talk.{TalksAsked, TalksQueue, outputs};
 ghost use Rattle.im_dialogue.specs.Together.{AreAsked};
@@ -12,14 +13,15 @@ use crate::grouping::take_parts;
 use crate::lines::{next_line, unread};
 use crate::resting::half_of;
 use crate::saying::explain_line;
-use crate::talk::{answer, make_room, turn_while_quiet};
+use crate::talk::{answer, turn_while_quiet};
 use crate::together::serve_parts;
 use crate::watching::{make_nows, told_with};
 use im_damage::Damage;
 use im_disk::Disk;
-use im_engine::Engine;
 use im_listening::Ear;
+use im_session::Session;
 use im_text::Reason;
+use im_types::Unobserved;
 use std::alloc::Global;
 use std::io::{BufRead, ErrorKind, Write};
 
@@ -32,11 +34,11 @@ pub struct Setting {
     pub slots: u32,
 }
 
-/// A dialogue: the engine on which it is held, its setting, where memory comes from, and the number of the next line.
+/// A dialogue: the session by which it is held, its setting, where memory comes from, and the number of the next line.
 #[derive(Drop)]
 pub struct Dialogue<D: Disk> {
-    /// The engine.
-    pub engine: Engine<D>,
+    /// The session.
+    pub session: Session<D>,
     /// The setting.
     pub setting: Setting,
     /// Where memory comes from.
@@ -48,13 +50,13 @@ pub struct Dialogue<D: Disk> {
 impl<D: Disk> Dialogue<D> {
     ghost use Rattle.im_dialogue.specs.Serving.{ServesAll, ServesLine, ServesMany, ServesTogether};
 
-    /// Begins a dialogue on an engine. It has served no line.
-    pub fn new(alloc: Global, engine: Engine<D>, setting: Setting) -> Dialogue<D>
-        ensures engine { result.engine ≡ engine }
+    /// Begins a dialogue with a session. It has served no line.
+    pub fn new(alloc: Global, session: Session<D>, setting: Setting) -> Dialogue<D>
+        ensures session { result.session ≡ session }
         ensures setting { result.setting ≡ setting }
     {
         Dialogue {
-            engine,
+            session,
             setting,
             alloc,
             number: 1,
@@ -62,18 +64,19 @@ impl<D: Disk> Dialogue<D> {
         }
     }
 
-    /// Ends the dialogue, and gives the engine's disk back.
+    /// Ends the dialogue, and gives the session's disk back.
     pub fn close(self) -> D
-        ensures disk { result ≡ self.engine.disk }
+        ensures disk { result ≡ self.session.engine.disk }
+        ensures kept { Kept D.Disk self.session }
     {
         let Dialogue {
-            engine,
+            session,
             setting: _,
             alloc: _,
             number: _,
             drafts: _,
         } = self;
-        engine.close()
+        session.close()
     }
 
     // Does what a line asks, and prints the answer. Returns whether the dialogue continues.
@@ -83,22 +86,22 @@ impl<D: Disk> Dialogue<D> {
         asked: Question,
         out: &mut W,
     ) -> Result<bool, Reason>
-        ensures talks { TalksAsked D.Disk self.old.setting.watch asked
-            self.old.engine (outputs (W.contents out.old) (B.kept backups.old))
-            self.new.engine (outputs (W.contents out.new) (B.kept backups.new)) result }
+        ensures talks { TalksAsked self.old.setting.watch asked
+            self.old.session (outputs (W.contents out.old) (B.kept backups.old))
+            self.new.session (outputs (W.contents out.new) (B.kept backups.new)) result }
         ensures same { self.new.setting ≡ self.old.setting }
     {
         let setting = self.setting;
         // The waiting requests are looked up before the command acts, since it resumes them.
         if let Err(_) = make_nows(
             &mut self.drafts.nows,
-            self.engine.memory(),
+            self.session.memory(),
             asked,
             setting.watch,
         ) {
             return Err(Reason::Memory);
         }
-        match answer(&mut self.engine, backups, setting.slots, asked) {
+        match answer(&mut self.session, backups, setting.slots, asked) {
             Ok(None) => Ok(false),
             // The command is on the disk before its line is printed. After a crash between them it can be asked again.
             Ok(Some(answer)) => {
@@ -106,7 +109,7 @@ impl<D: Disk> Dialogue<D> {
                 match self
                     .drafts
                     .draft
-                    .say(self.engine.memory(), answer, told, out)
+                    .say(self.session.memory(), answer, told, out)
                 {
                     Ok(()) => Ok(true),
                     Err(reason) => Err(reason),
@@ -122,7 +125,7 @@ impl<D: Disk> Dialogue<D> {
         backups: &mut B,
         out: &mut W,
     ) -> Result<bool, Reason>
-        ensures talks { ServesLine D.Disk self.old (outputs (W.contents out.old) (B.kept backups.old))
+        ensures talks { ServesLine self.old (outputs (W.contents out.old) (B.kept backups.old))
             self.new (outputs (W.contents out.new) (B.kept backups.new)) result }
         ensures same { self.new.setting ≡ self.old.setting }
     {
@@ -131,7 +134,7 @@ impl<D: Disk> Dialogue<D> {
             Ok(Some(asked)) => self.serve_asked(backups, asked, out),
             Ok(None) => {
                 let draft = &mut self.drafts.draft;
-                match explain_line(&self.engine, self.number, line, draft, out) {
+                match explain_line(&self.session, self.number, line, draft, out) {
                     Ok(()) => Ok(true),
                     Err(reason) => Err(reason),
                 }
@@ -144,22 +147,22 @@ impl<D: Disk> Dialogue<D> {
     fn serve_group<W: Write>(&mut self, out: &mut W) -> Result<usize, Reason>
         requires asked { AreAsked self.old.drafts.standing.asked.items }
         ensures few { IfOk result (λ many. many ≤ length self.old.drafts.standing.asked.items) }
-        ensures talks { TalksQueue D.Disk self.old.setting.watch (as_asked self.old.drafts.standing.asked.items)
-            self.old.engine (W.contents out.old) self.new.engine (W.contents out.new) result }
+        ensures talks { TalksQueue self.old.setting.watch (as_asked self.old.drafts.standing.asked.items)
+            self.old.session (W.contents out.old) self.new.session (W.contents out.new) result }
         ensures same { self.new.setting ≡ self.old.setting }
         ensures standing { self.new.drafts.standing ≡ self.old.drafts.standing }
     {
         let asked = self.drafts.standing.asked.as_slice();
         match take_parts(
             self.alloc,
-            &self.engine,
+            self.session.engine(),
             self.setting,
             asked,
             &mut self.drafts.group,
         ) {
             Ok(()) => {
                 let draft = &mut self.drafts.draft;
-                serve_parts(&mut self.engine, &self.drafts.group, draft, out)
+                serve_parts(&mut self.session, &self.drafts.group, draft, out)
             }
             Err(_) => Err(Reason::Memory),
         }
@@ -172,7 +175,7 @@ impl<D: Disk> Dialogue<D> {
         input: &mut R,
         out: &mut W,
     ) -> Result<u64, Reason>
-        ensures talks { ServesTogether D.Disk self.old (W.contents out.old) (R.remaining input.old)
+        ensures talks { ServesTogether self.old (W.contents out.old) (R.remaining input.old)
             self.new (W.contents out.new) (R.remaining input.new) result }
         ensures same { self.new.setting ≡ self.old.setting }
     {
@@ -183,7 +186,7 @@ impl<D: Disk> Dialogue<D> {
         if many < 2 {
             return Ok(0);
         }
-        if let Err(refusal) = make_room(&mut self.engine, many) {
+        if let Err(refusal) = self.session.make_room(many, &mut Unobserved) {
             return Err(Reason::Image(refusal, Damage::Unknown));
         }
         match self.serve_group(out) {
@@ -203,8 +206,7 @@ impl<D: Disk> Dialogue<D> {
         input: &mut R,
         out: &mut W,
     ) -> Result<u64, Reason>
-        ensures talks { ServesMany D.Disk
-            self.old (outputs (W.contents out.old) (B.kept backups.old)) (R.remaining input.old)
+        ensures talks { ServesMany self.old (outputs (W.contents out.old) (B.kept backups.old)) (R.remaining input.old)
             self.new (outputs (W.contents out.new) (B.kept backups.new)) (R.remaining input.new) result }
         ensures same { self.new.setting ≡ self.old.setting }
     {
@@ -228,14 +230,13 @@ impl<D: Disk> Dialogue<D> {
         input: &mut R,
         out: &mut W,
     ) -> Result<u64, Reason>
-        ensures talks { ServesMany D.Disk
-            self.old (outputs (W.contents out.old) (B.kept backups.old)) (R.remaining input.old)
+        ensures talks { ServesMany self.old (outputs (W.contents out.old) (B.kept backups.old)) (R.remaining input.old)
             self.new (outputs (W.contents out.new) (B.kept backups.new)) (R.remaining input.new) result }
         ensures same { self.new.setting ≡ self.old.setting }
     {
         let half = half_of(self.setting.slots);
         // All that was asked is answered by now, so nobody waits for these turns.
-        if let Err(refusal) = turn_while_quiet(&mut self.engine, input, half) {
+        if let Err(refusal) = turn_while_quiet(&mut self.session, input, half) {
             return Err(Reason::Image(refusal, Damage::Unknown));
         }
         match self.serve_together(input, out) {
@@ -249,7 +250,7 @@ impl<D: Disk> Dialogue<D> {
         }
     }
 
-    /// Serves a dialogue on an engine, until the input ends or `quit` is asked. Each line of the input is answered by
+    /// Serves a dialogue, until the input ends or `quit` is asked. Each line of the input is answered by
     /// one line, in order. The answer is written and put through after what it tells is on the disk.
     ///
     /// A line that isn't in the grammar is answered by where it goes wrong, and changes nothing. A line of more than
@@ -279,8 +280,7 @@ impl<D: Disk> Dialogue<D> {
         input: &mut R,
         out: &mut W,
     ) -> Result<(), Reason>
-        ensures talks { ServesAll D.Disk
-            self.old (outputs (W.contents out.old) (B.kept backups.old)) (R.remaining input.old)
+        ensures talks { ServesAll self.old (outputs (W.contents out.old) (B.kept backups.old)) (R.remaining input.old)
             self.new (outputs (W.contents out.new) (B.kept backups.new)) (R.remaining input.new) result }
         ensures same { self.new.setting ≡ self.old.setting }
     {

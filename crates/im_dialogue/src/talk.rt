@@ -1,11 +1,12 @@
-//! Does on an engine what is asked. The dialogue does so for each line that it serves by itself.
+//! Does with a session what is asked. The dialogue does so for each line that it serves by itself.
 ghost use Rattle.std.specs.Prelude.{◌≡◌, ◌≤◌, ◌++◌, true, Some, None, IfOk, OnOk};
 ghost use Rattle.im_dialogue.specs.declared.asking.Question.TheVariants.{Backup, Count, Room};
 ghost use Rattle.im_dialogue.specs.declared.asking.Question.TheVariants.{Serve, Turn, Window};
 ghost use Rattle.im_dialogue.specs.declared.answers.LineAnswer.TheVariants as answer;
 ghost use Rattle.im_dialogue.specs.declared.look.Look.{Look};
-ghost use Rattle.im_turning.specs.Turning.{HasMadeRoom, IsSpent, TurnsInto, point_of};
-ghost use Rattle.im_dialogue.specs.Talk.{AnswersOrHalts, GoesOrHalts, KeepsAnswered, KeepsNone, SaysNow, SaysOrHalts};
+ghost use Rattle.im_turning.specs.Turning.{IsSpent, point_of};
+ghost use Rattle.im_session.specs.Serving.{Rests};
+ghost use Rattle.im_dialogue.specs.Talk.{AnswersOrHalts, KeepsAnswered, KeepsNone, OnlyTurned, SaysNow, SaysOrHalts};
 ghost use Rattle.im_dialogue.specs.Talk.{about_of, backup_by, is_end};
 
 use crate::about::About;
@@ -18,70 +19,33 @@ use im_disk::Disk;
 use im_engine::Engine;
 use im_listening::Ear;
 use im_script::LineFault;
+use im_session::Session;
 use im_turning::MOST_TURNS;
 use im_types::layout::Version;
-use im_types::{Command, Refusal};
-
-// Takes a turn of a checkpoint.
-fn take_turn<D: Disk>(engine: &mut Engine<D>) -> Result<TurnDone, Refusal>
-    ensures goes { GoesOrHalts D.Disk engine.old engine.new result }
-    ensures leads { IfOk result (λ done. TurnsInto (point_of engine.old) done (point_of engine.new)) }
-    ensures honest { D.honest engine.new.disk → D.honest engine.old.disk }
-{
-    // A crash in this call leaves the memory as it is.
-    match engine.turn() {
-        Ok(done) => Ok(done),
-        Err(refusal) => Err(refusal),
-    }
-}
+use im_types::{Command, Refusal, Unobserved};
 
 /// Takes turns of a checkpoint while nothing is heard, there is room for fewer than `least` commands, and something is
 /// left to do. It does nothing if there is room for `least` commands, or if a read never waits. Returns `Device` if a
-/// call of the disk failed, or `Failed` if one had failed before. What was said before stays.
+/// call of the disk failed, or `Failed` if one had failed before. Nothing is said by it.
 pub(crate) fn turn_while_quiet<D: Disk, E: Ear>(
-    engine: &mut Engine<D>,
+    session: &mut Session<D>,
     ear: &mut E,
     least: u32,
 ) -> Result<(), Refusal>
-    ensures goes { GoesOrHalts D.Disk engine.old engine.new result }
-    ensures honest { D.honest engine.new.disk → D.honest engine.old.disk }
-    ensures enough { least ≤ engine.old.room → engine.new ≡ engine.old }
-    ensures ready { E.is_ready ear.old ≡ true → engine.new ≡ engine.old }
+    ensures same { Rests session.old session.new }
+    ensures turned { OnOk result (OnlyTurned session.old session.new) }
+    ensures enough { least ≤ session.old.engine.room → session.new ≡ session.old }
+    ensures ready { E.is_ready ear.old ≡ true → session.new ≡ session.old }
     ensures kept { E.remaining ear.new ≡ E.remaining ear.old }
 {
     for _turn in 0..MOST_TURNS {
-        if engine.room() >= least || !ear.is_quiet() {
+        if session.engine().room() >= least || !ear.is_quiet() {
             return Ok(());
         }
         // A crash in this call leaves the memory as it is.
-        let done = match take_turn(engine) {
+        let done = match session.turn() {
             Ok(done) => done,
             Err(refusal) => return Err(refusal),
-        };
-        if let TurnDone::Idle = done {
-            return Ok(());
-        }
-    }
-    Ok(())
-}
-
-/// Takes turns of a checkpoint while there is room for fewer than `least` commands and something is left to do. At the
-/// end there is room for `least` commands, or the last turn had nothing to do, or [`MOST_TURNS`] turns were taken; a
-/// law of `im_turning` says how many are enough. Returns `Device` if a call of the disk failed, or `Failed` if one had
-/// failed before. What was said before stays.
-pub fn make_room<D: Disk>(engine: &mut Engine<D>, least: u32) -> Result<(), Refusal>
-    ensures goes { GoesOrHalts D.Disk engine.old engine.new result }
-    ensures room { OnOk result (HasMadeRoom least (point_of engine.old) (point_of engine.new)) }
-    ensures honest { D.honest engine.new.disk → D.honest engine.old.disk }
-{
-    for _turn in 0..MOST_TURNS {
-        if engine.room() >= least {
-            return Ok(());
-        }
-        // A crash in this call leaves the memory as it is.
-        let done = match take_turn(engine) {
-            Ok(done) => done,
-            Err(why) => return Err(why),
         };
         if let TurnDone::Idle = done {
             return Ok(());
@@ -98,14 +62,13 @@ fn ends(refusal: Refusal) -> bool
 }
 
 // Serves a command. If there is no room for it, no turn makes any.
-fn serve<D: Disk>(engine: &mut Engine<D>, command: Command) -> Result<LineAnswer, Refusal>
-    requires spent { engine.old.room ≡ 0 → IsSpent (point_of engine.old) }
-    ensures answered { SaysOrHalts D.Disk engine.old engine.new (Some (Serve command)) result }
-    ensures honest { D.honest engine.new.disk → D.honest engine.old.disk }
+fn serve<D: Disk>(session: &mut Session<D>, command: Command) -> Result<LineAnswer, Refusal>
+    requires spent { session.old.engine.room ≡ 0 → IsSpent (point_of session.old.engine) }
+    ensures answered { SaysOrHalts session.old session.new (Some (Serve command)) result }
     ensures same { IfOk result (λ answer. KeepsNone answer) }
 {
     // A crash in this call leaves the memory with the command, or without it. It isn't answered yet.
-    match engine.serve(&command) {
+    match session.serve(&command) {
         Ok(outcome) => Ok(LineAnswer::Served(command, Ok(outcome))),
         Err(refusal) => {
             if ends(refusal) {
@@ -118,52 +81,53 @@ fn serve<D: Disk>(engine: &mut Engine<D>, command: Command) -> Result<LineAnswer
 }
 
 // Makes room for a command, and serves it.
-fn serve_with_room<D: Disk>(engine: &mut Engine<D>, command: Command) -> Result<LineAnswer, Refusal>
-    ensures answered { SaysOrHalts D.Disk engine.old engine.new (Some (Serve command)) result }
-    ensures honest { D.honest engine.new.disk → D.honest engine.old.disk }
+fn serve_with_room<D: Disk>(
+    session: &mut Session<D>,
+    command: Command,
+) -> Result<LineAnswer, Refusal>
+    ensures answered { SaysOrHalts session.old session.new (Some (Serve command)) result }
     ensures same { IfOk result (λ answer. KeepsNone answer) }
 {
-    match make_room(engine, 1) {
-        Ok(()) => serve(engine, command),
+    match session.make_room(1, &mut Unobserved) {
+        Ok(()) => serve(session, command),
         Err(refusal) => Err(refusal),
     }
 }
 
 // Takes a turn, and returns what it did as an answer.
-fn turn<D: Disk>(engine: &mut Engine<D>) -> Result<LineAnswer, Refusal>
-    ensures answered { SaysOrHalts D.Disk engine.old engine.new (Some Turn) result }
-    ensures honest { D.honest engine.new.disk → D.honest engine.old.disk }
+fn turn<D: Disk>(session: &mut Session<D>) -> Result<LineAnswer, Refusal>
+    ensures answered { SaysOrHalts session.old session.new (Some Turn) result }
     ensures same { IfOk result (λ answer. KeepsNone answer) }
 {
     // A crash in this call leaves the memory as it is.
-    match engine.turn() {
+    match session.turn() {
         Ok(done) => Ok(LineAnswer::Turned(done)),
         Err(refusal) => Err(refusal),
     }
 }
 
 // Returns an element's window, as an answer.
-fn window<D: Disk>(engine: &Engine<D>, element: u16) -> LineAnswer
-    ensures answered { SaysNow D.Disk engine.now (Some (Window element)) result }
+fn window<D: Disk>(session: &Session<D>, element: u16) -> LineAnswer
+    ensures answered { SaysNow session.now (Some (Window element)) result }
     ensures same { KeepsNone result }
 {
-    LineAnswer::Window(element, engine.window(element))
+    LineAnswer::Window(element, session.engine().window(element))
 }
 
 // Returns how many commands were accepted, as an answer.
-fn count<D: Disk>(engine: &Engine<D>) -> LineAnswer
-    ensures answered { SaysNow D.Disk engine.now (Some Count) result }
+fn count<D: Disk>(session: &Session<D>) -> LineAnswer
+    ensures answered { SaysNow session.now (Some Count) result }
     ensures same { KeepsNone result }
 {
-    LineAnswer::Count(engine.count())
+    LineAnswer::Count(session.engine().count())
 }
 
 // Returns how many more commands there is room for, as an answer.
-fn room<D: Disk>(engine: &Engine<D>) -> LineAnswer
-    ensures answered { SaysNow D.Disk engine.now (Some Room) result }
-    ensures room { result ≡ answer.Room engine.now.room }
+fn room<D: Disk>(session: &Session<D>) -> LineAnswer
+    ensures answered { SaysNow session.now (Some Room) result }
+    ensures room { result ≡ answer.Room session.now.engine.room }
 {
-    LineAnswer::Room(engine.room())
+    LineAnswer::Room(session.engine().room())
 }
 
 // Returns what the image is and how far it has come, as an answer. `slots` is how many slots its journal has.
@@ -183,31 +147,31 @@ fn about<D: Disk>(engine: &Engine<D>, slots: u32) -> LineAnswer
 
 // Keeps a copy of the image, and returns the answer. `slots` is how many slots the journal has.
 fn keep<D: Disk, B: Backups>(
-    engine: &Engine<D>,
+    session: &Session<D>,
     backups: &mut B,
     slots: u32,
     name: BackupName,
 ) -> LineAnswer
-    ensures answered { SaysNow D.Disk engine.now (Some (Backup name)) result }
-    ensures kept { B.kept backups.new ≡ backup_by engine.now.memory result ++ B.kept backups.old }
+    ensures answered { SaysNow session.now (Some (Backup name)) result }
+    ensures kept { B.kept backups.new ≡ backup_by session.now.engine.memory result ++ B.kept backups.old }
 {
-    let count = engine.count();
-    match backups.keep(engine.memory(), slots, count, name) {
+    let count = session.engine().count();
+    match backups.keep(session.memory(), slots, count, name) {
         Ok(()) => LineAnswer::Backup(name, Ok(count)),
         Err(fault) => LineAnswer::Backup(name, Err(fault)),
     }
 }
 
 /// Returns the answer to a line that isn't in the grammar: its number, and where it goes wrong.
-pub fn wrong<D: Disk>(engine: &Engine<D>, number: u64, fault: LineFault) -> LineAnswer
-    ensures answered { SaysNow D.Disk engine.now None result }
+pub fn wrong<D: Disk>(session: &Session<D>, number: u64, fault: LineFault) -> LineAnswer
+    ensures answered { SaysNow session.now None result }
     ensures answer { result ≡ answer.Wrong number fault }
 {
     LineAnswer::Wrong(number, fault)
 }
 
-/// Does on an engine what is asked, and returns the answer. Returns `None` if that ends the dialogue. The answer to a
-/// line that only looks is what the engine's memory shows then ([`crate::add_answer`]). Before a command, turns of a
+/// Does with a session what is asked, and returns the answer. Returns `None` if that ends the dialogue. The answer to a
+/// line that only looks is what the session's memory shows then ([`crate::add_answer`]). Before a command, turns of a
 /// checkpoint are taken while there is no room for one; it is answered `JournalFull` only where they made none. `room`
 /// and `about` tell the engine's room, and `turn` the turn that was taken. `slots` is how many slots the journal has.
 ///
@@ -217,31 +181,30 @@ pub fn wrong<D: Disk>(engine: &Engine<D>, number: u64, fault: LineFault) -> Line
 /// Returns `Device` or `Failed` if a call of the disk failed. Then at most this command is in doubt, and what was said
 /// before stays. Any other refusal is an answer.
 pub fn answer<D: Disk, B: Backups>(
-    engine: &mut Engine<D>,
+    session: &mut Session<D>,
     backups: &mut B,
     slots: u32,
     asked: Question,
 ) -> Result<Option<LineAnswer>, Refusal>
-    ensures answered { AnswersOrHalts D.Disk engine.old engine.new asked result }
-    ensures honest { D.honest engine.new.disk → D.honest engine.old.disk }
-    ensures same { (look : Look) → asked ≡ Question.Look look → engine.new ≡ engine.old }
-    ensures kept { KeepsAnswered engine.old.memory (B.kept backups.old) (B.kept backups.new) result }
+    ensures answered { AnswersOrHalts session.old session.new asked result }
+    ensures same { (look : Look) → asked ≡ Question.Look look → session.new ≡ session.old }
+    ensures kept { KeepsAnswered session.old.engine.memory (B.kept backups.old) (B.kept backups.new) result }
 {
     match asked {
-        Question::Serve(command) => match serve_with_room(engine, command) {
+        Question::Serve(command) => match serve_with_room(session, command) {
             Ok(answer) => Ok(Some(answer)),
             Err(refusal) => Err(refusal),
         },
-        Question::Turn => match turn(engine) {
+        Question::Turn => match turn(session) {
             Ok(answer) => Ok(Some(answer)),
             Err(refusal) => Err(refusal),
         },
         Question::Look(look) => Ok(Some(LineAnswer::Looked(look))),
-        Question::Window(element) => Ok(Some(window(engine, element))),
-        Question::Room => Ok(Some(room(engine))),
-        Question::Count => Ok(Some(count(engine))),
-        Question::About => Ok(Some(about(engine, slots))),
-        Question::Backup(name) => Ok(Some(keep(engine, backups, slots, name))),
+        Question::Window(element) => Ok(Some(window(session, element))),
+        Question::Room => Ok(Some(room(session))),
+        Question::Count => Ok(Some(count(session))),
+        Question::About => Ok(Some(about(session.engine(), slots))),
+        Question::Backup(name) => Ok(Some(keep(session, backups, slots, name))),
         Question::Quit => Ok(None),
     }
 }

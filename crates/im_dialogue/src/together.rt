@@ -17,6 +17,7 @@ use im_damage::Damage;
 use im_disk::Disk;
 use im_engine::Engine;
 use im_memory::Memory;
+use im_session::Session;
 use im_text::{Reason, put_through};
 use im_types::{Outcome, Refusal, Served};
 use std::alloc::{AllocError, Global};
@@ -88,15 +89,15 @@ fn told_of(all: &[GroupLine], left: &[GroupLine]) -> usize
 
 // Makes the lines of the answers to a group that was served, in the order of its lines. Returns how many lines it has:
 // those up to the first member that wasn't served.
-fn make_lines<D: Disk>(
-    engine: &Engine<D>,
+fn make_lines(
+    memory: &Memory,
     group: &Gathered,
     served: &[Served],
     draft: &mut Draft,
 ) -> Result<usize, AllocError>
     ensures few { IfOk result (λ told. told ≤ length group.now.parts.items) }
-    ensures tells { IfOk result (λ told. TellsGroup D group.now.parts.items (map string_bytes group.now.nows.items)
-        group.now.members.items served.now engine.now.memory (string_bytes draft.new.text) told) }
+    ensures tells { IfOk result (λ told. TellsGroup group.now.parts.items (map string_bytes group.now.nows.items)
+        group.now.members.items served.now memory.now.contents (string_bytes draft.new.text) told) }
 {
     draft.text.clear();
     let mut parts = group.parts.as_slice();
@@ -109,13 +110,7 @@ fn make_lines<D: Disk>(
         let Some(answer) = line_answer(answers, *part) else {
             return Ok(told_of(group.parts.as_slice(), parts));
         };
-        add_line(
-            draft.alloc,
-            &mut draft.text,
-            engine.memory(),
-            answer,
-            now.as_str(),
-        )?;
+        add_line(draft.alloc, &mut draft.text, memory, answer, now.as_str())?;
         answers = answers_behind(*part, answers);
         parts = later;
         nows = others;
@@ -137,27 +132,27 @@ fn lacks_places<D: Disk>(engine: &Engine<D>, group: &Gathered) -> bool
 /// make. If a call of the disk fails, the dialogue ends. Then the commands of the group are on the disk all together or
 /// not at all, and none is answered.
 pub(crate) fn serve_parts<D: Disk, W: Write>(
-    engine: &mut Engine<D>,
+    session: &mut Session<D>,
     group: &Gathered,
     draft: &mut Draft,
     out: &mut W,
 ) -> Result<usize, Reason>
     ensures few { IfOk result (λ many. many ≤ length group.now.parts.items) }
-    ensures talks { TalksAsGroup D.Disk group.now.parts.items (map string_bytes group.now.nows.items)
-        group.now.members.items engine.old (W.contents out.old) engine.new (W.contents out.new) result }
+    ensures talks { TalksAsGroup group.now.parts.items (map string_bytes group.now.nows.items)
+        group.now.members.items session.old (W.contents out.old) session.new (W.contents out.new) result }
 {
-    if lacks_places(engine, group) {
+    if lacks_places(session.engine(), group) {
         return Ok(0);
     }
-    let _cells = engine.memory().cells(); // So that it is known to be a memory.
+    let _cells = session.memory().cells(); // So that it is known to be a memory.
     let mut served = ArrayVec::new();
     // A crash in this call leaves on the disk all that the group puts there, or nothing of it. No answer is given
     // before.
-    engine.serve_commands(&group.members, &mut served);
-    if engine.failed() {
+    session.serve_commands(&group.members, &mut served);
+    if session.engine().failed() {
         return Err(Reason::Image(Refusal::Device, Damage::Unknown));
     }
-    match make_lines(engine, group, served.as_slice(), draft) {
+    match make_lines(session.memory(), group, served.as_slice(), draft) {
         Ok(many) => match put_through(out, draft.text.as_str()) {
             Ok(()) => Ok(many),
             Err(reason) => Err(reason),

@@ -98,7 +98,7 @@ DoneOn d first input (run image script planned once trace) was is status disk =
     (calls : TraceState) × ScriptRan d planned once first (bytes_at script input) disk was is calls status
 DoneOn d first input (serve image watch backups) was is status disk =
     (kept : List Backup)
-    × TalkedFrom watch d.now d.past first disk (with_input input (outputs was [])) (outputs is kept) status
+    × TalkedFrom d watch first disk (with_input input (outputs was [])) (outputs is kept) status
 DoneOn d first input (inspect image look) was is status disk =
     (status ≡ 0 → ShowsView look first.bytes was is) × ReadsOnly first (d.now disk) [] (d.past disk)
 DoneOn d first input (migrate old new) was is status disk = Unit {0}
@@ -151,7 +151,7 @@ WasLoaded d first loading input was is status disk = d.honest disk
 abbrev pub WasTalked : {D E : Type 0} → DiskGhosts D → Moment → Talking → Option (List ℕ) → Outputs → Outputs
     → Result (ℕ × D) E → Type 0
 WasTalked d first talking input was is result = IfOk result (λ r. d.honest r.1
-    → TalkedFrom talking.watch d.now d.past first r.1 (with_input input was) is r.0)
+    → TalkedFrom d talking.watch first r.1 (with_input input was) is r.0)
 
 -- a task was done on this disk
 abbrev pub WasDone : {D : Type 0} → DiskGhosts D → Moment → Option (List ℕ) → Task → Option (List ℕ) → Option (List ℕ)

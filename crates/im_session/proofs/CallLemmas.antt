@@ -25,17 +25,9 @@ use Rattle.im_session.specs.Put.{sure_by, doubted_by, sure_of, doubted_of}
 use Rattle.im_session.proofs.AcceptedLemmas.{accepted_each, one_accepted}
 use Rattle.im_session.proofs.KeptLemmas.{Accepted, CallLeaves, GoesOn, Puts, Stays, all_of, none_of, puts_all, puts_none}
 use Rattle.im_session.proofs.KeptLemmas.{rose_by, steady_by}
+use Rattle.im_session.proofs.ServedLemmas.{undoubted, unsure}
 
 -- ---- a command
-
--- what is put and doubted of an answer
-unsure : (m : Contents) (c : Command) (a : Result Outcome Refusal) → is_accepted m c ≡ false → sure_by m c a ≡ []
-unsure m c (Ok o) e = ap (λ (b : Bool). if b then c ∷ [] else []) e
-unsure m c (Err r) e = refl
-
-undoubted : (m : Contents) (c : Command) (a : Result Outcome Refusal) → is_accepted m c ≡ false → doubted_by m c a ≡ []
-undoubted m c (Ok o) e = refl
-undoubted m c (Err r) e = ap (λ (b : Bool). if b && is_device r then c ∷ [] else []) e
 
 not_device : (m : Contents) (c : Command) (r : Refusal) → is_device r ≡ false → doubted_by m c (Err r) ≡ []
 not_device m c r e = by_test (is_accepted m c) (is_device r) e

@@ -56,6 +56,12 @@ pub memory_stays : {D : Type 0} (disk : Ghosts D) (mid new : EngineState D) → 
     → new.memory ≡ mid.memory
 memory_stays {D} disk mid new it = ⊎_elim (λ same. ap (λ (e : EngineState D). e.memory) same.same) (λ put. put.memory) it
 
+-- and the count
+pub count_stays : {D : Type 0} (disk : Ghosts D) (mid new : EngineState D) → GoesOn disk mid new [] []
+    → new.count ≡ mid.count
+count_stays {D} disk mid new it = ⊎_elim (λ same. ap (λ (e : EngineState D). e.count) same.same)
+    (λ put. let n = put.count in omega (arith, n)) it
+
 -- the file means the memory after these commands
 pub all_of : {D : Type 0} (mid : EngineState D) (commands : List Command) (m : Contents) (n room : ℕ) (file : List ℕ)
     → m ≡ after mid.memory commands → n ≡ mid.count + length commands → Means m n room file → MeansAll mid commands file

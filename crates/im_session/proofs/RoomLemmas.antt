@@ -10,12 +10,13 @@ use Rattle.im_session.specs.Kept.{SessionState, session_of}
 use Rattle.im_session.specs.Serving.{IsBroken, Rests}
 
 pub rests_none : {D : Type 0} (s : SessionState D) → Rests s s
-rests_none s = record { same = refl; memory = refl }
+rests_none s = record { same = refl; memory = refl; count = refl }
 
 pub rests_then : {D : Type 0} (a b c : SessionState D) → Rests a b → Rests b c → Rests a c
 rests_then {D} a b c first second = record {
   same = second.same ∙ ap (λ (s : SessionState D). session_of s.start s.put s.doubt c.engine) first.same;
   memory = second.memory ∙ first.memory;
+  count = second.count ∙ first.count;
 }
 
 -- a turn that is done leaves it open whether the engine works

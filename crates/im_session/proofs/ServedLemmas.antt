@@ -22,6 +22,16 @@ use Rattle.im_session.specs.Serving.{CommandRefused, CommandServed, Rests, serve
 ok_err : (x : Outcome) (e : Refusal) → ◌≡◌ {A = Result Outcome Refusal} (Ok x) (Err e) → ⊥
 ok_err x e is = cc
 
+-- what is put and in doubt of a command that changes nothing
+pub unsure : (m : Contents) (c : Command) (a : Result Outcome Refusal) → is_accepted m c ≡ false → sure_by m c a ≡ []
+unsure m c (Ok o) e = ap (λ (b : Bool). if b then c ∷ [] else []) e
+unsure m c (Err r) e = refl
+
+pub undoubted : (m : Contents) (c : Command) (a : Result Outcome Refusal) → is_accepted m c ≡ false
+    → doubted_by m c a ≡ []
+undoubted m c (Ok o) e = refl
+undoubted m c (Err r) e = ap (λ (b : Bool). if b && is_device r then c ∷ [] else []) e
+
 -- an answer that is no refusal is the step's
 record Did {D : Type 0} (mid new : EngineState D) (c : Command) (o : Outcome) : Type 0 where
   answer : (step mid.memory c).answer ≡ Ok o

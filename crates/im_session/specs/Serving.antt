@@ -38,10 +38,11 @@ pub record CommandRefused {D : Type 0} (old : SessionState D) (c : Command) (new
       ⊎ ((is_accepted old.engine.memory c ≡ true) × (new.doubt ≡ old.doubt ++ c ∷ []))
   pub memory : new.engine.memory ≡ old.engine.memory
 
--- nothing was put, and the memory stays
+-- nothing was put, and memory and count stay
 pub record Rests {D : Type 0} (old new : SessionState D) : Type 0 where
   pub same : new ≡ session_of old.start old.put old.doubt new.engine
   pub memory : new.engine.memory ≡ old.engine.memory
+  pub count : new.engine.count ≡ old.engine.count
 
 -- a call of the disk failed, or had failed before
 abbrev pub IsBroken : Refusal → Type 0

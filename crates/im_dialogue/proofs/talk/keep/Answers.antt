@@ -1,6 +1,7 @@
 use Rattle.std.proofs.Common.{◌∙◌, ◌∷◌, ap, refl}
 use Rattle.std.specs.Prelude.{Err, Ok, Some}
 use Rattle.im_types.specs.Contents.{Contents}
+use Rattle.im_engine.specs.State.{EngineState}
 use Rattle.im_dialogue.specs.declared.asking.Question.TheVariants as asks
 use Rattle.im_dialogue.specs.declared.answers.LineAnswer.TheVariants as answer
 use Rattle.im_dialogue.specs.Backups.{Backup, bytes_of}
@@ -8,11 +9,13 @@ use Rattle.im_dialogue.proofs.TalkLemmas.{quiet}
 use Rattle.im_dialogue.proofs.talk.keep.Goals as goal
 
 pub returns-in-Ok-clause-answered : goal.returns-in-Ok-clause-answered
-returns-in-Ok-clause-answered g c =
-    let engine = c.args.engine.now in
-    quiet g.D.Disk.now g.D.Disk.past g.D.Disk.honest engine (Some (asks.Backup c.args.name))
+returns-in-Ok-clause-answered g c = quiet c.args.session.now (Some (asks.Backup c.args.name))
     (answer.Backup c.args.name (Ok c.count-count.result)) (λ m. refl)
-    (λ f turns. (Ok c.count-count.result, refl, c.count-count.ensures))
+    (λ f turns. (
+      Ok c.count-count.result,
+      refl,
+      c.count-count.ensures ∙ ap (λ (e : EngineState _). e.count) c.engine.ensures.state,
+    ))
 
 pub returns-in-Ok-clause-kept : goal.returns-in-Ok-clause-kept
 returns-in-Ok-clause-kept g c =
@@ -21,7 +24,5 @@ returns-in-Ok-clause-kept g c =
     c.in-Ok.ensures.kept ∙ ap (λ (m : Contents). made m ∷ g.B.Backups.kept c.args.backups.now) c.memory.ensures
 
 pub returns-in-Err-clause-answered : goal.returns-in-Err-clause-answered
-returns-in-Err-clause-answered g c =
-    let engine = c.args.engine.now in
-    quiet g.D.Disk.now g.D.Disk.past g.D.Disk.honest engine (Some (asks.Backup c.args.name))
+returns-in-Err-clause-answered g c = quiet c.args.session.now (Some (asks.Backup c.args.name))
     (answer.Backup c.args.name (Err c.in-Err.fault)) (λ m. refl) (λ f turns. (Err c.in-Err.fault, refl, tt))

@@ -1,11 +1,16 @@
-use Rattle.std.proofs.Common.{ap, refl}
+use Rattle.std.proofs.Common.{◌∙◌, ap, refl}
 use Rattle.std.specs.Prelude.{Some}
+use Rattle.im_engine.specs.State.{EngineState}
 use Rattle.im_dialogue.specs.declared.asking.Question.TheVariants as asks
 use Rattle.im_dialogue.specs.declared.answers.LineAnswer.TheVariants as answer
 use Rattle.im_dialogue.proofs.TalkLemmas.{quiet}
 use Rattle.im_dialogue.proofs.talk.room.Goals as goal
 
 pub returns-clause-answered : goal.returns-clause-answered
-returns-clause-answered g c = quiet g.D.Disk.now g.D.Disk.past g.D.Disk.honest c.args.engine.now
-    (Some asks.Room) (answer.Room c.room.result) (λ m. refl)
-    (λ f turns. ap (λ r. answer.Room r) c.room.ensures)
+returns-clause-answered g c = quiet c.args.session.now (Some asks.Room) (answer.Room c.room.result) (λ m. refl)
+    (λ f turns. ap (λ r. answer.Room r)
+    (c.room.ensures ∙ ap (λ (e : EngineState _). e.room) c.engine.ensures.state))
+
+pub returns-clause-room : goal.returns-clause-room
+returns-clause-room g c =
+    ap (λ r. answer.Room r) (c.room.ensures ∙ ap (λ (e : EngineState _). e.room) c.engine.ensures.state)

@@ -4,19 +4,17 @@ use Rattle.im_dialogue.proofs.TalkLemmas.{no_device, ok_no_device, serve_halts, 
 use Rattle.im_dialogue.proofs.talk.serve.Goals as goal
 
 pub returns-in-Ok-clause-answered : goal.returns-in-Ok-clause-answered
-returns-in-Ok-clause-answered g c = let e = c.serve.ensures in serve_says g.D.Disk.now g.D.Disk.past g.D.Disk.honest
-    c.args.engine.now c.serve.new.self c.args.command c.serve.result (Ok c.in-Ok.outcome) e.answered e.honest e.leaves
-    e.means c.in-Ok.is (ok_no_device c.in-Ok.outcome c.serve.result c.in-Ok.is) c.requires.spent
+returns-in-Ok-clause-answered g c = serve_says c.args.session.now c.serve.new.self c.args.command c.serve.result
+    c.serve.ensures.answered c.serve.ensures.put (Ok c.in-Ok.outcome) c.in-Ok.is
+    (ok_no_device c.in-Ok.outcome c.serve.result c.in-Ok.is) c.requires.spent
 
 pub returns-then-ends-clause-answered : goal.returns-then-ends-clause-answered
-returns-then-ends-clause-answered g c = let e = c.serve.ensures in serve_halts g.D.Disk.now g.D.Disk.past
-    g.D.Disk.honest c.args.engine.now c.serve.new.self c.args.command c.serve.result e.answered e.honest e.leaves
-    e.doubt
+returns-then-ends-clause-answered g c = serve_halts c.args.session.now c.serve.new.self c.args.command c.serve.result
+    c.serve.ensures.answered c.serve.ensures.put c.in-Err.refusal c.in-Err.is
 
 pub returns-else-ends-clause-answered : goal.returns-else-ends-clause-answered
-returns-else-ends-clause-answered g c = let e = c.serve.ensures in serve_says g.D.Disk.now g.D.Disk.past
-    g.D.Disk.honest c.args.engine.now c.serve.new.self c.args.command c.serve.result (Err c.in-Err.refusal) e.answered
-    e.honest e.leaves e.means c.in-Err.is
+returns-else-ends-clause-answered g c = serve_says c.args.session.now c.serve.new.self c.args.command c.serve.result
+    c.serve.ensures.answered c.serve.ensures.put (Err c.in-Err.refusal) c.in-Err.is
     (no_device c.in-Err.refusal c.ends.result c.ends.ensures c.if-ends.false c.serve.result c.in-Err.is)
     c.requires.spent
 

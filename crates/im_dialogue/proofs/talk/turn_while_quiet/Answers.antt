@@ -1,15 +1,26 @@
-use Rattle.std.proofs.Common.{rules}
-use Rattle.im_dialogue.proofs.TalkLemmas.{goes_after}
+use Rattle.std.proofs.Common.{refl, rules}
+use Rattle.im_session.proofs.RoomLemmas.{rests_then}
+use Rattle.im_dialogue.proofs.TalkLemmas.{taken_more, taken_none}
 use Rattle.im_dialogue.proofs.talk.turn_while_quiet.Goals as goal
 
-pub returns-in-Idle-clause-goes : goal.returns-in-Idle-clause-goes
-returns-in-Idle-clause-goes g c = goes_after g.D.Disk.now g.D.Disk.past g.D.Disk.honest c.args.engine.now
-    c.loop-turn.engine c.take_turn.new.engine c.loop-turn.invariant.0 c.in-Ok.ensures.goes
+pub loop-turn-init : goal.loop-turn-init
+loop-turn-init g c = (taken_none c.args.session.now, (λ enough. refl, (λ ready. refl, (refl, refl))))
+
+pub returns-in-Idle-clause-turned : goal.returns-in-Idle-clause-turned
+returns-in-Idle-clause-turned g c = taken_more c.args.session.now c.loop-turn.session c.turn.new.self c.turn.result
+    c.in-Ok.done c.loop-turn.invariant.0 c.turn.ensures.same c.turn.ensures.answered c.in-Ok.is
+
+pub returns-in-Idle-clause-same : goal.returns-in-Idle-clause-same
+returns-in-Idle-clause-same g c = rests_then c.args.session.now c.loop-turn.session c.turn.new.self
+    c.loop-turn.invariant.0.rests c.turn.ensures.same
+
+pub returns-in-Err-clause-same : goal.returns-in-Err-clause-same
+returns-in-Err-clause-same g c = rests_then c.args.session.now c.loop-turn.session c.turn.new.self
+    c.loop-turn.invariant.0.rests c.turn.ensures.same
 
 pub loop-turn-preserved : goal.loop-turn-preserved
 loop-turn-preserved g c = (
-  goes_after g.D.Disk.now g.D.Disk.past g.D.Disk.honest c.args.engine.now c.loop-turn.engine c.take_turn.new.engine
-      c.loop-turn.invariant.0 c.in-Ok.ensures.goes,
-  (λ h. c.loop-turn.invariant.1 (c.take_turn.ensures.honest h)),
+  taken_more c.args.session.now c.loop-turn.session c.turn.new.self c.turn.result c.in-Ok.done c.loop-turn.invariant.0
+      c.turn.ensures.same c.turn.ensures.answered c.in-Ok.is,
   (search rules, (search rules, (search rules, search rules))),
 )

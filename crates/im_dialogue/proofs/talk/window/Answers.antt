@@ -6,9 +6,10 @@ use Rattle.im_dialogue.proofs.TalkLemmas.{quiet}
 use Rattle.im_dialogue.proofs.talk.window.Goals as goal
 
 pub returns-clause-answered : goal.returns-clause-answered
-returns-clause-answered g c = quiet g.D.Disk.now g.D.Disk.past g.D.Disk.honest c.args.engine.now
-    (Some (asks.Window c.args.element)) (answer.Window c.args.element c.window.result) (λ m. refl)
-    (λ f turns. ap (λ r. answer.Window c.args.element r) (c.window.ensures.answer f))
+returns-clause-answered g c =
+    let told = rw c.engine.ensures.state at c.window.ensures.answer in
+    quiet c.args.session.now (Some (asks.Window c.args.element)) (answer.Window c.args.element c.window.result)
+    (λ m. refl) (λ f turns. ap (λ r. answer.Window c.args.element r) (told f))
 
 pub returns-clause-same : goal.returns-clause-same
 returns-clause-same g c = λ m. refl

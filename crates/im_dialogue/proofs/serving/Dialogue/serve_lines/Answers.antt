@@ -1,11 +1,20 @@
-use Rattle.std.proofs.Common.{◌≡◌, ◌∙◌, subst, ap}
+use Rattle.std.proofs.Common.{◌∙◌, subst, ap, refl}
 use Rattle.std.specs.Prelude.{None}
 use Rattle.im_dialogue.specs.declared.serving.Setting.{Setting}
 use Rattle.im_dialogue.specs.Hearing.{asked_after, questions_left}
 use Rattle.im_dialogue.specs.Talk.{TalkEnds, TalksOn, outputs, with_input, with_left}
 use Rattle.im_dialogue.proofs.HearingLemmas.{left_some, same_left}
-use Rattle.im_dialogue.proofs.TalkLemmas.{end_here, ends_after, on_after, to_left}
+use Rattle.im_dialogue.proofs.TalkLemmas.{end_here, ends_after, goes_talk, nothing_said, on_after, to_left}
 use Rattle.im_dialogue.proofs.serving.Dialogue.serve_lines.Goals as goal
+
+pub loop-served-init : goal.loop-served-init
+loop-served-init g c = (
+  goes_talk c.args.self.now.setting.watch c.args.self.now.session c.args.self.now.session
+      (with_input (g.R.Read.remaining c.args.input.now)
+      (outputs (g.W.Write.contents c.args.out.now) (g.B.Backups.kept c.args.backups.now)))
+      (nothing_said c.args.self.now.session),
+  refl,
+)
 
 pub returns-in-Err-clause-talks : goal.returns-in-Err-clause-talks
 returns-in-Err-clause-talks g c =
@@ -15,11 +24,11 @@ returns-in-Err-clause-talks g c =
     let been = with_input (g.R.Read.remaining c.loop-served.input)
     (outputs (g.W.Write.contents c.loop-served.out) (kept c.loop-served.backups)) in
     let is = outputs (g.W.Write.contents c.serve_rested.new.out) (kept c.serve_rested.new.backups) in
-    ends_after g.D.Disk.now g.D.Disk.past g.D.Disk.honest c.args.self.now.setting.watch c.args.self.now.engine
-    c.loop-served.self.engine
-    c.serve_rested.new.self.engine was been is
-    c.loop-served.invariant.0 (subst (λ (s : Setting). TalkEnds s.watch g.D.Disk.now g.D.Disk.past g.D.Disk.honest
-    c.loop-served.self.engine been c.serve_rested.new.self.engine is)
+    ends_after c.args.self.now.setting.watch c.args.self.now.session
+    c.loop-served.self.session
+    c.serve_rested.new.self.session was been is
+    c.loop-served.invariant.0 (subst (λ (s : Setting). TalkEnds s.watch
+    c.loop-served.self.session been c.serve_rested.new.self.session is)
     c.loop-served.invariant.1 c.in-Err.ensures.talks)
 
 pub loop-served-preserved : goal.loop-served-preserved
@@ -31,14 +40,14 @@ loop-served-preserved g c =
     (outputs (g.W.Write.contents c.loop-served.out) (kept c.loop-served.backups)) in
     let is = outputs (g.W.Write.contents c.serve_rested.new.out) (kept c.serve_rested.new.backups) in
     let later = g.R.Read.remaining c.serve_rested.new.input in (
-      to_left g.D.Disk.now g.D.Disk.past g.D.Disk.honest c.args.self.now.setting.watch c.args.self.now.engine
-          c.serve_rested.new.self.engine was is (asked_after c.in-Ok.many later) (questions_left later)
+      to_left c.args.self.now.setting.watch c.args.self.now.session
+          c.serve_rested.new.self.session was is (asked_after c.in-Ok.many later) (questions_left later)
           (same_left _ _ (left_some c.in-Ok.many later c.if-many-eq0.false))
-          (on_after g.D.Disk.now g.D.Disk.past g.D.Disk.honest c.args.self.now.setting.watch c.args.self.now.engine
-          c.loop-served.self.engine c.serve_rested.new.self.engine was been
+          (on_after c.args.self.now.setting.watch c.args.self.now.session
+          c.loop-served.self.session c.serve_rested.new.self.session was been
           (with_left (asked_after c.in-Ok.many later) is)
-          c.loop-served.invariant.0 (subst (λ (s : Setting). TalksOn s.watch g.D.Disk.now g.D.Disk.past g.D.Disk.honest
-          c.loop-served.self.engine been c.serve_rested.new.self.engine (with_left (asked_after c.in-Ok.many later) is))
+          c.loop-served.invariant.0 (subst (λ (s : Setting). TalksOn s.watch c.loop-served.self.session been
+          c.serve_rested.new.self.session (with_left (asked_after c.in-Ok.many later) is))
           c.loop-served.invariant.1 c.in-Ok.ensures.talks)),
       c.serve_rested.ensures.same ∙ c.loop-served.invariant.1,
     )
@@ -52,21 +61,21 @@ returns-then-many-eq0-clause-talks g c =
     (outputs (g.W.Write.contents c.loop-served.out) (kept c.loop-served.backups)) in
     let is = outputs (g.W.Write.contents c.serve_rested.new.out) (kept c.serve_rested.new.backups) in
     let later = g.R.Read.remaining c.serve_rested.new.input in
-    to_left g.D.Disk.now g.D.Disk.past g.D.Disk.honest c.args.self.now.setting.watch c.args.self.now.engine
-    c.serve_rested.new.self.engine was is (asked_after c.in-Ok.many later) (asked_after 0 later)
+    to_left c.args.self.now.setting.watch c.args.self.now.session
+    c.serve_rested.new.self.session was is (asked_after c.in-Ok.many later) (asked_after 0 later)
     (same_left _ _ (ap (λ n. asked_after n later) c.if-many-eq0.true))
-    (on_after g.D.Disk.now g.D.Disk.past g.D.Disk.honest c.args.self.now.setting.watch c.args.self.now.engine
-    c.loop-served.self.engine c.serve_rested.new.self.engine was been (with_left (asked_after c.in-Ok.many later) is)
-    c.loop-served.invariant.0 (subst (λ (s : Setting). TalksOn s.watch g.D.Disk.now g.D.Disk.past g.D.Disk.honest
-    c.loop-served.self.engine been c.serve_rested.new.self.engine (with_left (asked_after c.in-Ok.many later) is))
+    (on_after c.args.self.now.setting.watch c.args.self.now.session
+    c.loop-served.self.session c.serve_rested.new.self.session was been (with_left (asked_after c.in-Ok.many later) is)
+    c.loop-served.invariant.0 (subst (λ (s : Setting). TalksOn s.watch
+    c.loop-served.self.session been c.serve_rested.new.self.session (with_left (asked_after c.in-Ok.many later) is))
     c.loop-served.invariant.1 c.in-Ok.ensures.talks))
 
 -- no input has so many lines
 pub returns-clause-talks : goal.returns-clause-talks
 returns-clause-talks g c =
     let kept = g.B.Backups.kept in
-    end_here g.D.Disk.now g.D.Disk.past g.D.Disk.honest c.args.self.now.setting.watch c.args.self.now.engine
-    c.loop-served.self.engine
+    end_here c.args.self.now.setting.watch c.args.self.now.session
+    c.loop-served.self.session
     (with_input (g.R.Read.remaining c.args.input.now)
     (outputs (g.W.Write.contents c.args.out.now) (kept c.args.backups.now)))
     (with_input (g.R.Read.remaining c.loop-served.input)

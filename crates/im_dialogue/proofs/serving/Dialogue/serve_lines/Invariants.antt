@@ -3,8 +3,8 @@ use Rattle.im_dialogue.specs.Talk.{TalksOn, outputs, with_input}
 use Rattle.im_dialogue.proofs.serving.Dialogue.serve_lines.Given as goal
 
 abbrev pub invariant-loop-served : goal.invariant-loop-served
-invariant-loop-served g l = TalksOn l.fn.self.setting.watch g.D.Disk.now g.D.Disk.past g.D.Disk.honest l.fn.self.engine
+invariant-loop-served g l = TalksOn l.fn.self.setting.watch l.fn.self.session
     (with_input (g.R.Read.remaining l.fn.input)
-    (outputs (g.W.Write.contents l.fn.out) (g.B.Backups.kept l.fn.backups))) l.self.engine
+    (outputs (g.W.Write.contents l.fn.out) (g.B.Backups.kept l.fn.backups))) l.self.session
     (with_input (g.R.Read.remaining l.input) (outputs (g.W.Write.contents l.out) (g.B.Backups.kept l.backups)))
     × (l.self.setting ≡ l.fn.self.setting)
