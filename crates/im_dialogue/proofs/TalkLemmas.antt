@@ -236,8 +236,11 @@ module _ (m : Contents) (p : Point) (xs : List Exchange) (q : Point) (us : List 
   turns_before : (ys : List Exchange)
       → (more : List TurnDone) × TurnsLead more (stands_behind m p (ys ++ xs)) (stands_behind here q ys)
   turns_before [] = (us, lead)
-  turns_before (y ∷ ys) = ([], ap (λ (k : Contents). point_behind (length (put_by k y.answer)) y.here)
-      (sym (behind_append m ys xs)))
+  turns_before (y ∷ ys) = (
+    [],
+    ap (λ (k : Contents). point_behind (length (put_by k y.answer)) y.here)
+        (sym (behind_append m ys xs)),
+  )
 
   answered_append : (ys : List Exchange) → AreAnswered here q ys → AreAnswered m p xs → AreAnswered m p (ys ++ xs)
   answered_append [] it base = base
@@ -529,18 +532,18 @@ module _ {D : Type 0} (watch : Bool) where
 
   -- what was said, and then more
   module _ (old mid : SessionState D) (was been : Outputs) (a : Talking watch old was mid been) (ys : List Exchange)
-      where
-    all_texts : texts_of watch old.engine.memory a.said ++ texts_of watch mid.engine.memory ys
-        ≡ texts_of watch old.engine.memory (ys ++ a.said)
-    all_texts = ap (λ (k : Contents). texts_of watch old.engine.memory a.said ++ texts_of watch k ys) a.done.memory
-        ∙ sym (texts_append watch old.engine.memory ys a.said)
+    where
+      all_texts : texts_of watch old.engine.memory a.said ++ texts_of watch mid.engine.memory ys
+          ≡ texts_of watch old.engine.memory (ys ++ a.said)
+      all_texts = ap (λ (k : Contents). texts_of watch old.engine.memory a.said ++ texts_of watch k ys) a.done.memory
+          ∙ sym (texts_append watch old.engine.memory ys a.said)
 
-    all_kept : (is : Outputs) → AreKept mid.engine.memory been is ys → AreKept old.engine.memory was is (ys ++ a.said)
-    all_kept is kept = kept
-        ∙ ap₂ (λ (k : Contents) (l : List Backup). backups_of k ys ++ l) a.done.memory a.backups
-        ∙ sym (append_assoc (backups_of (after old.engine.memory (put_of old.engine.memory a.said)) ys)
-        (backups_of old.engine.memory a.said) was.backups)
-        ∙ ap (λ (l : List Backup). l ++ was.backups) (sym (backups_append old.engine.memory ys a.said))
+      all_kept : (is : Outputs) → AreKept mid.engine.memory been is ys → AreKept old.engine.memory was is (ys ++ a.said)
+      all_kept is kept = kept
+          ∙ ap₂ (λ (k : Contents) (l : List Backup). backups_of k ys ++ l) a.done.memory a.backups
+          ∙ sym (append_assoc (backups_of (after old.engine.memory (put_of old.engine.memory a.said)) ys)
+          (backups_of old.engine.memory a.said) was.backups)
+          ∙ ap (λ (l : List Backup). l ++ was.backups) (sym (backups_append old.engine.memory ys a.said))
 
   -- what was said, and then what the last call comes to
   pub then_talks : {T E : Type 0} (old mid new : SessionState D) (was been : Outputs) (is : T → Outputs) (end : Outputs)
