@@ -10,6 +10,8 @@ mod memory;
 mod naming;
 mod parts;
 mod plain;
+#[cfg(test)]
+mod programs;
 mod serving;
 mod sizes;
 mod stepping;
