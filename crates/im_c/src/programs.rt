@@ -81,9 +81,13 @@ impl Program {
             length: 0,
         };
         lt_held_step_at(held, index, &mut shown, &mut step);
-        let behind = self.file.get_mut(step.place as usize..)?;
-        let place = behind.get_mut(..step.length as usize)?;
-        let refusal = lt_held_step_bytes(shown, index, &mut copied, place);
+        let from = step.place as usize;
+        let end = from.checked_add(step.length as usize)?;
+        if self.file.len() < end {
+            return None;
+        }
+        let file = self.file.as_mut_slice();
+        let refusal = lt_held_step_bytes(shown, index, &mut copied, &mut file[from..end]);
         match (step.kind, refusal) {
             (1, 0) | (2, 255) => Some(copied),
             _ => None,
