@@ -240,11 +240,6 @@ MeansAfter s commands many file = Means (after s.memory (take many commands)) (s
 abbrev pub MeansBeginning : {D : Type 0} → EngineState D → List Command → List ℕ → Type 0
 MeansBeginning s commands file = (many : ℕ) × (many ≤ length commands) × MeansAfter s commands many file
 
--- the file means what the engine is after all these commands, or after all but the last one, if that is in doubt
-abbrev pub MeansAllOrInDoubt : {D : Type 0} → Type 0 → EngineState D → List Command → List ℕ → Type 0
-MeansAllOrInDoubt doubt s commands file =
-    (many : ℕ) × ((many ≡ length commands) ⊎ (doubt × (length commands ≡ many + 1))) × MeansAfter s commands many file
-
 -- ---- failures
 
 -- the answer says that a call of the disk failed
