@@ -191,7 +191,7 @@ class Machine(Line):
 
 
 class Mounter(Line):
-    """A user-mode Linux that mounts states of a disk. What a mount writes is taken back."""
+    """A user-mode Linux that mounts states of a disk. What a mount writes is taken back. Into it scripts/power/registers.c is preloaded."""
 
     def __init__(self, room, program, preloaded, size):
         super().__init__()
