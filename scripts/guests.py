@@ -191,11 +191,11 @@ class Machine(Line):
 
 
 class Mounter(Line):
-    """A user-mode Linux that mounts states of a disk. What a mount writes is taken back."""
+    """A user-mode Linux that mounts states of a disk. What a mount writes is taken back. Into it scripts/power/registers.c is preloaded."""
 
-    def __init__(self, room, program, size):
+    def __init__(self, room, program, preloaded, size):
         super().__init__()
-        self.room, self.program, self.size = room, program, size
+        self.room, self.program, self.preloaded, self.size = room, program, preloaded, size
         self.folder = Path(tempfile.mkdtemp(prefix="power-", dir="/dev/shm"))
         self.files = [open(self.folder / name, "w+b") for name in ("state", "kept")]
         for file in self.files:
@@ -210,8 +210,8 @@ class Mounter(Line):
         words = [self.program, "mem=256M", f"initrd={self.room}/first.uml", f"ubd0={self.folder}/state", "con=null", "con0=null", "ssl=null"]
         words += ["ssl0=fd:0,fd:1", f"uml={self.folder}", "quiet"]
         with open(self.room / "uml.err", "a") as errors:
-            streams = {"stdin": subprocess.PIPE, "stdout": subprocess.PIPE, "stderr": errors}
-            self.process = subprocess.Popen(list(map(str, words)), start_new_session=True, preexec_fn=ends_with_us, **streams)
+            more = {"stdin": subprocess.PIPE, "stdout": subprocess.PIPE, "stderr": errors, "env": {**os.environ, "LD_PRELOAD": str(self.preloaded)}}
+            self.process = subprocess.Popen(list(map(str, words)), start_new_session=True, preexec_fn=ends_with_us, **more)
         self.heard = b""
         self.wait(120)
 
