@@ -4,7 +4,7 @@
 %% voted for, so it must not go on as the same member: without its name it is refused. It is removed by another member,
 %% gets a new name, and is added; the log's leader sends it an image and what follows.
 -module(imem_members).
--export([start/1, start_system/1, clean/1, join/2, leave/1, id/2, leader/1, elect/1, snapshot/4]).
+-export([start/1, clean/1, join/2, leave/1, id/2, leader/1, elect/1, snapshot/4]).
 -export([make/1, remove/3, add/3, listed/1, ask/1]).
 -export_type([id/0]).
 
@@ -19,23 +19,21 @@ id(K, Node) -> {list_to_atom("imem_log_" ++ integer_to_list(K)), Node}.
 
 %% ---- In the server
 
-%% Starts Ra, if a module is on this node and on others.
--spec start(imem_config:config()) -> ok.
-start(Config) ->
-    case [K || K <- imem_config:own(Config), imem_config:is_replicated(K, Config)] of
-        [] -> ok;
-        _ -> start_system(map_get(log, Config))
-    end.
+%% Starts Ra, if it isn't there. Where the log's disk failed or was full it has ended.
+-spec start(imem_config:config()) -> ok | {error, term()}.
+start(#{log := Folder}) ->
+    #{server_sup := Top} = Names = ra_system:derive_names(?SYSTEM),
+    Start = fun() -> case whereis(Top) of undefined -> started(Folder, Names); _ -> ok end end,
+    global:trans({?MODULE, self()}, Start, [node()]).
 
--spec start_system(file:filename()) -> ok.
-start_system(Folder) ->
-    ok = clean(Folder),
-    {ok, _} = application:ensure_all_started(ra),
-    System = (ra_system:default_config())#{name => ?SYSTEM, names => ra_system:derive_names(?SYSTEM),
-        data_dir => Folder, wal_data_dir => Folder, wal_max_size_bytes => ?WAL},
-    case ra_system:start(System) of
-        {ok, _} -> ok;
-        {error, {already_started, _}} -> ok
+started(Folder, Names) ->
+    try
+        ok = clean(Folder),
+        {ok, _} = application:ensure_all_started(ra),
+        {ok, _} = ra_system:start((ra_system:default_config())#{name => ?SYSTEM, names => Names,
+            data_dir => Folder, wal_data_dir => Folder, wal_max_size_bytes => ?WAL}),
+        ok
+    catch _:Why -> {error, Why}
     end.
 
 %% A node that ended as Ra made these files leaves them empty, and none would start with them. Nothing was in them: what
@@ -52,8 +50,8 @@ clean(Folder) ->
 join(K, #{modules := Modules} = Config) ->
     #{K := #{nodes := Nodes, snapshot_every := Every}} = Modules,
     Id = id(K, node()),
-    case name(Config) of
-        {ok, Name} ->
+    case {name(Config), start(Config)} of
+        {{ok, Name}, ok} ->
             _ = leave(K),
             Uid = <<"m", (integer_to_binary(K))/binary, "_", Name/binary>>,
             Machine = {module, imem_machine, #{replica => imem_module:name(K)}},
@@ -64,7 +62,8 @@ join(K, #{modules := Modules} = Config) ->
                 ok -> ok;
                 {error, _} -> ra:start_server(?SYSTEM, Member)
             end;
-        {error, Why} -> {error, {no_name, Why}}
+        {{error, Why}, _} -> {error, {no_name, Why}};
+        {_, {error, Why}} -> {error, {no_log, Why}}
     end.
 
 -spec leave(non_neg_integer()) -> ok | {error, term()}.

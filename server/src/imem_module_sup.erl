@@ -10,7 +10,6 @@ start_link(Config) -> supervisor:start_link({local, ?MODULE}, ?MODULE, Config).
 %% A program that is killed is started again at once, however often; one that ends by itself pauses first (imem_module).
 -spec init(imem_config:config()) -> {ok, {supervisor:sup_flags(), [supervisor:child_spec()]}}.
 init(Config) ->
-    ok = imem_members:start(Config),
     Children = [child(K, Config) || K <- imem_config:own(Config)],
     {ok, {#{strategy => one_for_one, intensity => 100, period => 5}, Children}}.
 
