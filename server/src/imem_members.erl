@@ -85,22 +85,27 @@ snapshot(K, Index, Packed, Origins) ->
 
 file_of_name(#{log := Folder}) -> filename:join(Folder, "member").
 
+%% A host that ended as the name was written has none.
 name(Config) ->
     case file:read_file(file_of_name(Config)) of
-        {ok, Text} -> {ok, string:trim(Text)};
+        {ok, <<Name:16/binary, "\n">>} -> {ok, Name};
+        {ok, _} -> {error, no_whole_name};
         {error, Why} -> {error, Why}
     end.
 
 %% Writes this node's name, if there is none.
 -spec make(imem_config:config()) -> ok | {error, term()}.
 make(Config) ->
-    Name = binary:encode_hex(crypto:strong_rand_bytes(8)),
-    case file:open(file_of_name(Config), [write, exclusive, raw]) of
-        {ok, File} ->
-            ok = file:write(File, [Name, $\n]),
-            ok = file:sync(File),
-            file:close(File);
-        {error, Why} -> {error, Why}
+    case name(Config) of
+        {ok, _} -> {error, eexist};
+        {error, _} ->
+            case file:open(file_of_name(Config), [write, raw]) of
+                {ok, File} ->
+                    ok = file:write(File, [binary:encode_hex(crypto:strong_rand_bytes(8)), $\n]),
+                    ok = file:sync(File),
+                    file:close(File);
+                {error, Why} -> {error, Why}
+            end
     end.
 
 %% Lets the others of a module go on without a node, or with it.

@@ -13,7 +13,9 @@ a_name_is_written_once_test() ->
     {ok, Name} = file:read_file(filename:join(Folder, "member")),
     ?assertEqual(17, byte_size(Name)),
     ?assertEqual({error, eexist}, imem_members:make(#{log => Folder})),
-    ?assertEqual({ok, Name}, file:read_file(filename:join(Folder, "member"))).
+    ?assertEqual({ok, Name}, file:read_file(filename:join(Folder, "member"))),
+    ok = file:write_file(filename:join(Folder, "member"), <<>>),        % As a power cut may leave it.
+    ok = imem_members:make(#{log => Folder}).
 
 empty_files_of_a_kill_are_removed_and_others_kept_test() ->
     Folder = folder(),
