@@ -48,26 +48,31 @@ clean(Folder) ->
 %% a while; under the same name it finds its log, and what it voted for.
 -spec join(non_neg_integer(), imem_config:config()) -> ok | {error, term()}.
 join(K, #{modules := Modules} = Config) ->
-    #{K := #{nodes := Nodes, snapshot_every := Every}} = Modules,
+    #{K := #{nodes := Nodes}} = Modules,
     Id = id(K, node()),
     case {name(Config), start(Config)} of
         {{ok, Name}, ok} ->
             _ = leave(K),
             Uid = <<"m", (integer_to_binary(K))/binary, "_", Name/binary>>,
             Machine = {module, imem_machine, #{replica => imem_module:name(K)}},
-            Log = #{uid => Uid, snapshot_interval => max(1, Every div 2)},
             Member = #{id => Id, uid => Uid, cluster_name => imem_module:name(K), machine => Machine,
-                initial_members => [id(K, Node) || Node <- Nodes], log_init_args => Log},
-            case ra:restart_server(?SYSTEM, Id) of
+                initial_members => [id(K, Node) || Node <- Nodes], log_init_args => #{uid => Uid, snapshot_interval => 1}},
+            case tried(fun() -> ra:restart_server(?SYSTEM, Id) end) of
                 ok -> ok;
-                {error, _} -> ra:start_server(?SYSTEM, Member)
+                {error, _} -> tried(fun() -> ra:start_server(?SYSTEM, Member) end)
             end;
         {{error, Why}, _} -> {error, {no_name, Why}};
         {_, {error, Why}} -> {error, {no_log, Why}}
     end.
 
 -spec leave(non_neg_integer()) -> ok | {error, term()}.
-leave(K) -> ra:stop_server(?SYSTEM, id(K, node())).
+leave(K) -> tried(fun() -> ra:stop_server(?SYSTEM, id(K, node())) end).
+
+%% Where Ra has ended, as when its disk is full, some of its calls fail otherwise than they say.
+tried(Call) ->
+    try Call()
+    catch _:Why -> {error, Why}
+    end.
 
 %% Who leads, as far as this node knows.
 -spec leader(non_neg_integer()) -> id() | undefined.

@@ -114,8 +114,9 @@ handle_info({copied, Query, Answer}, S = #state{number = K, config = Config}) ->
 handle_info({'DOWN', _, process, Server, Why}, S = #state{server = Server}) -> {stop, {server_ended, Why}, S};
 handle_info({'DOWN', _, process, From, _}, S = #state{askers = Askers}) ->
     {noreply, S#state{askers = imem_askers:forget(From, Askers)}};
-handle_info(tick, S) ->
+handle_info(tick, S = #state{number = K, server = Server}) ->
     _ = erlang:send_after(?TICK + rand:uniform(?TICK), self(), tick),
+    _ = Server =/= undefined andalso imem_members:leader(K) =:= undefined andalso imem_members:elect(K),
     {noreply, looked_after(S)};
 handle_info(_, S) -> {noreply, S}.
 
@@ -353,10 +354,8 @@ written(From, To) ->
 
 %% ---- The end
 
-%% A program that hangs is killed. A module that nobody leads gets a leader.
 looked_after(S = #state{pipe = undefined}) -> S;
 looked_after(S = #state{number = K, config = #{answers_within := Within}, pipe = Pipe}) ->
-    _ = imem_members:leader(K) =:= undefined andalso imem_members:elect(K),
     case imem_pipe:look_after(Within, Pipe) of
         {killed, Pid, After} ->
             ?LOG_ERROR(#{what => "a program doesn't answer and is killed", module => K, pid => Pid}, ?DOMAIN),

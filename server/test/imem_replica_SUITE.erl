@@ -100,8 +100,10 @@ call(At, Module, Function, Arguments) -> peer:call(get({peer, At}), Module, Func
 
 kill(At) ->
     Peer = erase({peer, At}),
-    Pid = peer:call(Peer, os, getpid, []),
-    _ = os:cmd("kill -KILL " ++ Pid),
+    case catch peer:call(Peer, os, getpid, []) of
+        [_ | _] = Pid -> os:cmd("kill -KILL " ++ Pid);
+        _ -> ended
+    end,
     _ = catch peer:stop(Peer),
     _ = os:cmd("pkill -KILL -f 'serve " ++ of_node(At, "memory") ++ "'"),
     ok.
@@ -115,6 +117,13 @@ status(At) ->
     end.
 
 is_open(At) -> until(fun() -> map_get(phase, status(At)) =:= open end).
+
+%% A node that has nothing else to do ends.
+is_over(At) ->
+    case catch call(At, imem_module_sup, is_over, [0]) of
+        false -> false;
+        _ -> true
+    end.
 
 leader() ->
     until(fun() -> lists:any(fun(At) -> map_get(leads, status(At)) end, [0, 1, 2]) end),
@@ -287,7 +296,7 @@ a_node_that_lost_its_disk_is_refused_and_replaced(_) ->
     ok = file:del_dir_r(of_node(Lost, "log")),
     ok = file:make_dir(of_node(Lost, "log")),
     start(Lost),
-    until(fun() -> call(Lost, imem_module_sup, is_over, [0]) end),
+    until(fun() -> is_over(Lost) end),
     count(One, "1", 0, 5),
     {ok, Config} = imem_config:checked(environment(0, [])),
     ok = call(0, imem_members, remove, [0, node_of(Lost), Config]),
@@ -350,7 +359,7 @@ other_sizes_are_refused(_) ->
     One = begun(),
     kill(2),
     start(2, [{module, #{sizes => ["--cells", "128"]}}]),
-    until(fun() -> call(2, imem_module_sup, is_over, [0]) end),
+    until(fun() -> is_over(2) end),
     count(One, "1", 0, 3).
 
 a_backup_is_of_one_member(_) ->
