@@ -29,7 +29,7 @@ all() -> [
     elements_count_exactly
 ].
 
-suite() -> [{timetrap, {seconds, 90}}].
+suite() -> [{timetrap, {seconds, 150}}].
 
 init_per_suite(Config) ->
     case code:which(ra) of
