@@ -10,7 +10,12 @@ begun() -> begun(#{}).
 
 begun(Origins) ->
     _ = catch imem_counts:new(),
-    _ = catch register(element(1, imem_members:id(?K, node())), self()),
+    {Name, _} = imem_members:id(?K, node()),
+    case process_info(self(), registered_name) of
+        {_, Before} -> true = unregister(Before);
+        [] -> ok
+    end,
+    true = register(Name, self()),
     _ = sent(),
     imem_commands:new(?K, {Origins, [node()]}).
 
@@ -28,7 +33,12 @@ start() ->
 
 keys(Queries) -> [Key || #query{key = Key} <- Queries].
 
-again(C) -> receive {timeout, Timer, again} -> imem_commands:again(Timer, C) after 5000 -> error(no_timer) end.
+%% Timers of tests before this one change nothing.
+again(C) ->
+    receive {timeout, Timer, again} ->
+        case imem_commands:again(Timer, C) of {is_heard, C} -> again(C); Other -> Other end
+    after 5000 -> error(no_timer)
+    end.
 
 a_command_is_kept_until_it_is_seen_test() ->
     One = asked(a, begun()),

@@ -8,8 +8,12 @@ new() -> imem_machine:init(#{replica => self_name()}).
 
 %% The test stands for the replica.
 self_name() ->
-    _ = catch register(?MODULE, self()),
-    ?MODULE.
+    case process_info(self(), registered_name) of
+        {_, Name} -> Name;
+        [] ->
+            true = register(?MODULE, self()),
+            ?MODULE
+    end.
 
 applied(Commands) -> applied(Commands, new()).
 
