@@ -89,6 +89,7 @@ class Cluster:
         self.clients = [f"c{it}@127.0.66.{20 + it}" for it in range(CLIENTS)]
         self.images = [self.folder / f"module-{it}.img" for it in range(run.modules)]
         self.done, self.kills, self.frozen, self.freezes = {}, Counter(), {}, 0
+        self.trial = None
 
     def seats(self, element):
         """Returns the nodes on which an element runs."""
@@ -241,7 +242,8 @@ class Cluster:
             time.sleep(0.1)
         for pid in pids_of(self.ebin):
             os.kill(pid, signal.SIGKILL)
-        self.trial.wait(10)
+        if self.trial:
+            self.trial.wait(10)
 
     def faults(self):
         """Yields what is wrong in the images."""

@@ -62,9 +62,9 @@ def atom(text):
     return Term(f"'{text}'")
 
 
-def config(log=None, **given):
-    """Returns the text of a `sys.config`: what the server is given, and where it logs."""
-    to = f'file => "{log}"' if log else "type => standard_error"
+def config(logs_to=None, **given):
+    """Returns the text of a `sys.config`: what the server is given, and the file to which it logs."""
+    to = f'file => "{logs_to}"' if logs_to else "type => standard_error"
     formatter = "{logger_formatter, #{single_line => true}}"
     handler = f"{{handler, default, logger_std_h, #{{config => #{{{to}}}, filters => [], filter_default => log, formatter => {formatter}}}}}"
     kept = ",\n   ".join(f"{{{key}, {term(value)}}}" for key, value in given.items())
