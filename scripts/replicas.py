@@ -28,7 +28,7 @@ KINDS = [
     *["leader's node", "a follower's node", "a program", "a program's freeze", "a node's freeze", "all nodes"],
     *["an element's node", "parted from all", "parted from the members", "deaf", "mute", "two parted", "halves", "full", "lost"],
 ]
-WEIGHTS = [5, 5, 6, 3, 5, 1, 2, 3, 3, 3, 3, 3, 2, 2, 1]
+WEIGHTS = [5, 5, 6, 3, 5, 1, 2, 3, 3, 3, 3, 3, 2, 2, 2]
 
 
 def inside(script, words):
@@ -40,7 +40,7 @@ def inside(script, words):
 class Replicas(Cluster):
     """The nodes of a run. Each host has each module, and a disk of its own."""
 
-    PAUSE = 0.1, 2.5
+    PAUSE = 0.1, 1.5
 
     def __init__(self, run, imem, folder, seconds, members):
         super().__init__(run, imem, folder, seconds)
