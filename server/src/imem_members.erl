@@ -12,6 +12,7 @@
 
 -define(SYSTEM, imem).
 -define(WAL, 33554432).     % bytes of a file of the log: a start reads those that are left
+-define(ROOM, 67108864).    % bytes that a log's disk has to have when a member starts
 -define(WITHIN, 10000).
 
 -spec id(non_neg_integer(), node()) -> id().
@@ -19,7 +20,7 @@ id(K, Node) -> {list_to_atom("imem_log_" ++ integer_to_list(K)), Node}.
 
 %% ---- In the server
 
-%% Starts Ra, if it isn't there. Where the log's disk failed or was full it has ended.
+%% Starts Ra, if it isn't there.
 -spec start(imem_config:config()) -> ok | {error, term()}.
 start(#{log := Folder}) ->
     #{server_sup := Top} = Names = ra_system:derive_names(?SYSTEM),
@@ -29,11 +30,43 @@ start(#{log := Folder}) ->
 started(Folder, Names) ->
     try
         ok = clean(Folder),
+        ok = room(Folder),
         {ok, _} = application:ensure_all_started(ra),
         {ok, _} = ra_system:start((ra_system:default_config())#{name => ?SYSTEM, names => Names,
             data_dir => Folder, wal_data_dir => Folder, wal_max_size_bytes => ?WAL}),
-        ok
+        watched(Names)
     catch _:Why -> {error, Why}
+    end.
+
+%% Where a write of the log fails, as on a full disk, Ra goes on with what it has in memory and never wrote: the log on the
+%% disk has a hole then. So the node ends at once, and starts from what is on the disk, once there is room.
+watched(#{wal := Name}) ->
+    Pid = whereis(Name),
+    _ = spawn(fun() ->
+        _ = process_flag(priority, max),
+        Monitor = monitor(process, Pid),
+        receive
+            {'DOWN', Monitor, _, _, Why} when Why =:= shutdown; Why =:= normal -> ok;
+            {'DOWN', Monitor, _, _, Why} -> ends(Why)
+        end
+    end),
+    ok.
+
+-spec ends(term()) -> no_return().
+ends(Why) ->
+    io:format(standard_error, "imem-server: the log failed: ~0tp~n", [Why]),
+    halt(1, [{flush, false}]).
+
+%% Whether the disk takes some files of the log.
+room(Folder) ->
+    Path = filename:join(Folder, "room"),
+    {ok, File} = file:open(Path, [write, raw]),
+    Found = file:allocate(File, 0, ?ROOM),
+    _ = file:close(File),
+    _ = file:delete(Path),
+    case Found of
+        {error, enospc} -> {error, enospc};
+        _ -> ok     % Some file systems don't tell.
     end.
 
 %% A node that ended as Ra made these files leaves them empty, and none would start with them. Nothing was in them: what
