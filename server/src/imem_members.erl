@@ -52,9 +52,10 @@ watched(#{wal := Name}) ->
     end),
     ok.
 
+%% What is said waits for nobody.
 -spec ends(term()) -> no_return().
 ends(Why) ->
-    io:format(standard_error, "imem-server: the log failed: ~0tp~n", [Why]),
+    _ = erlang:display({the_log_failed, Why}),
     halt(1, [{flush, false}]).
 
 %% Whether the disk takes some files of the log.
