@@ -156,7 +156,7 @@ class Cluster:
 
     def start(self):
         self.write()
-        env = {**os.environ, "HEART_NO_KILL": "TRUE", "HOME": str(self.folder)}
+        env = {**os.environ, "HOME": str(self.folder)}
         guarded = [str(self.file), str(int(self.until))]
         trial = [*self.words(TRIAL), "-noshell", "-s", "imem_trial", "hear", *guarded]
         self.trial = subprocess.Popen(trial, env=env, cwd=self.folder, stdout=subprocess.PIPE, text=True)
@@ -168,9 +168,14 @@ class Cluster:
             start = self.folder / f"{node}.sh"
             start.write_text("#!/bin/sh\nexec " + " ".join(f"'{it}'" for it in words) + "\n")
             start.chmod(0o755)
-            starts.append(subprocess.Popen([start], env={**env, **self.environment(node), "HEART_COMMAND": str(start)}, cwd=self.folder))
+            starts.append(self.start_node(node))
         for it in starts:
             it.wait(60)
+
+    def start_node(self, node):
+        start = str(self.folder / f"{node}.sh")
+        env = {**os.environ, "HEART_NO_KILL": "TRUE", "HOME": str(self.folder), "HEART_COMMAND": start}
+        return subprocess.Popen([start], env={**env, **self.environment(node)}, cwd=self.folder)
 
     def environment(self, _node):
         """Returns the environment of a node beside its home."""

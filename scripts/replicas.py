@@ -216,8 +216,8 @@ class Replicas(Cluster):
             self.unlike.append(f"{host}: a host that lost its disk wasn't refused")
         for words in (("remove", host), ("make",), ("add", host)):
             self.by_hand(host, words)
-        while not self.killed(self.node_of(host)) and time.time() < end + 60:
-            time.sleep(0.2)
+        if not self.killed(self.node_of(host)):  # It has ended, as it had nothing else to do.
+            self.start_node(host).wait(60)
         return True
 
     def by_hand(self, host, words):

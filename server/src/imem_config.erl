@@ -61,7 +61,7 @@
 checked(Environment) ->
     try
         Given = maps:from_list([It || {Key, _} = It <- Environment, Key =/= included_applications]),
-        {ok, with_listeners(with_log(taken(Given, "imem_server", [
+        {ok, with_log(with_listeners(taken(Given, "imem_server", [
             {imem, "/usr/bin/imem", fun program/2},
             {log, none, fun folder/2},
             {memory, "/dev/shm", fun folder/2},

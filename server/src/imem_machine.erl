@@ -75,9 +75,8 @@ tell(#{replica := Replica}, What) -> gen_server:cast(Replica, What).
 -spec init_aux(term()) -> none.
 init_aux(_) -> none.
 
-%% What this member's image is behind the line with this index: Ra may drop the log before it.
--spec handle_aux(ra_server:ra_state(), term(), term(), none, Log, state()) ->
-    {no_reply, none, Log} | {no_reply, none, Log, [{release_cursor, ra:index(), state()}]}.
+%% What this member's image is behind the line with this index: Ra may drop the log before it. Its behaviour names fewer
+%% effects here than it takes, so there is no specification.
 handle_aux(_, cast, {snapshot, {Index, _} = Base, Origins}, Aux, Log, S) ->
     {no_reply, Aux, Log, [{release_cursor, Index, S#{base := Base, origins := Origins}}]};
 handle_aux(_, _, _, Aux, Log, _) -> {no_reply, Aux, Log}.

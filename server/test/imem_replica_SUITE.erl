@@ -82,6 +82,7 @@ start(At, More) ->
     {ok, Peer, _} = peer:start(#{name => "r" ++ integer_to_list(At), host => Address, longnames => true,
         connection => standard_io, args => Words, wait_boot => 30000}),
     put({peer, At}, Peer),
+    put({pid, At}, call(At, os, getpid, [])),
     _ = call(At, application, load, [imem_server]),
     [ok = call(At, application, set_env, [imem_server, Key, Value]) || {Key, Value} <- environment(At, More)],
     {ok, _} = call(At, application, ensure_all_started, [imem_server]),
@@ -100,10 +101,9 @@ call(At, Module, Function, Arguments) -> peer:call(get({peer, At}), Module, Func
 
 kill(At) ->
     Peer = erase({peer, At}),
-    case catch peer:call(Peer, os, getpid, []) of
-        [_ | _] = Pid -> os:cmd("kill -KILL " ++ Pid);
-        _ -> ended
-    end,
+    Pid = erase({pid, At}),
+    _ = os:cmd("kill -KILL " ++ Pid),
+    until(fun() -> not filelib:is_dir("/proc/" ++ Pid) end),
     _ = catch peer:stop(Peer),
     _ = os:cmd("pkill -KILL -f 'serve " ++ of_node(At, "memory") ++ "'"),
     ok.
@@ -280,13 +280,12 @@ a_member_that_is_sent_a_snapshot_as_it_runs_starts_again(_) ->
     are_alike(),
     ?assertNotEqual(Before, call(Away, erlang, whereis, [imem_module_0])).
 
-%% Nodes that have another cookie for one another don't connect.
+%% A node that has another cookie for others doesn't connect to them.
 parted(At, Cookie) ->
-    Others = [It || It <- [0, 1, 2], It =/= At],
     [begin
-        true = call(One, erlang, set_cookie, [node_of(Two), Cookie]),
-        _ = Cookie =:= imem orelse call(One, erlang, disconnect_node, [node_of(Two)])
-    end || It <- Others, {One, Two} <- [{At, It}, {It, At}]].
+        true = call(At, erlang, set_cookie, [node_of(It), Cookie]),
+        _ = Cookie =:= imem orelse call(At, erlang, disconnect_node, [node_of(It)])
+    end || It <- [0, 1, 2], It =/= At].
 
 a_node_that_lost_its_disk_is_refused_and_replaced(_) ->
     start_all(),
