@@ -12,3 +12,6 @@
     number = none :: non_neg_integer() | none,
     text :: binary()
 }).
+
+%% A line in a queue or in a pipe, and whose it is. Of a check, `key` is the answer that there has to be.
+-record(query, {from :: pid() | check, key :: imem_module:key(), asked :: imem_lines:asked()}).

@@ -3,7 +3,7 @@
 %% It holds as many lines as its listener allows, and hears no more until some are answered; nor while its client
 %% doesn't read, nor faster than so many bytes a second. A client that doesn't read for too long is let go. If the
 %% module is away, what isn't answered is asked again once it is back, and what waits is looked at: its client doesn't
-%% notice.
+%% notice. Of a module on several nodes it asks one member, and another one if that ends, or answers nothing for a while.
 -module(imem_client).
 -behaviour(gen_server).
 -export([start_link/2, go/2]).
@@ -16,6 +16,8 @@
 -type socket() :: {gen_tcp, gen_tcp:socket()} | {ssl, ssl:sslsocket()}.
 
 -define(HANDSHAKE, 5000).
+-define(SILENCE, 2000).         % milliseconds in which a member has to answer something; twice as many each time
+-define(MOST_SILENCE, 16000).
 
 %% A line that was heard: asked, with its answer to come, or answered here already.
 -type line() :: {Number :: pos_integer(), imem_lines:asked() | {told, iodata()}}.
@@ -34,6 +36,9 @@
     waits = #{} :: #{{imem_lines:element(), non_neg_integer()} => []},
     monitor :: reference() | undefined,             % of the module, if it is there
     away = 0 :: non_neg_integer(),                  % how often it wasn't, since it was there
+    turn = 0 :: non_neg_integer(),                  % which member is asked
+    asked_at = 0 :: integer(),                      % when it was asked, or answered, last
+    silence = ?SILENCE :: pos_integer(),
     room = 0 :: integer(),                          % bytes that may be heard until the next second
     second = 0 :: integer()
 }).
@@ -64,6 +69,7 @@ handle_continue(begin_with, S = #state{socket = Given, listener = Listener}) ->
             imem_counts:add({clients, Role}),
             Rights = #{role => Role, elements => own(Elements, Socket)},
             Begun = S#state{socket = Socket, rights = Rights, room = Bytes, second = now_ms()},
+            _ = is_replicated(S) andalso erlang:send_after(?SILENCE, self(), listen),
             {noreply, hearing(watching(Begun))};
         {error, Why} ->
             ?LOG_NOTICE(#{what => "a client isn't let in", why => Why}, ?DOMAIN),
@@ -104,11 +110,14 @@ handle_info({Tag, Raw}, S = #state{socket = {_, Raw}}) when Tag =:= tcp_closed; 
 handle_info({Tag, Raw, _}, S = #state{socket = {_, Raw}}) when Tag =:= tcp_error; Tag =:= ssl_error ->
     {stop, normal, S};
 handle_info({imem_told, _, Answers}, S) ->
-    {Told, After} = lists:foldl(fun told/2, {[], S}, Answers),
+    {Told, After} = lists:foldl(fun told/2, {[], S#state{asked_at = now_ms(), silence = ?SILENCE}}, Answers),
     said(Told, After);
 handle_info({'DOWN', Monitor, process, _, Why}, S = #state{monitor = Monitor}) ->
     away(Why, S#state{monitor = undefined});
 handle_info(look_again, S = #state{monitor = undefined}) -> {noreply, watching(S)};
+handle_info(listen, S) ->
+    _ = erlang:send_after(?SILENCE, self(), listen),
+    {noreply, listening(S)};
 handle_info(go_on, S) -> {noreply, hearing(budgeted(0, S#state{is_hearing = false}))};
 handle_info(timeout, S) -> {stop, normal, S};       % It was never given its socket.
 handle_info(_, S) -> {noreply, S}.
@@ -153,17 +162,22 @@ error_line(Number, Why) -> ["error ", integer_to_binary(Number), ": ", Why, $\n]
 %% If the module is away they are asked once it is back.
 asking([], S) -> S;
 asking(_, S = #state{monitor = undefined}) -> S;
-asking(Asked, S) ->
+asking(Asked, S = #state{asked_at = Before, lines = Lines}) ->
     ask(lists:reverse(Asked), S),
-    S.
+    case queue:len(Lines) > length(Asked) of
+        true -> S#state{asked_at = Before};
+        false -> S#state{asked_at = now_ms()}
+    end.
 
-ask(Lines, #state{config = Config, listener = #{module := K}}) -> imem_module:ask(K, Lines, Config).
+ask(Lines, #state{config = Config, turn = Turn, listener = #{module := K}}) ->
+    imem_module:ask(K, Turn, Lines, Config).
 
 %% ---- Answers
 
 %% Adds what an answer lets be said, the last first.
-told({{now, E, N}, Answer}, {Told, S = #state{waits = Waits}}) ->
+told({{now, E, N}, Answer}, {Told, S = #state{waits = Waits}}) when is_map_key({E, N}, Waits) ->
     {[[Answer, $\n] | Told], S#state{waits = maps:remove({E, N}, Waits)}};
+told({{now, _, _}, _}, Sum) -> Sum;      % It was told by the member that was asked before.
 told({{again, E, N}, Answer}, {Told, S = #state{waits = Waits}}) when is_map_key({E, N}, Waits) ->
     [Who, Reply] = binary:split(Answer, <<" ">>),
     After = S#state{waits = maps:remove({E, N}, Waits)},
@@ -251,33 +265,57 @@ now_ms() -> erlang:monotonic_time(millisecond).
 %% ---- The module
 
 %% Asks all that isn't answered, in its order, once the module is there. A copy may have been made, or not.
-watching(S = #state{listener = #{module := K}, config = Config, lines = Lines, waits = Waits}) ->
-    Monitor = monitor(process, imem_module:at(K, Config)),
+watching(S = #state{listener = #{module := K}, config = Config, lines = Lines, waits = Waits, turn = Turn}) ->
+    Monitor = monitor(process, imem_module:at(K, Turn, Config)),
     Again = [{{again, E, N}, again(E, N)} || {E, N} <- maps:keys(Waits)],
     Asked = [It || {_, #asked{}} = It <- queue:to_list(Lines)],
     Again ++ Asked =:= [] orelse ask(Again ++ Asked, S),
-    S#state{monitor = Monitor}.
+    S#state{monitor = Monitor, asked_at = now_ms()}.
 
 again(E, N) -> (imem_lines:asked(["collect ", integer_to_binary(E), $., integer_to_binary(N)]))#asked{kind = again}.
 
 %% A module that was refused for good is so for its clients.
 -spec away(term(), #state{}) -> {noreply, #state{}} | {stop, normal, #state{}}.
-away({shutdown, {over, {refused, _, Refusal}}}, S) when is_binary(Refusal) -> refused(["refused ", Refusal], S);
-away({shutdown, {over, _}}, S) -> refused(error_text(S, "the module can't be opened"), S);
+away({shutdown, {over, Why}}, S) ->
+    case {is_replicated(S), Why} of
+        {true, _} -> came(unsure(looks_again(5, S)));
+        {false, {refused, _, Refusal}} when is_binary(Refusal) -> refused(["refused ", Refusal], S);
+        _ -> refused(error_text(S, "the module can't be opened"), S)
+    end;
 away(Why, S = #state{away = Away, listener = #{module := K}}) when Why =:= noproc; Why =:= noconnection ->
-    case Away > 3 andalso Why =:= noproc andalso node(K, S) =:= node() andalso imem_module_sup:is_over(K) of
+    case Away > 3 andalso Why =:= noproc andalso is_own(S) andalso imem_module_sup:is_over(K) of
         true -> refused(error_text(S, "the module can't be opened"), S);
         false -> came(looks_again(min(1000, 10 + 10 * Away), S#state{away = Away + 1}))
     end;
 away(_, S) -> came(unsure(looks_again(5, S#state{away = 0}))).
 
-node(K, #state{config = Config}) -> imem_config:node_of(K, Config).
+is_own(S = #state{listener = #{module := K}, config = Config}) ->
+    not is_replicated(S) andalso lists:member(K, imem_config:own(Config)).
+
+is_replicated(#state{listener = #{module := K}, config = Config}) -> imem_config:is_replicated(K, Config).
+
+%% Of a module on several nodes the next one is asked.
+turned(S = #state{turn = Turn}) ->
+    case is_replicated(S) of true -> S#state{turn = Turn + 1}; false -> S end.
+
+%% A member that is there and answers nothing is parted from the others, or halted; but for a backup, which takes long.
+listening(S = #state{lines = Lines, monitor = Monitor, asked_at = At, silence = Silence}) ->
+    case queue:peek(Lines) of
+        {value, {_, #asked{kind = Kind}}} when Kind =/= backup, Monitor =/= undefined ->
+            case now_ms() - At > Silence of
+                true ->
+                    true = demonitor(Monitor, [flush]),
+                    watching(turned(S#state{silence = min(2 * Silence, ?MOST_SILENCE)}));
+                false -> S
+            end;
+        _ -> S
+    end.
 
 error_text(#state{heard = Heard}, Words) -> ["error ", integer_to_binary(Heard), ": ", Words].
 
 looks_again(Pause, S) ->
     _ = erlang:send_after(Pause, self(), look_again),
-    S.
+    turned(S).
 
 refused(Text, S = #state{socket = {Transport, Socket}}) ->
     _ = Transport:send(Socket, [Text, $\n]),

@@ -1,14 +1,17 @@
 %% What the server is told by `sys.config`, checked before anything starts. A fault is said in words.
 -module(imem_config).
--export([checked/1, node_of/2, send/2]).
+-export([checked/1, nodes_of/2, is_replicated/2, own/1, send/2]).
 -export_type([config/0, module_config/0, listener/0, at/0, cluster/0]).
 
 %% Who sends a message: a module's function of where and what. A trial has one that loses some.
 -type sender() :: {module(), atom()}.
 
+%% nodes: one, which has the image, or several, each of which has a copy made of the log. sizes are the copies'.
 -type module_config() :: #{
-    node := node(),
-    image => file:filename(),
+    nodes := [node()],
+    image => file:filename() | none,
+    sizes => [string()],
+    snapshot_every => pos_integer(),
     backups => file:filename() | none,
     options => [string()],
     env => [{string(), string()}]
@@ -43,6 +46,8 @@
 
 -type config() :: #{
     imem := file:filename(),
+    log := file:filename() | none,
+    memory := file:filename(),
     modules := #{non_neg_integer() => module_config()},
     listeners := [listener()],
     metrics := none | {inet:ip_address(), inet:port_number()},
@@ -56,8 +61,10 @@
 checked(Environment) ->
     try
         Given = maps:from_list([It || {Key, _} = It <- Environment, Key =/= included_applications]),
-        {ok, with_listeners(taken(Given, "imem_server", [
+        {ok, with_log(with_listeners(taken(Given, "imem_server", [
             {imem, "/usr/bin/imem", fun program/2},
+            {log, none, fun folder/2},
+            {memory, "/dev/shm", fun folder/2},
             {modules, required, fun modules/2},
             {listeners, none, fun listeners/2},
             {metrics, none, fun metrics/2},
@@ -65,16 +72,27 @@ checked(Environment) ->
             {answers_within, 30000, fun positive/2},
             {repeats_waiting, 10000, fun positive/2},
             {send, {?MODULE, send}, fun sender/2}
-        ]))}
+        ])))}
     catch
         throw:{bad, Words} -> {error, lists:flatten(Words)}
     end.
 
-%% The node of a module.
--spec node_of(non_neg_integer(), config()) -> node().
-node_of(K, #{modules := Modules}) ->
-    #{K := #{node := Node}} = Modules,
-    Node.
+%% The nodes of a module, this one first.
+-spec nodes_of(non_neg_integer(), config()) -> [node()].
+nodes_of(K, #{modules := Modules}) ->
+    #{K := #{nodes := Nodes}} = Modules,
+    [Node || Node <- Nodes, Node =:= node()] ++ [Node || Node <- Nodes, Node =/= node()].
+
+%% Whether a module has a copy on each of several nodes.
+-spec is_replicated(non_neg_integer(), config()) -> boolean().
+is_replicated(K, #{modules := Modules}) ->
+    #{K := #{nodes := Nodes}} = Modules,
+    length(Nodes) > 1.
+
+%% The modules of this node.
+-spec own(config()) -> [non_neg_integer()].
+own(#{modules := Modules}) ->
+    [K || {K, #{nodes := Nodes}} <- lists:sort(maps:to_list(Modules)), lists:member(node(), Nodes)].
 
 %% Sends a message, to a name that need not be there.
 -spec send({atom(), node()} | pid(), term()) -> ok.
@@ -140,6 +158,14 @@ folder(Given, Where) ->
 node_name(Node, _) when is_atom(Node) -> Node;
 node_name(Given, Where) -> wrong(Where, Given, "a node's name").
 
+node_names([_ | _] = Given, Where) ->
+    Nodes = each(fun node_name/2, Given, Where),
+    case length(lists:usort(Nodes)) =:= length(Nodes) of
+        true -> Nodes;
+        false -> bad([Where, ": a node stands twice"])
+    end;
+node_names(Given, Where) -> wrong(Where, Given, "a list of nodes' names").
+
 texts(Given, Where) when is_list(Given) -> [file(It, Where) || It <- Given];
 texts(Given, Where) -> wrong(Where, Given, "a list of words in quotes").
 
@@ -184,14 +210,30 @@ a_module(Given, Where) ->
     Taken = taken(Given, Where, [
         {module, 0, fun natural/2},
         {node, node(), fun node_name/2},
+        {nodes, none, fun node_names/2},
         {image, none, fun file/2},
+        {sizes, [], fun texts/2},
+        {snapshot_every, 4096, fun positive/2},
         {backups, none, fun folder/2},
         {options, [], fun texts/2},
         {env, [], fun pairs/2}
     ]),
-    case Taken of
-        #{node := Node, image := none} when Node =:= node() -> bad([Where, ", image isn't given"]);
-        #{module := K} -> {K, maps:remove(module, Taken)}
+    #{module := K, node := Node, nodes := Several, image := Image} = Taken,
+    Nodes = case Several of none -> [Node]; _ -> Several end,
+    case lists:member(node(), Nodes) of
+        true when length(Nodes) =:= 1, Image =:= none -> bad([Where, ", image isn't given"]);
+        _ -> {K, maps:without([module, node], Taken#{nodes := Nodes})}
+    end.
+
+%% A module on several nodes has a log here, of Ra.
+with_log(#{log := Log} = Config) ->
+    case [K || K <- own(Config), is_replicated(K, Config)] of
+        [] -> Config;
+        [K | _] when Log =:= none -> bad(["imem_server, log isn't given, and module ", integer_to_list(K), " is on several nodes"]);
+        [K | _] ->
+            code:ensure_loaded(ra) =:= {module, ra}
+                orelse bad(["imem_server, modules: module ", integer_to_list(K), " is on several nodes, and Ra isn't there"]),
+            Config
     end.
 
 %% ---- Listeners

@@ -4,7 +4,7 @@
 -export_type([count/0]).
 
 -type count() ::
-    {starts | groups | asked | repeated, Module :: non_neg_integer()}
+    {starts | groups | asked | repeated | sent_again, Module :: non_neg_integer()}
     | {clients | refused_clients | let_go | wrong_lines, imem_lines:role()}.
 
 %% The table is the caller's.

@@ -6,7 +6,8 @@
 %% come twice or late, and an element may run twice at once: who is behind is told `Forgotten`, and starts again.
 %%
 %% A line that isn't answered is asked again after twice the time that its module takes, and then ever more seldom; one
-%% that was told to wait as seldom as the configuration says.
+%% that was told to wait as seldom as the configuration says. Of a module on several nodes the next member is asked where
+%% one ends, or says nothing for a while.
 -module(imem_element).
 -behaviour(gen_statem).
 -export([start_link/2, init/1, callback_mode/0, handle_event/4]).
@@ -49,6 +50,8 @@
     before = none :: none | non_neg_integer(),          % the value of the write before them
     modules = #{} :: #{reference() => module_number()}, % those that are there
     times = #{} :: #{module_number() => non_neg_integer()}, % how long each takes, smoothed, in milliseconds
+    turns = #{} :: #{module_number() => non_neg_integer()}, % which member of each is asked
+    heard = #{} :: #{module_number() => integer()},     % when each last said something, or was turned to
     away = #{} :: #{module_number() => {program | node, Since :: integer()}},
     returns = [] :: [{program | node, non_neg_integer()}],
     since = 0 :: integer(),
@@ -59,6 +62,7 @@
 -define(LEAST_PAUSE, 50).
 -define(MOST_PAUSE, 10000).
 -define(MOST_BEHIND, 100).
+-define(SILENCE, 2000).     % milliseconds: who says nothing for so long is away, if others can be asked
 
 -spec start_link(imem_lines:element(), imem_config:config()) -> gen_statem:start_ret().
 start_link(E, Config) -> gen_statem:start_link(?MODULE, {E, Config}, []).
@@ -78,7 +82,7 @@ handle_event(internal, start, windows, D) -> began(lists:foldl(fun watch/2, D, m
 handle_event({timeout, begin_again}, _, windows, D) -> began(D);
 handle_event({timeout, {look, K}}, _, _, D) -> {keep_state, ask_all(K, watch(K, D))};
 handle_event({timeout, {repeat, Key}}, _, _, D = #data{lines = Lines}) when is_map_key(Key, Lines) ->
-    {After, Actions} = asked(Key, D),
+    {After, Actions} = asked(Key, listened(Key, D)),
     {keep_state, After, Actions};
 handle_event(info, {imem_told, K, Answers}, State, D) ->
     try lists:foldl(fun({Key, Answer}, Sum) -> told(K, Key, Answer, Sum) end, {returned(K, D), []}, Answers) of
@@ -194,7 +198,7 @@ ask(Key, Line, {D = #data{lines = Lines}, Actions}) ->
 %% Asks a line, and again after a while. A module that is away is asked once it is there.
 asked(Key = {K, _}, D = #data{config = Config, lines = Lines, modules = Modules}) ->
     #{Key := Line = #line{asked = Asked, times = Times, pause = Before}} = Lines,
-    _ = lists:member(K, maps:values(Modules)) andalso imem_module:ask(K, [{Key, Asked}], Config),
+    _ = lists:member(K, maps:values(Modules)) andalso imem_module:ask(K, turn(K, D), [{Key, Asked}], Config),
     Pause = case Before of 0 -> pause(K, D); _ -> min(2 * Before, max(Before, ?MOST_PAUSE)) end,
     After = Line#line{at = now_ms(), times = Times + 1, pause = Pause},
     {D#data{lines = Lines#{Key := After}}, [repeated(Key, Pause)]}.
@@ -207,11 +211,33 @@ pause(K, #data{times = Times}) -> max(?LEAST_PAUSE, min(?MOST_PAUSE, 2 * maps:ge
 ask_all(K, D = #data{config = Config, lines = Lines}) ->
     Own = [{Key, Line#line.asked} || {{At, What} = Key, Line} <- maps:to_list(Lines), At =:= K, not is_integer(What)],
     Requests = [{Key, Line#line.asked} || {{At, N} = Key, Line} <- maps:to_list(Lines), At =:= K, is_integer(N)],
-    Own ++ Requests =:= [] orelse imem_module:ask(K, Own ++ lists:sort(Requests), Config),
+    Own ++ Requests =:= [] orelse imem_module:ask(K, turn(K, D), Own ++ lists:sort(Requests), Config),
     D.
 
-watch(K, D = #data{config = Config, modules = Modules}) ->
-    D#data{modules = Modules#{monitor(process, imem_module:at(K, Config)) => K}}.
+watch(K, D = #data{config = Config, modules = Modules, heard = Heard}) ->
+    Monitor = monitor(process, imem_module:at(K, turn(K, D), Config)),
+    D#data{modules = Modules#{Monitor => K}, heard = Heard#{K => now_ms()}}.
+
+%% Elements begin with different members.
+turn(K, #data{number = E, turns = Turns}) -> maps:get(K, Turns, E).
+
+turned(K, D = #data{config = Config, turns = Turns}) ->
+    case imem_config:is_replicated(K, Config) of
+        true -> D#data{turns = Turns#{K => turn(K, D) + 1}};
+        false -> D
+    end.
+
+%% A member that is there and says nothing is parted from the others, or halted.
+listened({K, _} = Key, D = #data{config = Config, lines = Lines, heard = Heard, modules = Modules}) ->
+    #{Key := #line{pause = Pause}} = Lines,
+    Silent = now_ms() - maps:get(K, Heard, 0),
+    case imem_config:is_replicated(K, Config) andalso Silent > max(?SILENCE, Pause) of
+        true ->
+            Watched = [Monitor || {Monitor, At} <- maps:to_list(Modules), At =:= K],
+            _ = [demonitor(Monitor, [flush]) || Monitor <- Watched],
+            ask_all(K, watch(K, turned(K, D#data{modules = maps:without(Watched, Modules)})));
+        false -> D
+    end.
 
 %% A module that is gone is looked for until it answers, more seldom the longer it is away.
 gone(K, Why, D = #data{away = Away}) ->
@@ -219,9 +245,10 @@ gone(K, Why, D = #data{away = Away}) ->
     By = case Why of noconnection -> node; _ -> program end,
     {_, Since} = Gone = maps:get(K, Away, {By, Now}),
     Pause = max(20, min(1000, (Now - Since) div 8)),
-    {keep_state, D#data{away = Away#{K => Gone}}, {{timeout, {look, K}}, Pause, look}}.
+    {keep_state, turned(K, D#data{away = Away#{K => Gone}}), {{timeout, {look, K}}, Pause, look}}.
 
-returned(K, D = #data{away = Away, returns = Returns}) ->
+returned(K, D0 = #data{away = Away, returns = Returns, heard = Heard}) ->
+    D = D0#data{heard = Heard#{K => now_ms()}},
     case maps:take(K, Away) of
         {{By, Since}, Others} -> D#data{away = Others, returns = [{By, now_ms() - Since} | Returns]};
         error -> D

@@ -40,7 +40,8 @@ handle_info(_, S) -> {noreply, S}.
 -spec do(#mod{}) -> {proceed, [{response, {response, list(), iodata()}}]}.
 do(#mod{method = "GET", request_uri = "/metrics"}) -> response(200, metrics(persistent_term:get(?MODULE)));
 do(#mod{method = "GET", request_uri = "/health"}) ->
-    case [K || {K, none} <- told(["count"], persistent_term:get(?MODULE))] of
+    Config = persistent_term:get(?MODULE),
+    case [K || K <- imem_config:own(Config), not is_answered(imem_module:asked(K, ["count"], ?WITHIN, Config))] of
         [] -> response(200, "well\n");
         Away -> response(503, [["module ", integer_to_list(K), " doesn't answer\n"] || K <- Away])
     end;
@@ -52,10 +53,13 @@ response(Code, Text) ->
     Head = [{code, Code}, {content_type, "text/plain; version=0.0.4"}, {content_length, Length}],
     {proceed, [{response, {response, Head, Body}}]}.
 
-%% The answers of each module of this node, `none` where it gives none in time.
-told(Lines, #{modules := Modules} = Config) ->
-    [{K, case imem_module:asked(K, Lines, ?WITHIN, Config) of {ok, Answers} -> Answers; {error, _} -> none end}
-        || {K, #{node := Node}} <- lists:sort(maps:to_list(Modules)), Node =:= node()].
+is_answered({ok, _}) -> true;
+is_answered({error, _}) -> false.
+
+%% What each module's image here answers, `none` where it gives no answer in time.
+told(Lines, Config) ->
+    [{K, case imem_module:looked(K, Lines, ?WITHIN, Config) of {ok, Answers} -> Answers; {error, _} -> none end}
+        || K <- imem_config:own(Config)].
 
 %% ---- Metrics
 
@@ -133,10 +137,10 @@ paired([], Found) -> Found.
 
 stuck(K, Elements, Config) ->
     Numbers = lists:seq(0, Elements - 1),
-    case imem_module:asked(K, [["window ", integer_to_list(E)] || E <- Numbers], ?WITHIN, Config) of
+    case imem_module:looked(K, [["window ", integer_to_list(E)] || E <- Numbers], ?WITHIN, Config) of
         {ok, Windows} ->
             Full = [[E, $., Base] || Window <- Windows, {E, Base} <- full(binary:split(Window, <<" ">>, [global]))],
-            waiting(imem_module:asked(K, [["collect " | Waiter] || Waiter <- Full], ?WITHIN, Config));
+            waiting(imem_module:looked(K, [["collect " | Waiter] || Waiter <- Full], ?WITHIN, Config));
         {error, _} -> none
     end.
 

@@ -6,10 +6,10 @@
 %% waiting; the program puts up to 16 of them on the disk as one group. A line that is under way isn't asked again.
 %%
 %% If the program ends, the module ends, the supervisor starts both anew, and who asked asks again: a repeat acts once.
-%% Nothing is kept here but who waits.
+%% Nothing is kept here but who waits. A module on several nodes is asked in the same way (imem_replica).
 -module(imem_module).
 -behaviour(gen_server).
--export([start_link/2, at/2, ask/3, asked/4]).
+-export([start_link/2, name/1, at/3, ask/4, asked/4, looked/4, tell/3, is_as_wanted/3]).
 -export([init/1, handle_continue/2, handle_call/3, handle_cast/2, handle_info/2, terminate/2, format_status/1]).
 -export_type([key/0, told/0]).
 
@@ -24,52 +24,47 @@
 -define(SHORT_PAUSE, 100).  % the same of one that was killed as it opened its image
 -define(TICK, 1000).
 
-%% A line in a queue or in the pipe. Of a check, `key` is the answer that there has to be.
--record(line, {from :: pid() | check, key :: key(), asked :: imem_lines:asked()}).
-
-%% Who asks: what isn't in the pipe yet, and the keys of all that is under way.
--record(asker, {
-    monitor :: reference(),
-    queue = queue:new() :: queue:queue(#line{}),
-    under_way = #{} :: #{key() => []}
-}).
-
 -record(state, {
     number :: non_neg_integer(),
     config :: imem_config:config(),
     port :: port() | undefined,
+    pipe :: imem_pipe:pipe() | undefined,
     phase = opening :: opening | open | ended,
-    buffer = <<>> :: binary(),                                      % of an answer that isn't whole yet
-    askers = #{} :: #{pid() => #asker{}},
-    turns = queue:new() :: queue:queue(pid()),                      % who has lines in a queue, the next one first
-    pipe = queue:new() :: queue:queue(#line{}),                     % whose answers come next
-    piped = 0 :: non_neg_integer(),
-    unsent = [] :: iodata(),                                        % what the pipe had no room for
-    waiters = #{} :: #{{imem_lines:element(), non_neg_integer()} => pid()},
-    heard = 0 :: integer(),                                         % when the program last said something
+    askers = imem_askers:new() :: imem_askers:askers(),
     refused = none :: binary() | none
 }).
 
 -spec start_link(non_neg_integer(), imem_config:config()) -> gen_server:start_ret().
 start_link(K, Config) -> gen_server:start_link({local, name(K)}, ?MODULE, {K, Config}, []).
 
+-spec name(non_neg_integer()) -> atom().
 name(K) -> list_to_atom("imem_module_" ++ integer_to_list(K)).
 
-%% Where a module is found, whatever process it is now.
--spec at(non_neg_integer(), imem_config:config()) -> {atom(), node()}.
-at(K, Config) -> {name(K), imem_config:node_of(K, Config)}.
+%% Where a module is found, whatever process it is now; of one on several nodes at each turn another one.
+-spec at(non_neg_integer(), non_neg_integer(), imem_config:config()) -> {atom(), node()}.
+at(K, Turn, Config) ->
+    Nodes = imem_config:nodes_of(K, Config),
+    {name(K), lists:nth(1 + Turn rem length(Nodes), Nodes)}.
 
--spec ask(non_neg_integer(), [{key(), imem_lines:asked()}], imem_config:config()) -> ok.
-ask(K, Lines, #{send := {Module, Function}} = Config) ->
-    _ = Module:Function(at(K, Config), {'$gen_cast', {ask, self(), Lines}}),
+-spec ask(non_neg_integer(), non_neg_integer(), [{key(), imem_lines:asked()}], imem_config:config()) -> ok.
+ask(K, Turn, Lines, Config) -> send(ask, K, Turn, Lines, Config).
+
+send(How, K, Turn, Lines, #{send := {Module, Function}} = Config) ->
+    _ = Module:Function(at(K, Turn, Config), {'$gen_cast', {How, self(), Lines}}),
     ok.
 
 %% Asks lines and waits for their answers. For processes that ask nothing else.
 -spec asked(non_neg_integer(), [iodata()], timeout(), imem_config:config()) -> {ok, [binary()]} | {error, term()}.
-asked(K, Lines, Within, Config) ->
-    Monitor = monitor(process, at(K, Config)),
+asked(K, Lines, Within, Config) -> answered(ask, K, Lines, Within, Config).
+
+%% The same of lines that change nothing. Of a module on several nodes this one's image is looked at.
+-spec looked(non_neg_integer(), [iodata()], timeout(), imem_config:config()) -> {ok, [binary()]} | {error, term()}.
+looked(K, Lines, Within, Config) -> answered(look, K, Lines, Within, Config).
+
+answered(How, K, Lines, Within, Config) ->
+    Monitor = monitor(process, at(K, 0, Config)),
     Keys = [{Monitor, At} || At <- lists:seq(1, length(Lines))],
-    ask(K, lists:zip(Keys, [imem_lines:asked(Line) || Line <- Lines]), Config),
+    send(How, K, 0, lists:zip(Keys, [imem_lines:asked(Line) || Line <- Lines]), Config),
     Timer = erlang:send_after(Within, self(), {late, Monitor}),
     Answers = answers(Keys, #{}, Monitor),
     _ = erlang:cancel_timer(Timer),
@@ -94,52 +89,39 @@ init({K, Config}) ->
 handle_continue(open, S = #state{number = K, config = #{imem := Imem, modules := Modules} = Config}) ->
     #{K := #{image := Image, backups := Backups, options := Options, env := Env}} = Modules,
     Copies = case Backups of none -> []; _ -> ["--backups", Backups] end,
-    Words = ["serve", Image, "--watch", "--statuses", "--wait", "5"] ++ Copies ++ Options,
-    Port = open_port({spawn_executable, Imem}, [{args, Words}, {env, Env}, stream, binary, exit_status, use_stdio]),
+    Pipe = imem_pipe:open(Imem, ["serve", Image, "--watch", "--statuses", "--wait", "5"] ++ Copies ++ Options, Env),
     imem_counts:add({starts, K}),
     _ = erlang:send_after(?TICK, self(), tick),
     Checks = [{"about", about} | imem_program:setup(K, Config)],
-    Lines = [#line{from = check, key = Wanted, asked = imem_lines:asked(Line)} || {Line, Wanted} <- Checks],
-    {noreply, say(Lines, S#state{port = Port, heard = now_ms()})}.
+    Lines = [#query{from = check, key = Wanted, asked = imem_lines:asked(Line)} || {Line, Wanted} <- Checks],
+    {noreply, say(Lines, S#state{port = imem_pipe:port(Pipe), pipe = Pipe})}.
 
 -spec handle_call(term(), gen_server:from(), #state{}) -> {reply, unknown, #state{}}.
 handle_call(_, _, S) -> {reply, unknown, S}.
 
 -spec handle_cast(term(), #state{}) -> {noreply, #state{}}.
-handle_cast({ask, From, Lines}, S = #state{number = K, askers = Askers}) ->
-    Asker = #asker{under_way = Before} = case Askers of
-        #{From := Known} -> Known;
-        _ -> #asker{monitor = monitor(process, From)}
-    end,
-    {After, Repeated} = lists:foldl(fun({Key, Asked}, Sum) -> queued(From, Key, Asked, Sum) end, {Asker, 0}, Lines),
-    imem_counts:add({asked, K}, map_size(After#asker.under_way) - map_size(Before)),
+handle_cast({How, From, Lines}, S = #state{number = K, askers = Askers}) when How =:= ask; How =:= look ->
+    {New, Repeated, After} = imem_askers:add(From, Lines, Askers),
+    imem_counts:add({asked, K}, New),
     imem_counts:add({repeated, K}, Repeated),
-    IsNew = queue:is_empty(Asker#asker.queue) andalso not queue:is_empty(After#asker.queue),
-    {noreply, fill(turned(From, IsNew, S#state{askers = Askers#{From => After}}))};
+    {noreply, fill(S#state{askers = After})};
 handle_cast(_, S) -> {noreply, S}.
 
-queued(_, Key, _, {Asker = #asker{under_way = Under}, Repeated}) when is_map_key(Key, Under) -> {Asker, Repeated + 1};
-queued(From, Key, Asked, {Asker = #asker{queue = Queue, under_way = Under}, Repeated}) ->
-    Line = #line{from = From, key = Key, asked = Asked},
-    {Asker#asker{queue = queue:in(Line, Queue), under_way = Under#{Key => []}}, Repeated}.
-
-turned(From, true, S = #state{turns = Turns}) -> S#state{turns = queue:in(From, Turns)};
-turned(_, false, S) -> S.
-
 -spec handle_info(term(), #state{}) -> {noreply, #state{}} | {stop, term(), #state{}}.
-handle_info({Port, {data, Data}}, S = #state{port = Port, buffer = Buffer}) ->
-    [Rest | Lines] = lists:reverse(binary:split(<<Buffer/binary, Data/binary>>, <<"\n">>, [global])),
-    try lists:foldr(fun hear/2, {S#state{buffer = Rest, heard = now_ms()}, #{}, 0}, Lines) of
+handle_info({Port, {data, Data}}, S = #state{port = Port, pipe = Before}) ->
+    {Lines, Pipe} = imem_pipe:heard(Data, Before),
+    try lists:foldl(fun hear/2, {S#state{pipe = Pipe}, #{}, 0}, Lines) of
         {After, Told, Commands} ->
             imem_counts:add({groups, S#state.number}, min(1, Commands)),
-            tell(Told, S),
+            tell(S#state.number, Told, S#state.config),
             {noreply, fill(After)}
     catch throw:{wrong, Why} -> over(Why, S)
     end;
 handle_info({Port, {exit_status, Status}}, S = #state{port = Port}) -> ended(Status, S);
 handle_info({'EXIT', Port, Reason}, S = #state{port = Port, phase = Phase}) when Phase =/= ended -> ended(Reason, S);
-handle_info({'DOWN', _, process, From, _}, S) -> {noreply, forgotten(From, S)};
-handle_info(pipe_has_room, S = #state{unsent = Unsent}) -> {noreply, fill(written(Unsent, S#state{unsent = []}))};
+handle_info({'DOWN', _, process, From, _}, S = #state{askers = Askers}) ->
+    {noreply, S#state{askers = imem_askers:forget(From, Askers)}};
+handle_info(pipe_has_room, S = #state{pipe = Pipe}) -> {noreply, fill(S#state{pipe = imem_pipe:wrote(Pipe)})};
 handle_info(tick, S) ->
     _ = erlang:send_after(?TICK, self(), tick),
     {noreply, looked_after(S)};
@@ -147,130 +129,87 @@ handle_info({ended, Why}, S) -> {stop, Why, S};
 handle_info(_, S) -> {noreply, S}.
 
 -spec terminate(term(), #state{}) -> ok.
-terminate(_, #state{port = Port, phase = Phase}) when is_port(Port), Phase =/= ended ->
-    _ = catch port_close(Port),     % The program answers what it has, and ends.
-    ok;
+terminate(_, #state{pipe = Pipe, phase = Phase}) when Pipe =/= undefined, Phase =/= ended -> imem_pipe:close(Pipe);
 terminate(_, _) -> ok.
 
 %% What logs have of it.
 -spec format_status(gen_server:format_status()) -> gen_server:format_status().
 format_status(Status) ->
     maps:map(fun
-        (state, #state{number = K, phase = Phase, piped = Piped, askers = Askers, waiters = Waiters}) ->
-            #{module => K, phase => Phase, piped => Piped, askers => map_size(Askers), waiters => map_size(Waiters)};
+        (state, #state{number = K, phase = Phase, askers = Askers}) ->
+            (imem_askers:sizes(Askers))#{module => K, phase => Phase};
         (_, Other) -> Other
     end, Status).
-
-forgotten(From, S = #state{askers = Askers, waiters = Waiters}) ->
-    S#state{askers = maps:remove(From, Askers), waiters = maps:filter(fun(_, Who) -> Who =/= From end, Waiters)}.
 
 %% ---- To the program
 
 %% Fills the pipe from those who ask, a line of each in turn.
-fill(S = #state{phase = open, unsent = [], piped = Piped}) when Piped < ?MOST_PIPED -> fill(?MOST_PIPED - Piped, [], S);
+fill(S = #state{phase = open, pipe = Pipe, askers = Askers}) ->
+    case imem_pipe:has_room(Pipe) of
+        true ->
+            {Lines, Left} = imem_askers:take(max(0, ?MOST_PIPED - imem_pipe:piped(Pipe)), Askers),
+            say(Lines, S#state{askers = Left});
+        false -> S
+    end;
 fill(S) -> S.
 
-fill(0, Lines, S) -> say(lists:reverse(Lines), S);
-fill(Room, Lines, S = #state{turns = Turns, askers = Askers}) ->
-    case queue:out(Turns) of
-        {empty, _} -> say(lists:reverse(Lines), S);
-        {{value, From}, Others} when not is_map_key(From, Askers) -> fill(Room, Lines, S#state{turns = Others});
-        {{value, From}, Others} ->
-            Asker = #asker{queue = Queue} = map_get(From, Askers),
-            {{value, Line}, Rest} = queue:out(Queue),
-            After = S#state{turns = Others, askers = Askers#{From := Asker#asker{queue = Rest}}},
-            fill(Room - 1, [Line | Lines], turned(From, not queue:is_empty(Rest), After))
-    end.
+say(Lines, S = #state{pipe = Pipe}) ->
+    S#state{pipe = imem_pipe:say([{Line, Line#query.asked#asked.text} || Line <- Lines], Pipe)}.
 
-say([], S) -> S;
-say(Lines, S = #state{pipe = Pipe, piped = Piped, heard = Heard}) ->
-    Since = case Piped of 0 -> now_ms(); _ -> Heard end,
-    Text = [[Line#line.asked#asked.text, $\n] || Line <- Lines],
-    Longer = queue:join(Pipe, queue:from_list(Lines)),
-    written(Text, S#state{pipe = Longer, piped = Piped + length(Lines), heard = Since}).
-
-%% Never waits for a program that doesn't read.
-written([], S) -> S;
-written(Text, S = #state{port = Port}) ->
-    try port_command(Port, Text, [nosuspend]) of
-        true -> S;
-        false ->
-            _ = erlang:send_after(2, self(), pipe_has_room),
-            S#state{unsent = Text}
-    catch error:badarg -> S     % It has ended, and its status comes.
-    end.
-
-%% A program that says nothing for so long, though lines stand in its pipe, is killed.
 looked_after(S = #state{phase = ended}) -> S;
-looked_after(S = #state{piped = 0}) -> S;
-looked_after(S = #state{number = K, config = #{answers_within := Within}, heard = Heard, port = Port}) ->
-    case now_ms() - Heard > Within andalso erlang:port_info(Port, os_pid) of
-        {os_pid, Pid} ->
+looked_after(S = #state{number = K, config = #{answers_within := Within}, pipe = Pipe}) ->
+    case imem_pipe:look_after(Within, Pipe) of
+        {killed, Pid, After} ->
             ?LOG_ERROR(#{what => "a program doesn't answer and is killed", module => K, pid => Pid}, ?DOMAIN),
-            _ = os:cmd("kill -KILL " ++ integer_to_list(Pid)),
-            S#state{heard = now_ms()};
-        _ -> S
+            S#state{pipe = After};
+        After -> S#state{pipe = After}
     end.
 
 %% ---- From the program
 
 %% Hears a line: the program's last one, an answer that comes later, or the answer to the oldest line in the pipe.
 hear(<<"refused ", Refusal/binary>>, {S, Told, Commands}) -> {S#state{refused = Refusal}, Told, Commands};
-hear(Answer, {S, Told, Commands}) ->
+hear(Answer, {S = #state{askers = Askers}, Told, Commands}) ->
     case binary:split(Answer, <<" ">>) of
-        [Who, <<"now ", _/binary>>] -> heard_later(waiter(Who), Answer, S, Told, Commands);
-        _ -> heard(queue:out(S#state.pipe), Answer, S, Told, Commands)
+        [Who, <<"now ", _/binary>>] ->
+            case imem_askers:later(Who, Askers) of
+                {From, Key, After} -> {S#state{askers = After}, imem_askers:noted(From, {Key, Answer}, Told), Commands};
+                nobody -> {S, Told, Commands}
+            end;
+        _ -> heard(imem_pipe:answered(S#state.pipe), Answer, S, Told, Commands)
     end.
 
-heard_later({E, N} = Waiter, Answer, S = #state{waiters = Waiters}, Told, Commands) ->
-    case maps:take(Waiter, Waiters) of
-        {From, Others} -> {S#state{waiters = Others}, noted(From, {{now, E, N}, Answer}, Told), Commands};
-        error -> {S, Told, Commands}
-    end.
-
-waiter(Who) ->
-    [E, N] = binary:split(Who, <<".">>),
-    {binary_to_integer(E), binary_to_integer(N)}.
-
-heard({empty, _}, Answer, _, _, _) -> throw({wrong, {unasked, Answer}});
-heard({{value, #line{from = check, key = Wanted}}, Pipe}, Answer, S = #state{piped = Piped}, Told, Commands) ->
-    is_as_wanted(Wanted, Answer, S) orelse throw({wrong, {wrong_image, S#state.number, Answer}}),
-    {opened(S#state{pipe = Pipe, piped = Piped - 1}), Told, Commands};
-heard({{value, Line}, Pipe}, Answer, S = #state{askers = Askers, piped = Piped}, Told, Commands) ->
-    #line{from = From, key = Key, asked = Asked} = Line,
-    S1 = S#state{pipe = Pipe, piped = Piped - 1},
-    Many = Commands + is_command(Asked),
-    case Askers of
-        #{From := Asker = #asker{under_way = Under}} ->
-            After = S1#state{askers = Askers#{From := Asker#asker{under_way = maps:remove(Key, Under)}}},
-            {waits(Line, Answer, After), noted(From, {Key, Answer}, Told), Many};
-        _ -> {S1, Told, Many}      % Whoever asked is gone.
+heard(empty, Answer, _, _, _) -> throw({wrong, {unasked, Answer}});
+heard({#query{from = check, key = Wanted}, Pipe}, Answer, S = #state{number = K, config = Config}, Told, Commands) ->
+    is_as_wanted(Wanted, Answer, Config) orelse throw({wrong, {wrong_image, K, Answer}}),
+    {opened(imem_pipe:piped(Pipe), S#state{pipe = Pipe}), Told, Commands};
+heard({Line, Pipe}, Answer, S = #state{askers = Askers}, Told, Commands) ->
+    #query{from = From, key = Key, asked = Asked} = Line,
+    case imem_askers:answered(Line, Answer, Askers) of
+        {true, After} ->
+            Noted = imem_askers:noted(From, {Key, Answer}, Told),
+            {S#state{pipe = Pipe, askers = After}, Noted, Commands + is_command(Asked)};
+        {false, _} -> {S#state{pipe = Pipe}, Told, Commands + is_command(Asked)}      % Whoever asked is gone.
     end.
 
 is_command(#asked{kind = Kind}) when Kind =:= request; Kind =:= confirm -> 1;
 is_command(_) -> 0.
 
-waits(#line{from = From, asked = #asked{kind = Kind, element = E, number = N}}, Answer, S = #state{waiters = Waiters})
-        when Kind =:= request; Kind =:= again ->
-    case binary:longest_common_suffix([Answer, <<" waiting">>]) of
-        8 -> S#state{waiters = Waiters#{{E, N} => From}};
-        _ -> S
-    end;
-waits(_, _, S) -> S.
-
-noted(From, What, Told) -> maps:update_with(From, fun(Others) -> [What | Others] end, [What], Told).
-
-tell(Told, #state{number = K, config = #{send := {Module, Function}}}) ->
+%% Tells each who asked what it is told, the last first.
+-spec tell(non_neg_integer(), imem_askers:told(), imem_config:config()) -> ok.
+tell(K, Told, #{send := {Module, Function}}) ->
     maps:foreach(fun(From, List) -> Module:Function(From, {imem_told, K, lists:reverse(List)}) end, Told).
 
 %% ---- Opening
 
-opened(S = #state{piped = 0, phase = opening, number = K}) ->
+opened(0, S = #state{phase = opening, number = K}) ->
     ?LOG_NOTICE(#{what => "a module is open", module => K}, ?DOMAIN),
     S#state{phase = open};
-opened(S) -> S.
+opened(_, S) -> S.
 
-is_as_wanted(about, Answer, #state{config = Config}) -> is_enough(binary:split(Answer, <<" ">>, [global]), Config);
+%% Whether what is asked at a start has the answer that there has to be.
+-spec is_as_wanted(about | binary(), binary(), imem_config:config()) -> boolean().
+is_as_wanted(about, Answer, Config) -> is_enough(binary:split(Answer, <<" ">>, [global]), Config);
 is_as_wanted(Wanted, Answer, _) -> Wanted =:= Answer.
 
 %% Whether the image has all of the cluster's elements.
@@ -302,5 +241,3 @@ over(Why, S = #state{number = K, config = Config}) ->
     ?LOG_ERROR(#{what => "a module can't be opened, and stays away", module => K, why => Why}, ?DOMAIN),
     _ = spawn(fun() -> timer:sleep(100), imem_server:is_over(Config) end),
     {stop, {shutdown, {over, Why}}, S}.
-
-now_ms() -> erlang:monotonic_time(millisecond).

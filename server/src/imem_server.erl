@@ -20,10 +20,9 @@ start() ->
 
 %% A module that can't be opened for good is left away. A node that has nothing else to do ends.
 -spec is_over(imem_config:config()) -> ok.
-is_over(#{modules := Modules, cluster := Cluster}) ->
-    Own = [K || {K, #{node := Node}} <- maps:to_list(Modules), Node =:= node()],
+is_over(#{cluster := Cluster} = Config) ->
     Seats = case Cluster of none -> []; #{elements := All} -> [E || {E, Nodes} <- All, lists:member(node(), Nodes)] end,
-    case Seats =:= [] andalso lists:all(fun imem_module_sup:is_over/1, Own) of
+    case Seats =:= [] andalso lists:all(fun imem_module_sup:is_over/1, imem_config:own(Config)) of
         true ->
             ?LOG_ERROR(#{what => "no module of this node can be opened: it ends"}, ?DOMAIN),
             init:stop(5);

@@ -10,9 +10,21 @@ what_is_left_out_has_a_value_test() ->
     {ok, Config} = imem_config:checked(?WELL),
     Node = node(),
     ?assertMatch(#{listeners := [#{at := {unix, _}, role := full}], metrics := none, cluster := none, answers_within := 30000}, Config),
-    ?assertMatch(#{modules := #{0 := #{image := "/srv/a.img", backups := none, node := Node}}}, Config),
+    ?assertMatch(#{modules := #{0 := #{image := "/srv/a.img", backups := none, nodes := [Node]}}}, Config),
     {ok, #{listeners := [Listener]}} = with(listeners, [#{at => {unix, "/run/imem.sock"}}]),
     ?assertMatch(#{role := full, module := 0, elements := all, clients := 512, mode := 8#660}, Listener).
+
+a_module_on_several_nodes_is_replicated_test() ->
+    {ok, Config} = with(modules, [#{nodes => [b@host, a@host]}, #{module => 1, image => "/srv/b.img"}]),
+    ?assertEqual([true, false], [imem_config:is_replicated(K, Config) || K <- [0, 1]]),
+    ?assertEqual([[b@host, a@host], [node()]], [imem_config:nodes_of(K, Config) || K <- [0, 1]]),
+    ?assertEqual([1], imem_config:own(Config)).
+
+%% One that names a single node is as one that names none.
+a_module_on_one_of_a_list_is_not_test() ->
+    {ok, Config} = with(modules, [#{nodes => [node()], image => "/srv/a.img"}]),
+    ?assertEqual(false, imem_config:is_replicated(0, Config)),
+    ?assertEqual({error, "imem_server, modules, number 1, image isn't given"}, with(modules, [#{nodes => [node()]}])).
 
 faults_are_said_in_words_test_() ->
     Faults = [
@@ -32,6 +44,10 @@ faults_are_said_in_words_test_() ->
         {with(metrics, 80), "imem_server, metrics: 80, where none or {IP, PORT} is expected"},
         {with(cluster, #{number => 7}), "imem_server, cluster, program isn't given"},
         {with(cluster, #{number => 7, program => {no_such, 1}, elements => []}), "imem_server, cluster, program: there is no module no_such"},
+        {with(modules, [#{nodes => [a, b, a]}]), "imem_server, modules, number 1, nodes: a node stands twice"},
+        {with(modules, [#{nodes => []}]), "imem_server, modules, number 1, nodes: [], where a list of nodes' names is expected"},
+        {with(modules, [#{nodes => [node(), other@host]}]), "imem_server, log isn't given, and module 0 is on several nodes"},
+        {with(log, "/no/such"), "imem_server, log: there is no folder /no/such"},
         {with(answers_within, 0), "imem_server, answers_within: 0, where a number above 0 is expected"}
     ],
     [?_assertEqual({error, Said}, Given) || {Given, Said} <- Faults].

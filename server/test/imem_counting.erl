@@ -3,7 +3,7 @@
 -behaviour(imem_program).
 -export([block/1, rounds/3, written/3, ended/3, send/2]).
 
--type arguments() :: {pid(), Counters :: pos_integer(), Rounds :: pos_integer()}.
+-type arguments() :: {pid() | none, Counters :: pos_integer(), Rounds :: pos_integer()}.
 
 -spec block(arguments()) -> {m, pos_integer()}.
 block({_, Counters, _}) -> {m, Counters}.
@@ -17,8 +17,11 @@ rounds(E, _, {_, Counters, Rounds}) ->
 written(_, none, _) -> 0;
 written(_, Count, _) -> Count + 1.
 
--spec ended(imem_lines:element(), imem_element:report(), arguments()) -> {ended, imem_lines:element()}.
-ended(E, _, {Test, _, _}) -> Test ! {ended, E}.
+-spec ended(imem_lines:element(), imem_element:report(), arguments()) -> ok.
+ended(_, _, {none, _, _}) -> ok;
+ended(E, _, {Test, _, _}) ->
+    Test ! {ended, E},
+    ok.
 
 %% Of fifty messages one is lost, and one comes twice.
 -spec send({atom(), node()} | pid(), term()) -> ok.
