@@ -98,7 +98,7 @@ class Cuts:
                 elif found is not None and re.fullmatch(r"\d+", line.decode("latin-1").strip()):
                     self.said = int(line)
                     self.count["numbers"] += 1
-                elif words:
+                elif words and words[0] != "dets:":  # OTP says there that it repairs a table that wasn't closed.
                     return f"the member says {line[:300]!r}"
         if more is None:
             return f"nothing was said in {PATIENCE} s, behind {heard[-300:]!r}"
