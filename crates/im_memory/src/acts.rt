@@ -50,6 +50,7 @@ fn told(entry: Entry) -> Acted
 }
 
 // Does a store. Its readers stay on the cell's list until `resume` answers them.
+#[inline(always)]
 fn store(table: &mut CellTable, arena: &Arena, a: u32, value: u64) -> Acted
     requires { Agree table.old arena.now }
     ensures acted { let cells = cells_of table.old arena.now in HasActed table.new arena.now result
@@ -69,6 +70,7 @@ fn store(table: &mut CellTable, arena: &Arena, a: u32, value: u64) -> Acted
 }
 
 // Does a put. If a take waits, it is taken off the cell's list.
+#[inline(always)]
 fn put(table: &mut CellTable, arena: &mut Arena, a: u32, value: u64) -> Acted
     requires { Agree table.old arena.old }
     ensures acted { let cells = cells_of table.old arena.old in HasActed table.new arena.new result

@@ -39,7 +39,7 @@ fn open_cell(arena: &Arena, list: u32) -> Cell
 
 // Takes the first request off the list of those that wait for a cell in a block. If others are left, the cell still
 // waits.
-#[inline(never)]
+#[inline(always)]
 fn first_taker(table: &mut CellTable, arena: &mut Arena, a: u32) -> Option<Waiter>
     requires some { IsSome (slot_at table.old a) }
     requires inside { a < length arena.old.held.lists }
