@@ -1,9 +1,11 @@
 //! The effect of an operation on the cells, and the requests that it answers.
-ghost use Rattle.std.specs.Prelude.{◌≡◌, ◌<◌, false, List, Option, length};
+ghost use Rattle.std.specs.Prelude.{◌≡◌, ◌<◌, false, List, Option, length, Ok};
 ghost use Rattle.im_types.specs.declared.operations.Kind.TheVariants.{I, M};
 ghost use Rattle.im_types.specs.Act.{act, allocate, at_cell, block_with_base, put, release_block, reset_block, store};
 ghost use Rattle.im_types.specs.Contents.{held_at};
-ghost use Rattle.im_types.specs.Window.{answer_each};
+ghost use Rattle.im_types.specs.declared.commands.Judged.TheVariants.{Fresh};
+ghost use Rattle.im_types.specs.Step.{asker};
+ghost use Rattle.im_types.specs.Window.{judge, note, answer_each};
 ghost use Rattle.im_laws.specs.Blocks.{TellsOnly};
 ghost use Rattle.im_cell.specs.declared.slots.Slot.{Slot};
 ghost use Rattle.im_cell.specs.Slots.{is_releasable};
@@ -19,7 +21,7 @@ use im_cell::CellTable;
 use im_istore::{fetch, next_reader};
 use im_mstore::take;
 use im_sessions::Sessions;
-use im_types::{Entry, Kind, Op, Reply, Waiter};
+use im_types::{Entry, Kind, Op, Reply, Request, Waiter};
 
 /// The waiting requests that an operation answers.
 #[derive(Clone, Copy)]
@@ -152,26 +154,70 @@ fn reset(table: &mut CellTable, arena: &Arena, a: u32) -> Reply
     }
 }
 
-/// Does an asker's operation on the cells. A free node must be there, in case the asker waits.
+// Keeps the reply to an operation on a block, and returns its effect: it answers no waiting request.
 #[inline(always)]
-pub fn act(table: &mut CellTable, arena: &mut Arena, who: Waiter, op: Op) -> Acted
+fn keep(sessions: &mut Sessions, request: &Request, reply: Reply) -> Acted
+    requires fresh { judge sessions.old request.now ≡ Ok Fresh }
+    ensures told { result ≡ telling reply }
+    ensures noted { sessions.new ≡ note sessions.old request.now result.entry }
+{
+    let acted = told(Entry::Answered(reply));
+    sessions.note(request, acted.entry);
+    acted
+}
+
+/// Does the operation of a new request on the cells, and keeps its entry. A free node must be there, in case the asker
+/// waits.
+///
+/// Each access keeps its own entry, while it's known which ones it may have: so none is packed by a table of all.
+#[inline(always)]
+pub fn act(
+    table: &mut CellTable,
+    arena: &mut Arena,
+    sessions: &mut Sessions,
+    request: &Request,
+) -> Acted
     requires agree { Agree table.old arena.old }
     requires room { 0 < free arena.old.held }
-    ensures acted { HasActed table.new arena.new result (act (cells_of table.old arena.old) who op) }
+    requires fresh { judge sessions.old request.now ≡ Ok Fresh }
+    ensures acted { HasActed table.new arena.new result
+        (act (cells_of table.old arena.old) (asker request.now) request.now.op) }
     ensures nodes { arena.new.held.nodes ≡ arena.old.held.nodes }
+    ensures noted { sessions.new ≡ note sessions.old request.now result.entry }
 
     // The records that it may change.
-    ensures changes { ChangesAt (places_in table.old arena.old op) table.old arena.old table.new arena.new }
-    ensures among { AreAmong (places_in table.old arena.old op) result.resumed arena.new }
+    ensures changes { ChangesAt (places_in table.old arena.old request.now.op)
+        table.old arena.old table.new arena.new }
+    ensures among { AreAmong (places_in table.old arena.old request.now.op) result.resumed arena.new }
 {
-    match op {
-        Op::Alloc(kind, n) => told(Entry::Answered(allocate(table, arena, kind, n))),
-        Op::Release(a) => told(Entry::Answered(release(table, arena, a))),
-        Op::Reset(a) => told(Entry::Answered(reset(table, arena, a))),
-        Op::Fetch(a) => told(fetch(table, arena, a, who)),
-        Op::Store(a, value) => store(table, arena, a, value),
-        Op::Take(a) => told(take(table, arena, a, who)),
-        Op::Put(a, value) => put(table, arena, a, value),
+    let who = Waiter {
+        element: request.element,
+        number: request.number,
+    };
+    match request.op {
+        Op::Alloc(kind, n) => keep(sessions, request, allocate(table, arena, kind, n)),
+        Op::Release(a) => keep(sessions, request, release(table, arena, a)),
+        Op::Reset(a) => keep(sessions, request, reset(table, arena, a)),
+        Op::Fetch(a) => {
+            let acted = told(fetch(table, arena, a, who));
+            sessions.note(request, acted.entry);
+            acted
+        }
+        Op::Store(a, value) => {
+            let acted = store(table, arena, a, value);
+            sessions.note(request, acted.entry);
+            acted
+        }
+        Op::Take(a) => {
+            let acted = told(take(table, arena, a, who));
+            sessions.note(request, acted.entry);
+            acted
+        }
+        Op::Put(a, value) => {
+            let acted = put(table, arena, a, value);
+            sessions.note(request, acted.entry);
+            acted
+        }
     }
 }
 

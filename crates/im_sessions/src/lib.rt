@@ -85,6 +85,7 @@ impl Sessions {
     }
 
     /// Keeps a new request with its entry, under its element's next number.
+    #[inline(always)]
     pub fn note(&mut self, request: &Request, entry: Entry)
         requires { judge self.old request.now ≡ Ok Judged.Fresh }
         ensures { self.new ≡ note self.old request.now entry }

@@ -48,6 +48,7 @@ impl Model for RingPlace {
 const _: () = prove!(size_of::<RingPlace>() == 32);
 
 // Returns a reply as a flat variant.
+#[inline(always)]
 fn held_by(reply: Reply) -> Held
     ensures { result ≡ held_by reply }
 {
@@ -68,6 +69,7 @@ fn held_by(reply: Reply) -> Held
 }
 
 // Returns an entry as a flat variant.
+#[inline(always)]
 fn held_of(entry: Entry) -> Held
     ensures { result ≡ held_form entry }
 {
@@ -100,6 +102,7 @@ fn entry_of(held: Held) -> Entry
 
 impl RingPlace {
     /// Makes a place with this operation and this entry.
+    #[inline(always)]
     pub fn new(op: Op, entry: Entry) -> RingPlace
         ensures { result ≡ record { op = op; entry = entry } }
     {
