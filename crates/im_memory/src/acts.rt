@@ -42,6 +42,7 @@ pub struct Acted {
 }
 
 // Returns the effect of an operation that answers no waiting request.
+#[inline(always)]
 fn told(entry: Entry) -> Acted
     ensures { result ≡ record { entry = entry; resumed = Resumed.Nobody } }
 {
@@ -223,6 +224,7 @@ pub fn act(
 
 // Answers each reader on a list with a value, and takes it off the list. After its store, `im_istore::store_and_drain`
 // does the same, but hands the readers out. This function answers them, and takes no memory.
+#[inline(always)]
 fn drain(sessions: &mut Sessions, arena: &mut Arena, a: u32, value: u64)
     requires awaited { AreAwaited sessions.old (replies_to (list_at arena.old.held a) value) }
     requires listed { a < length arena.old.held.lists }
@@ -241,6 +243,7 @@ fn drain(sessions: &mut Sessions, arena: &mut Arena, a: u32, value: u64)
 }
 
 /// Answers the requests that an operation resumes. After it, table and arena agree.
+#[inline(always)]
 pub fn resume(sessions: &mut Sessions, arena: &mut Arena, resumed: Resumed)
     requires awaited { AreAwaited sessions.old (replies_of resumed arena.old) }
     requires listed { AreListed resumed arena.old }

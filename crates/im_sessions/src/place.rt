@@ -80,6 +80,7 @@ fn held_of(entry: Entry) -> Held
 }
 
 // Returns the entry that a flat variant stands for.
+#[inline(always)]
 fn entry_of(held: Held) -> Entry
     ensures { result ≡ held_entry held }
 {
@@ -113,6 +114,7 @@ impl RingPlace {
     }
 
     /// Returns the operation of this place.
+    #[inline(always)]
     pub fn op(&self) -> &Op
         ensures { result.now ≡ self.now.op }
     {
@@ -120,6 +122,7 @@ impl RingPlace {
     }
 
     /// Returns the entry of this place.
+    #[inline(always)]
     pub fn entry(&self) -> Entry
         ensures { result ≡ self.now.entry }
     {
@@ -137,6 +140,7 @@ impl RingPlace {
     }
 
     /// Returns whether the entry is waiting.
+    #[inline(always)]
     pub fn is_waiting(&self) -> bool
         ensures { result ≡ is_waiting self.now }
     {
@@ -144,6 +148,7 @@ impl RingPlace {
     }
 
     /// Answers the entry: it is this reply from now on.
+    #[inline(always)]
     pub fn answer(&mut self, reply: Reply)
         ensures { self.new ≡ record { op = self.old.op; entry = Answered reply } }
     {

@@ -86,6 +86,7 @@ impl Ring {
     }
 
     /// Returns the base, and the number of the next new request.
+    #[inline(always)]
     pub fn bounds(&self) -> (u64, u64)
         ensures { result ≡ (self.now.base, next_number self.now) }
     {
@@ -136,6 +137,7 @@ impl Ring {
     }
 
     /// Returns the entry under a number, or why there is none.
+    #[inline(always)]
     pub fn entry(&self, number: u64) -> Result<Entry, Refusal>
         ensures { result ≡ ask_window number (Some self.now) }
     {
@@ -162,6 +164,7 @@ impl Ring {
     }
 
     /// Answers the entry under a number.
+    #[inline(always)]
     pub fn answer(&mut self, number: u64, reply: Reply)
         requires from_base { self.old.base ≤ number }
         requires below_next { number < next_number self.old }
@@ -202,6 +205,7 @@ impl Ring {
     }
 
     // Returns the place of a number that the window has.
+    #[inline(always)]
     fn at(&self, number: u64) -> &RingPlace
         requires from_base { self.now.base ≤ number }
         requires below_next { number < next_number self.now }
