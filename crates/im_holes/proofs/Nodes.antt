@@ -70,6 +70,11 @@ pub leaves-some : (h : ℕ) → 0 < row_length h
 leaves-some zero = omega arith
 leaves-some (suc h) = let l = leaves-some h in omega arith
 
+-- the first leaf below the root is the first leaf
+pub lowest-root : (h : ℕ) → lowest h 1 ≡ row_length h
+lowest-root zero = refl
+lowest-root (suc h) = let a = lowest-next h 1 in let b = lowest-root h in omega arith
+
 -- no leaf below a node is larger
 pub leaf-upto : (nodes : List ℕ) → HasMaxima nodes → (h k i : ℕ) → 0 < k → leaf_count nodes ≤ lowest h k
     → lowest h k + row_length h ≤ 2 * leaf_count nodes → lowest h k ≤ i → i < lowest h k + row_length h
