@@ -108,7 +108,9 @@ impl Ring {
         }
         if request.number < next {
             let place = self.at(request.number);
-            return if is_same(place.op(), &request.op) {
+            // A copy, so that a request that is new stays in registers.
+            let op = request.op;
+            return if is_same(place.op(), &op) {
                 Ok(Judged::Repeat(place.entry()))
             } else {
                 Err(Refusal::Mismatch)
