@@ -61,7 +61,7 @@ fn take_at(begins: &mut [bool], tags: &mut [u32], nodes: &mut [u32], base: u32, 
     renew_two(nodes, begins, tags, base, rest);
 }
 
-// Returns the second cell whose leaf a new hole changes: the one behind the cells that are freed, if a hole began there.
+// Returns the other cell whose leaf changes where cells up to `end` are freed: the one at `end`, if a hole began there.
 // The new hole begins at `from`, and ends at `to`.
 #[inline(always)]
 fn other_end(from: usize, end: usize, to: usize) -> usize

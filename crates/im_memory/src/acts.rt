@@ -4,7 +4,6 @@ ghost use Rattle.im_types.specs.declared.operations.Kind.TheVariants.{I, M};
 ghost use Rattle.im_types.specs.Act.{act, allocate, at_cell, block_with_base, put, release_block, reset_block, store};
 ghost use Rattle.im_types.specs.Contents.{held_at};
 ghost use Rattle.im_types.specs.declared.commands.Judged.TheVariants.{Fresh};
-ghost use Rattle.im_types.specs.Step.{asker};
 ghost use Rattle.im_types.specs.Window.{judge, note, answer_each};
 ghost use Rattle.im_laws.specs.Blocks.{TellsOnly};
 ghost use Rattle.im_cell.specs.declared.slots.Slot.{Slot};
@@ -155,20 +154,19 @@ fn reset(table: &mut CellTable, arena: &Arena, a: u32) -> Reply
     }
 }
 
-// Keeps the reply to an operation on a block, and returns its effect: it answers no waiting request.
+// Keeps the entry of an operation that answers no waiting request, and returns its effect.
 #[inline(always)]
-fn keep(sessions: &mut Sessions, request: &Request, reply: Reply) -> Acted
+fn keep(sessions: &mut Sessions, request: &Request, entry: Entry) -> Acted
     requires fresh { judge sessions.old request.now ≡ Ok Fresh }
-    ensures told { result ≡ telling reply }
+    ensures told { result ≡ record { entry = entry; resumed = Resumed.Nobody } }
     ensures noted { sessions.new ≡ note sessions.old request.now result.entry }
 {
-    let acted = told(Entry::Answered(reply));
-    sessions.note(request, acted.entry);
-    acted
+    sessions.note(request, entry);
+    told(entry)
 }
 
-/// Does the operation of a new request on the cells, and keeps its entry. A free node must be there, in case the asker
-/// waits.
+/// Does an asker's operation on the cells, and keeps the new request with its entry. A free node must be there, in case
+/// the asker waits.
 ///
 /// Each access keeps its own entry, while it's known which ones it may have: so none is packed by a table of all.
 #[inline(always)]
@@ -176,44 +174,35 @@ pub fn act(
     table: &mut CellTable,
     arena: &mut Arena,
     sessions: &mut Sessions,
+    who: Waiter,
     request: &Request,
 ) -> Acted
     requires agree { Agree table.old arena.old }
     requires room { 0 < free arena.old.held }
     requires fresh { judge sessions.old request.now ≡ Ok Fresh }
-    ensures acted { HasActed table.new arena.new result
-        (act (cells_of table.old arena.old) (asker request.now) request.now.op) }
+    ensures acted { HasActed table.new arena.new result (act (cells_of table.old arena.old) who request.now.op) }
     ensures nodes { arena.new.held.nodes ≡ arena.old.held.nodes }
     ensures noted { sessions.new ≡ note sessions.old request.now result.entry }
 
     // The records that it may change.
-    ensures changes { ChangesAt (places_in table.old arena.old request.now.op)
-        table.old arena.old table.new arena.new }
+    ensures changes { ChangesAt (places_in table.old arena.old request.now.op) table.old arena.old table.new arena.new }
     ensures among { AreAmong (places_in table.old arena.old request.now.op) result.resumed arena.new }
 {
-    let who = Waiter {
-        element: request.element,
-        number: request.number,
-    };
     match request.op {
-        Op::Alloc(kind, n) => keep(sessions, request, allocate(table, arena, kind, n)),
-        Op::Release(a) => keep(sessions, request, release(table, arena, a)),
-        Op::Reset(a) => keep(sessions, request, reset(table, arena, a)),
-        Op::Fetch(a) => {
-            let acted = told(fetch(table, arena, a, who));
-            sessions.note(request, acted.entry);
-            acted
-        }
+        Op::Alloc(kind, n) => keep(
+            sessions,
+            request,
+            Entry::Answered(allocate(table, arena, kind, n)),
+        ),
+        Op::Release(a) => keep(sessions, request, Entry::Answered(release(table, arena, a))),
+        Op::Reset(a) => keep(sessions, request, Entry::Answered(reset(table, arena, a))),
+        Op::Fetch(a) => keep(sessions, request, fetch(table, arena, a, who)),
         Op::Store(a, value) => {
             let acted = store(table, arena, a, value);
             sessions.note(request, acted.entry);
             acted
         }
-        Op::Take(a) => {
-            let acted = told(take(table, arena, a, who));
-            sessions.note(request, acted.entry);
-            acted
-        }
+        Op::Take(a) => keep(sessions, request, take(table, arena, a, who)),
         Op::Put(a, value) => {
             let acted = put(table, arena, a, value);
             sessions.note(request, acted.entry);

@@ -14,7 +14,7 @@ use crate::acts::{act, resume};
 use im_arena::Arena;
 use im_cell::CellTable;
 use im_sessions::Sessions;
-use im_types::{Entry, Request};
+use im_types::{Entry, Request, Waiter};
 
 /// Serves a new request: does its operation, keeps its entry, and answers the requests that it resumes. It is a part of
 /// its caller, [`Memory::step`](crate::Memory::step).
@@ -36,9 +36,13 @@ pub(crate) fn serve(
     ensures changes { let m = memory_state table.old arena.old sessions.old in
         ChangesOnly (touched m (Command.Request request.now)) m.records (records_of table.new arena.new sessions.new) }
 {
+    let who = Waiter {
+        element: request.element,
+        number: request.number,
+    };
     // A copy, which the changes to the memory leave: it is read once.
     let asked = *request;
-    let acted = act(table, arena, sessions, &asked);
+    let acted = act(table, arena, sessions, who, &asked);
     resume(sessions, arena, acted.resumed);
     acted.entry
 }

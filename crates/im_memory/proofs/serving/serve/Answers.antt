@@ -12,7 +12,8 @@ act-acted-requires-clause-room c = room-fresh c.args.table.now c.args.arena.now 
 pub resume-requires-clause-awaited : goal.resume-requires-clause-awaited
 resume-requires-clause-awaited c =
     let acted = c.act-acted.result in
-    subst (λ windows. AreAwaited windows (replies_of acted.resumed c.act-acted.new.arena)) (sym c.act-acted.ensures.noted)
+    subst (λ windows. AreAwaited windows (replies_of acted.resumed c.act-acted.new.arena))
+    (sym c.act-acted.ensures.noted)
     (resumed-awaited c.args.table.now c.args.arena.now c.args.sessions.now c.requires.memory c.args.request.now c.requires.fresh acted c.act-acted.new.table c.act-acted.new.arena c.act-acted.ensures.acted)
 
 pub returns-clause-memory : goal.returns-clause-memory
