@@ -1,3 +1,4 @@
+pub mod KeepingLemmas
 pub mod AcceptedLemmas
 pub mod KeptLemmas
 mod CallLemmas

@@ -1,8 +1,13 @@
 //! A session, and its calls.
 ghost use Rattle.std.specs.Prelude.{◌≡◌, [], length, take};
-ghost use Rattle.im_engine.specs.Commands.{CommandsAnswered};
-ghost use Rattle.im_engine.specs.Run.{Answered, SweepAnswered, TurnAnswered};
+ghost use Rattle.im_disk.specs.Since.{CallsAtMost, CallsBy};
+ghost use Rattle.im_checkpoint.specs.Turns.{most_calls};
+ghost use Rattle.im_groups.specs.Ahead.{ServesPrefix};
+ghost use Rattle.im_engine.specs.Commands.{CommandsAnswered, commands_put};
+ghost use Rattle.im_engine.specs.Groups.{GroupCalls, calls_for_group};
+ghost use Rattle.im_engine.specs.Run.{Answered, SweepAnswered, TurnAnswered, calls_for};
 ghost use Rattle.im_session.specs.Kept.{Kept};
+ghost use Rattle.im_session.specs.Keeping.{KeepsPut};
 ghost use Rattle.im_session.specs.Serving.{Rests, served_one, served_together};
 
 use crate::calls::{GroupFound, SessionCalls};
@@ -53,6 +58,9 @@ impl<D: Disk> Session<D> {
     pub fn serve(&mut self, command: &Command) -> Result<Outcome, Refusal>
         ensures answered { Answered self.old.engine command.now result self.new.engine }
         ensures put { self.new ≡ served_one self.old command.now result self.new.engine }
+        ensures keeps { KeepsPut D.Disk self.old self.new }
+        ensures calls { D.honest self.new.engine.disk → CallsBy D.past self.old.engine.disk self.new.engine.disk
+            (calls_for self.old.engine.memory command.now) result }
     {
         let memory = Snapshot::of(self.engine.memory());
         let answer = self.engine.serve(command);
@@ -68,10 +76,17 @@ impl<D: Disk> Session<D> {
         served: &mut ArrayVec<Served, MAX_GROUP>,
     )
         requires empty { served.old.items ≡ [] }
+        // How many are served, and where it ends.
+        ensures begins { let many = length served.new.items in ServesPrefix self.old.engine.memory
+            (commands_put self.old.engine (take many members.now.items)) members.now.items many }
         ensures answered { CommandsAnswered self.old.engine (take (length served.new.items) members.now.items)
             served.new.items self.new.engine }
         ensures put { self.new ≡ served_together self.old (take (length served.new.items) members.now.items)
             self.new.engine }
+        ensures keeps { KeepsPut D.Disk self.old self.new }
+        ensures calls { D.honest self.new.engine.disk → GroupCalls D.past self.old.engine.disk self.new.engine.disk
+            self.new.engine.failed
+            (calls_for_group (length (commands_put self.old.engine (take (length served.new.items) members.now.items)))) }
     {
         let failed = self.engine.failed();
         let places = self.engine.places();
@@ -89,6 +104,9 @@ impl<D: Disk> Session<D> {
     pub fn turn(&mut self) -> Result<TurnDone, Refusal>
         ensures answered { TurnAnswered self.old.engine result self.new.engine }
         ensures same { Rests self.old self.new }
+        ensures keeps { KeepsPut D.Disk self.old self.new }
+        ensures calls { D.honest self.new.engine.disk
+            → CallsAtMost D.past self.old.engine.disk self.new.engine.disk (most_calls result) }
     {
         self.engine.turn()
     }
@@ -97,6 +115,7 @@ impl<D: Disk> Session<D> {
     pub fn sweep(&mut self, most: u32) -> Result<u32, Refusal>
         ensures answered { SweepAnswered self.old.engine most result self.new.engine }
         ensures same { Rests self.old self.new }
+        ensures keeps { KeepsPut D.Disk self.old self.new }
     {
         self.engine.sweep(most)
     }
