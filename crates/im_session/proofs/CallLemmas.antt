@@ -37,7 +37,7 @@ undoubted : (m : Contents) (c : Command) (a : Result Outcome Refusal) → is_acc
 undoubted m c (Ok o) e = refl
 undoubted m c (Err r) e = ap (λ (b : Bool). if b && is_device r then c ∷ [] else []) e
 
-not_device : (m : Contents) (c : Command) (r : Refusal) → is_device r ≡ false → doubted_by m c (Err r) ≡ []
+pub not_device : (m : Contents) (c : Command) (r : Refusal) → is_device r ≡ false → doubted_by m c (Err r) ≡ []
 not_device m c r e = by_test (is_accepted m c) (is_device r) e
   where
     by_test : (b p : Bool) → p ≡ false → (if b && p then c ∷ [] else []) ≡ []

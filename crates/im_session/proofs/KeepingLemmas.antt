@@ -8,7 +8,7 @@ use Rattle.im_types.specs.Meaning.{Means}
 use Rattle.im_types.specs.Run.{after}
 use Rattle.im_disk.specs.declared.disk.Disk.{Ghosts}
 use Rattle.im_disk.specs.Moment.{LeftSince}
-use Rattle.im_disk.proofs.SinceLemmas.{only_now}
+use Rattle.im_disk.proofs.SinceLemmas.{leaves_start, only_now}
 use Rattle.im_session.specs.Kept.{Kept, MeansPut, SessionStart, SessionState}
 use Rattle.im_session.specs.Keeping.{KeepsPut, KeptFrom, MeansFrom}
 
@@ -33,6 +33,17 @@ from_more start put more least file means =
       subst (λ (l : List Command). Means (after start.memory l) (start.count + means.0) 0 file)
           (sym (take-append-le means.0 put more within)) means.3,
     )
+
+-- it rests as it is
+pub keeps_none : {D : Type 0} (disk : Ghosts D) (s : SessionState D) → KeepsPut disk s s
+keeps_none disk s = record {
+  start = refl;
+  more = [];
+  put = sym (append-nil (s.put ++ s.doubt));
+  honest = λ h. h;
+  leaves = λ h. leaves_start (disk.now s.engine.disk) (disk.past s.engine.disk)
+      (MeansFrom s.start (s.put ++ s.doubt) (length s.put));
+}
 
 -- what is kept from a time on
 module _ {D : Type 0} (disk : Ghosts D) where

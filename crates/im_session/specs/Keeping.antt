@@ -19,8 +19,8 @@ abbrev pub KeptFrom : {D : Type 0} → Ghosts D → SessionState D → ℕ → �
 KeptFrom disk s least time = (file : List ℕ) → LeftSince (disk.now s.engine.disk ∷ disk.past s.engine.disk) time file
     → MeansFrom s.start (s.put ++ s.doubt) least file
 
--- A session went on from the one to the other: more commands were put or are in doubt. Each file left since then has all
--- that was acknowledged before.
+-- A session went on from the one to the other: more commands were put, or are in doubt. Each file left since then has
+-- all that was acknowledged before.
 pub record KeepsPut {D : Type 0} (disk : Ghosts D) (old new : SessionState D) : Type 0 where
   pub start : new.start ≡ old.start
   pub more : List Command

@@ -86,7 +86,8 @@ impl<D: Disk> Session<D> {
         ensures keeps { KeepsPut D.Disk self.old self.new }
         ensures calls { D.honest self.new.engine.disk → GroupCalls D.past self.old.engine.disk self.new.engine.disk
             self.new.engine.failed
-            (calls_for_group (length (commands_put self.old.engine (take (length served.new.items) members.now.items)))) }
+            (calls_for_group
+            (length (commands_put self.old.engine (take (length served.new.items) members.now.items)))) }
     {
         let failed = self.engine.failed();
         let places = self.engine.places();
