@@ -30,7 +30,8 @@ module _ {D : Type 0} (marks : Line → Bool) (s s' : SharedState D) (t t' : Lin
   abbrev found : Result Entry Refusal → List Line
   found b = left_lines (Collect e n) (told b)
 
-  looks-alive : s.session.engine.failed ≡ false → (length s.log.trace < s.log.limit) ⊎ (s.log.limit ≤ length s.log.trace)
+  looks-alive : s.session.engine.failed ≡ false
+      → (length s.log.trace < s.log.limit) ⊎ (s.log.limit ≤ length s.log.trace)
       → s'.log.trace ≡ s.log.trace ++ found a
   looks-alive alive (inl room) = ap (λ (k : LogState). k.trace) (l.found alive room).1.log
   looks-alive alive (inr over) = let is = l.full alive over in same-trace s s' (found a) is.1 (ap found is.0)

@@ -184,7 +184,8 @@ module _ {D : Type 0} (disk : Ghosts D) (k : Origin) (s s' : SharedState D) (t t
 
   pub lends-served : answer ≡ receipt_for s'.log.trace time s'.shown command a → s.session.engine.failed ≡ false
       → length s.log.trace < s.log.limit → has_command k.plan command ≡ true
-      → Answered s.session.engine command a s'.session.engine → s'.log ≡ with_line s.log (Commands command) a → s'.servers ≡ s.servers
+      → Answered s.session.engine command a s'.session.engine
+      → s'.log ≡ with_line s.log (Commands command) a → s'.servers ≡ s.servers
       → t' ≡ counts_after k.marks t (left_lines (Commands command) a) → s'.shown
       ≡ s.shown ++ shows s.session.engine.memory command a → Lends disk k s t command answer s' t'
   lends-served is alive room has answered log servers tally shown =

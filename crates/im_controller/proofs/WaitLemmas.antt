@@ -43,7 +43,8 @@ module _ {D : Type 0} (marks : Line → Bool) (s s1 s2 : SharedState D) (e n : �
     found = λ alive. absurd (true_false (sym dead ∙ alive));
   }
 
-  finds-alive : s1 ≡ with_server_at s e Active → s.session.engine.failed ≡ false → entry ≢ Ok Waiting → TellsWhy s e n (Some f)
+  finds-alive : s1 ≡ with_server_at s e Active → s.session.engine.failed ≡ false → entry ≢ Ok Waiting
+      → TellsWhy s e n (Some f)
   finds-alive is alive ready = record {
     dead = λ dead. absurd (true_false (sym dead ∙ alive));
     stalled = λ _ waits. absurd (ready waits);
@@ -110,8 +111,8 @@ module _ {D : Type 0} (m : Contents) (seen : List Line) (s1 : SharedState D) (e 
       ap (λ k. is_answered (entry_under k e n)) end ∙ ap (λ k. is_answered (entry_under k.engine.memory e n)) same
       ∙ ap is_answered (sym is)
 
-  module _ (marks : Line → Bool) (s2 : SharedState D) (t t' : LineCounts) (end : end_of m seen ≡ s2.session.engine.memory)
-    where
+  module _ (marks : Line → Bool) (s2 : SharedState D) (t t' : LineCounts)
+    (end : end_of m seen ≡ s2.session.engine.memory) where
       err-room : (r : Refusal) → Looks marks s1 t e n (Err r) s2 t' → r ≡ Stalled → s1.session.engine.failed ≡ false
           → (length s1.log.trace < s1.log.limit) ⊎ (s1.log.limit ≤ length s1.log.trace)
           → is_answered (entry_under (end_of m seen) e n) ≡ false
@@ -149,7 +150,8 @@ module _ {D : Type 0} (s s1 : SharedState D) (e n : ℕ) (b : BeginsWait s e n (
   stuck-wait alive waits true stuck = same-under (b.stalled alive waits stuck).1 (ap is_answered waits)
   stuck-wait alive waits false stuck = absurd (stalled-ok Wait (b.waits alive waits stuck).0)
 
-  stuck-entry : s.session.engine.failed ≡ false → (x : Result Entry Refusal) → under s ≡ x → is_answered (under s1) ≡ false
+  stuck-entry : s.session.engine.failed ≡ false → (x : Result Entry Refusal) → under s ≡ x
+      → is_answered (under s1) ≡ false
   stuck-entry alive (Err r) is = same-under (b.refused r alive is).1 (ap is_answered is)
   stuck-entry alive (Ok (Answered reply)) is = absurd (stalled-ok Go (b.ready alive (ap is_answered is)).0)
   stuck-entry alive (Ok Waiting) is = stuck-wait alive is (are_stuck s.session.engine.memory e 0 s.servers) refl

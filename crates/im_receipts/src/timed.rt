@@ -15,10 +15,10 @@ pub fn finish_with_two<D: Disk, K: Name, R: Wait>(
     one: &Receipt<K>,
     two: &Receipt<K>,
 ) -> Finished<D>
-    ensures order { AreInTime D.Disk K.origin one.now two.now result.engine.disk }
+    ensures order { AreInTime D.Disk one.now two.now result.session.engine.disk }
 {
     let Finished {
-        engine,
+        session,
         mut trace,
         came,
         left,
@@ -28,7 +28,7 @@ pub fn finish_with_two<D: Disk, K: Name, R: Wait>(
     trace.times(one.when());
     trace.times(two.when());
     Finished {
-        engine,
+        session,
         trace,
         came,
         left,

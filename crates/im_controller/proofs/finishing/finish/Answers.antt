@@ -76,7 +76,8 @@ returns-clause-keeps g c = λ honest.
     ∙ c.of-log.ensures.trace.0 in
     let times = ap (λ (r : RecordingState). r.times) c.close-trace.ensures.trace ∙ c.take_all_back.ensures.trace.1
     ∙ c.of-log.ensures.trace.1 in
-    subst (λ (ls : List Line). KeepsSince g.D.Disk g.K.Name.origin ls c.close-trace.result.0.times s.session) (sym items)
+    subst (λ (ls : List Line). KeepsSince g.D.Disk g.K.Name.origin ls c.close-trace.result.0.times s.session)
+    (sym items)
     (subst (λ (ts : List ℕ). KeepsSince g.D.Disk g.K.Name.origin s.log.state.trace ts s.session) (sym times)
     (c.session.invariant.5 honest))
 

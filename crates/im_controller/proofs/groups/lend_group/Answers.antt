@@ -89,7 +89,8 @@ invariant_of-shared g c =
     let ahead = c.admit-lent.ensures.ahead ∙ ap (λ (x : EngineState g.row.D.Denot). record p {
       ahead = p.ahead ++ changes_put_all x.memory (places_with x (free_lines s.log)) lent;
     }) c.engine-engine.ensures.state in
-    let failed = c.failed.ensures.failed ∙ ap (λ (x : EngineState g.row.D.Denot). x.failed) c.engine-after.ensures.state in
+    let failed = c.failed.ensures.failed
+    ∙ ap (λ (x : EngineState g.row.D.Denot). x.failed) c.engine-after.ensures.state in
     let pane = group-pane plan s f mid.state members lent ss room it m p c.admit-lent.new.pane c.show_put-told.new.pane
     c.failed.result c.shared.invariant.0 c.shared.invariant.1 c.shared.invariant.3 ahead failed
     c.show_put-told.ensures.shown c.show_put-told.ensures.hidden in
@@ -104,8 +105,8 @@ invariant_of-shared g c =
     let lines = ap (λ (l : LogState). l.trace) log ∙ all-trace mid.state lent (map served_answer ss) in
     let done = c.serve_members.ensures in
     let was = subst (λ (ls : List Line). IsSessionOf g.D.Disk k ls s.session) (sym same) c.shared.invariant.4 in
-    let next = session_group g.D.Disk k mid.state.trace s.session t was done.keeps c.keep_all.new.log.state.trace lent ss
-    ends lines room done.answered done.put on in (
+    let next = session_group g.D.Disk k mid.state.trace s.session t was done.keeps c.keep_all.new.log.state.trace lent
+    ss ends lines room done.answered done.put on in (
       c.keep_all.ensures.end ∙ rw (c.as_slice-2.ensures.value, c.as_slice-3.ensures.value)
           (ap (λ n. memory_after_all n lent (map served_answer ss)) ends ∙ fits.ends),
       pane.shown_is ∙ ap (λ (l : LogState). shown_by m l.trace) (sym log),
@@ -153,7 +154,8 @@ returns g c =
     let ahead = c.admit-lent.ensures.ahead ∙ ap (λ (x : EngineState g.row.D.Denot). record p {
       ahead = p.ahead ++ changes_put_all x.memory (places_with x (free_lines s.log)) lent;
     }) c.engine-engine.ensures.state in
-    let failed = c.failed.ensures.failed ∙ ap (λ (x : EngineState g.row.D.Denot). x.failed) c.engine-after.ensures.state in
+    let failed = c.failed.ensures.failed
+    ∙ ap (λ (x : EngineState g.row.D.Denot). x.failed) c.engine-after.ensures.state in
     let pane = group-pane plan s f mid.state members lent ss room it m p c.admit-lent.new.pane c.show_put-told.new.pane
     c.failed.result c.shared.invariant.0 c.shared.invariant.1 c.shared.invariant.3 ahead failed
     c.show_put-told.ensures.shown c.show_put-told.ensures.hidden in

@@ -14,8 +14,9 @@ use Rattle.im_controller.proofs.opening.Opening.named.Goals as goal
 pub named-log-requires : goal.named-log-requires
 named-log-requires g c =
     let from = origin-by g.D.Disk _ _ g.K.Name.origin c.self.view_is c.requires.origin in record {
-      memory = subst IsOpened (c.memory.ensures
-          ∙ ap (λ (x : EngineState g.row.D.Denot). x.memory) c.engine.ensures.state ∙ from.memory) c.cells-cells.ensures.memory;
+      memory = subst IsOpened
+          (c.memory.ensures ∙ ap (λ (x : EngineState g.row.D.Denot). x.memory) c.engine.ensures.state ∙ from.memory)
+          c.cells-cells.ensures.memory;
       lines = from.lines;
       marked = from.marked;
       ports = from.ports;

@@ -25,4 +25,5 @@ pub returns-clause-keeps : goal.returns-clause-keeps
 returns-clause-keeps g c = let e = c.sweep.ensures in rw (← c.self.view_is) (keeps_still g.D.Disk c.self.inside.start
     c.self.inside.calls.sure c.self.inside.calls.doubt c.self.inside.engine c.sweep.new.self c.self.invariant
     (sweep_goes g.D.Disk c.self.inside.engine c.sweep.new.self
-    (record { since = e.leaves; now = e.now; means = e.means; honest = e.honest }) c.args.most c.sweep.result e.answered e.faults))
+    (record { since = e.leaves; now = e.now; means = e.means; honest = e.honest }) c.args.most c.sweep.result e.answered
+    e.faults))
