@@ -39,6 +39,7 @@ use Rattle.im_session.specs.Put.{sure_by, doubted_by, sure_of, doubted_of}
 use Rattle.im_session.specs.Kept.{Kept, SessionStart, SessionState}
 use Rattle.im_session.specs.Keeping.{KeepsPut, KeptFrom}
 use Rattle.im_session.specs.Serving.{Rests, served_one, served_together}
+use Rattle.im_session.proofs.CallLemmas.{unsure}
 use Rattle.im_session.proofs.KeepingLemmas.{now_kept, still_kept}
 use Rattle.im_trace.specs.Lines.{leaves_line, line_of, left_lines, time_at, times_of, NeverGoBack}
 use Rattle.im_trace.specs.Log.{TimedLog, GoesOnAt}
@@ -146,10 +147,6 @@ put_on_plan plan (r ∷ rs) m left on = by_test (takes_place m left r)
 -- ---- what is put of an answer, and of a group's
 
 -- a command: its line, if it leaves one, is accepted just if it is put
-unput : (m : Contents) (c : Command) (a : Result Outcome Refusal) → is_accepted m c ≡ false → sure_by m c a ≡ []
-unput m c (Ok outcome) un = ap (λ b. if b then c ∷ [] else []) un
-unput m c (Err refusal) un = refl
-
 line_put : {D : Type 0} (e f : EngineState D) (c : Command) (a : Result Outcome Refusal) → Answered e c a f
     → e.failed ≡ false → accepted_in e.memory (left_lines (Commands c) a) ≡ sure_by e.memory c a
 line_put e f c a answered alive = ⊎_elim
@@ -164,7 +161,7 @@ line_put e f c a answered alive = ⊎_elim
     (λ doubt. refused Device refl doubt.0)
     (answered.put alive is some))
     (none_or_some e.room))
-    (λ un. unaccepted e.memory c a un ∙ sym (unput e.memory c a un))
+    (λ un. unaccepted e.memory c a un ∙ sym (unsure e.memory c a un))
     (true_or_false (is_accepted e.memory c))
   where
     refused : (r : Refusal) → leaves_line (Err r) ≡ false → a ≡ Err r

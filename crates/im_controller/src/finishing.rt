@@ -4,7 +4,6 @@ ghost use Rattle.std.specs.List.{AllByRecursion};
 ghost use mathlib.Core.List.{IsPrefix};
 ghost use Rattle.im_types.specs.Trace.{IsLegal, end_of};
 ghost use Rattle.im_controller.specs.Ends.{HaveCome};
-ghost use Rattle.im_session.specs.Kept.{Kept};
 ghost use Rattle.im_controller.specs.Kept.{IsSessionOf, KeptSince};
 ghost use Rattle.im_controller.specs.Planned.{EndsBy};
 
@@ -40,10 +39,11 @@ pub struct Finished<D: Disk> {
 /// All ports came back exactly if as many came back as the controller has, but for those that it says weren't given
 /// out. Where they came, no line waits exactly if the ports were told as many lines as the trace has.
 ///
-/// The session has put what it had put when the trace began, and then the trace's accepted commands. So each file that
-/// a crash may have left since the trace began means the memory that was opened, after a prefix of these. Each file
-/// that a crash may leave now means it after all of them. If a call of the disk has failed, the commands that it left
-/// in doubt may be there too, all of them or none. If there is a plan, it has these.
+/// The session has put what it had put when the trace began, and then the trace's accepted commands. So by what each
+/// session keeps ([`Session::engine`]) a file that a crash may have left since the trace began means the memory that
+/// was opened, after a prefix of these, and one that it may leave now means it after all of them. If a call of the disk
+/// has failed, the commands that it left in doubt may be there too, all of them or none. If there is a plan, it has
+/// these.
 ///
 /// Each file that a crash may have left at the time of a line or later has all accepted commands of the trace up to
 /// that line. No line has an earlier time than one before it. So what a receipt tells is on the disk from then on: its
@@ -62,7 +62,6 @@ pub fn finish<D: Disk, K: Name, R: Wait>(
     ensures end { end_of K.origin.memory result.trace.items ≡ result.session.engine.memory }
     ensures recorded { result.trace.recorded ≡ K.origin.book.recorded }
     ensures planned { EndsBy K.origin.memory K.origin.plan result.trace.items result.session.engine.memory }
-    ensures kept { Kept D.Disk result.session }
     ensures put { IsSessionOf D.Disk K.origin result.trace.items result.session }
     ensures keeps { KeptSince D.Disk K.origin result.trace.items result.trace.times result.session }
     ensures came { HaveCome K.origin result.trace ports.items result.left result.came result.claimed }
@@ -78,7 +77,6 @@ pub fn finish<D: Disk, K: Name, R: Wait>(
         keeper: _,
         most_room: _,
     } = controller.into_shared();
-    let _engine = session.engine(); // So that it is known what a crash leaves.
     pane.end(rt);
     let all = reserve.ports();
     let left = reserve.left();

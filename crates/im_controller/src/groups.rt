@@ -38,7 +38,7 @@ fn serve_each<D: Disk>(
 {
     // A crash in this call leaves on the disk all that the group puts there, or nothing of it. No answer is given
     // before.
-    session.serve_commands(members, served);
+    session.serve_commands_kept(members, served);
 }
 
 // Serves all members, if the trace has room for more lines. If it has none, each is refused with `TraceFull`.

@@ -120,7 +120,7 @@ pub fn lend<D: Disk, K: Name, R: Wait>(
     match put_ahead(&mut shared.pane, engine.memory(), places, command) {
         Ok(put) => {
             // A stop in it leaves the command on the disk, whole, or not at all: its answer isn't given before.
-            let answer = shared.session.serve(command);
+            let answer = shared.session.serve_kept(command);
             let after = shared.session.engine();
             shared.log.leave(tally, Call::Command(*command), answer, after.disk());
             let told = show_put(rt, &mut shared.pane, after.failed(), put);
@@ -171,7 +171,7 @@ pub fn lend_turn<D: Disk, K: Name>(shared: &mut Shared<D, K>) -> Result<TurnDone
         → CallsAtMost D.past shared.old.session.engine.disk shared.new.session.engine.disk 4 }
 {
     // A stop in it leaves the memory as it is.
-    let done = shared.session.turn();
+    let done = shared.session.turn_kept();
     note_turn(&mut shared.log, done);
     told_turn(shared.session.engine().room(), done)
 }
@@ -183,5 +183,5 @@ pub(crate) fn lend_sweep<D: Disk, K: Name>(
     most: u32,
 ) -> Result<u32, Refusal> {
     // A crash in this call leaves the memory as it is.
-    shared.session.sweep(most)
+    shared.session.sweep_kept(most)
 }

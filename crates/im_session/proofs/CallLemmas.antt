@@ -29,7 +29,7 @@ use Rattle.im_session.proofs.KeptLemmas.{rose_by, steady_by}
 -- ---- a command
 
 -- what is put and doubted of an answer
-unsure : (m : Contents) (c : Command) (a : Result Outcome Refusal) → is_accepted m c ≡ false → sure_by m c a ≡ []
+pub unsure : (m : Contents) (c : Command) (a : Result Outcome Refusal) → is_accepted m c ≡ false → sure_by m c a ≡ []
 unsure m c (Ok o) e = ap (λ (b : Bool). if b then c ∷ [] else []) e
 unsure m c (Err r) e = refl
 

@@ -9,21 +9,21 @@ use Rattle.im_controller.proofs.groups.serve_each.Goals as goal
 
 pub returns-clause-answered : goal.returns-clause-answered
 returns-clause-answered g c =
-    let s = c.args.session.now in let t = c.serve_commands.new.self in let cs = c.args.members.now.items in
-    let all = all-served s.engine.memory _ cs _ c.requires.sure c.serve_commands.ensures.begins in
-    subst (λ (l : List Command). CommandsAnswered s.engine l c.serve_commands.new.served.items t.engine) all
-    c.serve_commands.ensures.answered
+    let s = c.args.session.now in let t = c.serve_commands_kept.new.self in let cs = c.args.members.now.items in
+    let all = all-served s.engine.memory _ cs _ c.requires.sure c.serve_commands_kept.ensures.begins in
+    subst (λ (l : List Command). CommandsAnswered s.engine l c.serve_commands_kept.new.served.items t.engine) all
+    c.serve_commands_kept.ensures.answered
 
 pub returns-clause-put : goal.returns-clause-put
 returns-clause-put g c =
-    let s = c.args.session.now in let t = c.serve_commands.new.self in let cs = c.args.members.now.items in
-    let all = all-served s.engine.memory _ cs _ c.requires.sure c.serve_commands.ensures.begins in
-    subst (λ (l : List Command). t ≡ served_together s l t.engine) all c.serve_commands.ensures.put
+    let s = c.args.session.now in let t = c.serve_commands_kept.new.self in let cs = c.args.members.now.items in
+    let all = all-served s.engine.memory _ cs _ c.requires.sure c.serve_commands_kept.ensures.begins in
+    subst (λ (l : List Command). t ≡ served_together s l t.engine) all c.serve_commands_kept.ensures.put
 
 pub returns-clause-few : goal.returns-clause-few
 returns-clause-few g c = λ honest.
-    let s = c.args.session.now in let t = c.serve_commands.new.self in let cs = c.args.members.now.items in
-    let all = all-served s.engine.memory _ cs _ c.requires.sure c.serve_commands.ensures.begins in
+    let s = c.args.session.now in let t = c.serve_commands_kept.new.self in let cs = c.args.members.now.items in
+    let all = all-served s.engine.memory _ cs _ c.requires.sure c.serve_commands_kept.ensures.begins in
     let calls = subst (λ (l : List Command). GroupCalls g.D.Disk.past s.engine.disk t.engine.disk t.engine.failed
-    (calls_for_group (length (commands_put s.engine l)))) all (c.serve_commands.ensures.calls honest) in
+    (calls_for_group (length (commands_put s.engine l)))) all (c.serve_commands_kept.ensures.calls honest) in
     calls.most

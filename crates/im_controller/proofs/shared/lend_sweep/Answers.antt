@@ -5,7 +5,7 @@ use Rattle.im_controller.proofs.shared.lend_sweep.Goals as goal
 pub invariant_of-shared : goal.invariant_of-shared
 invariant_of-shared g c =
     let k = g.K.Name.origin in let trace = c.shared.inside.log.state.trace in
-    let s = c.shared.inside.session in let t = c.sweep.new.self in let swept = c.sweep.ensures in (
+    let s = c.shared.inside.session in let t = c.sweep_kept.new.self in let swept = c.sweep_kept.ensures in (
       c.shared.invariant.0 ∙ sym swept.same.memory,
       c.shared.invariant.1,
       c.shared.invariant.2,

@@ -12,17 +12,17 @@ use Rattle.im_controller.proofs.KeptLemmas.{session_rests, times_on, worked_befo
 use Rattle.im_controller.proofs.shared.lend_turn.Goals as goal
 
 pub returns-clause-same : goal.returns-clause-same
-returns-clause-same g c = subst (λ (s : SharedState g.row.D.Denot). Rests s.session c.turn-done.new.self)
-    c.shared.view_is c.turn-done.ensures.same
+returns-clause-same g c = subst (λ (s : SharedState g.row.D.Denot). Rests s.session c.turn_kept-done.new.self)
+    c.shared.view_is c.turn_kept-done.ensures.same
 
 pub returns-clause-keeps : goal.returns-clause-keeps
-returns-clause-keeps g c = subst (λ (s : SharedState g.row.D.Denot). KeepsPut g.D.Disk s.session c.turn-done.new.self)
-    c.shared.view_is c.turn-done.ensures.keeps
+returns-clause-keeps g c = subst (λ (s : SharedState g.row.D.Denot). KeepsPut g.D.Disk s.session c.turn_kept-done.new.self)
+    c.shared.view_is c.turn_kept-done.ensures.keeps
 
 pub invariant_of-shared : goal.invariant_of-shared
 invariant_of-shared g c =
     let k = g.K.Name.origin in let trace = c.shared.inside.log.state.trace in
-    let s = c.shared.inside.session in let t = c.turn-done.new.self in let turned = c.turn-done.ensures in
+    let s = c.shared.inside.session in let t = c.turn_kept-done.new.self in let turned = c.turn_kept-done.ensures in
     rw c.note_turn.ensures (
       c.shared.invariant.0 ∙ sym turned.same.memory,
       c.shared.invariant.1,
@@ -39,14 +39,14 @@ invariant_of-shared g c =
 pub returns-clause-only : goal.returns-clause-only
 returns-clause-only g c =
     let room = c.room.ensures ∙ ap (λ (x : EngineState g.row.D.Denot). x.room) c.engine.ensures.state in
-    let is = c.told_turn.ensures ∙ ap (λ n. told_turn n c.turn-done.result) room in
+    let is = c.told_turn.ensures ∙ ap (λ n. told_turn n c.turn_kept-done.result) room in
     subst (λ (a : Result TurnDone Refusal). IfErr a (λ r. IsTurnFault r ⊎ (r ≡ JournalFull))) (sym is)
-    (turn-only c.shared.inside.session.engine c.turn-done.new.self.engine c.turn-done.result
-    c.turn-done.ensures.answered)
+    (turn-only c.shared.inside.session.engine c.turn_kept-done.new.self.engine c.turn_kept-done.result
+    c.turn_kept-done.ensures.answered)
 
 pub returns-clause-full : goal.returns-clause-full
 returns-clause-full g c = λ full.
     let room = c.room.ensures ∙ ap (λ (x : EngineState g.row.D.Denot). x.room) c.engine.ensures.state in
-    let is = c.told_turn.ensures ∙ ap (λ n. told_turn n c.turn-done.result) room in
-    turn-full c.shared.inside.session.engine c.turn-done.new.self.engine c.turn-done.result
-    c.turn-done.ensures.answered (sym is ∙ full)
+    let is = c.told_turn.ensures ∙ ap (λ n. told_turn n c.turn_kept-done.result) room in
+    turn-full c.shared.inside.session.engine c.turn_kept-done.new.self.engine c.turn_kept-done.result
+    c.turn_kept-done.ensures.answered (sym is ∙ full)
