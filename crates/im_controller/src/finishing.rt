@@ -45,15 +45,32 @@ pub struct Finished<D: Disk> {
 /// has failed, the commands that it left in doubt may be there too, all of them or none. If there is a plan, it has
 /// these.
 ///
-/// Each file that a crash may have left at the time of a line or later has all accepted commands of the trace up to
-/// that line. No line has an earlier time than one before it. So what a receipt tells is on the disk from then on: its
-/// history and its time are the trace's, as [`Recording::knows`] and [`Recording::times`] say.
+/// [`finish_kept`] also says since when each line is kept.
 ///
 /// Under a plan, an answered entry of a planned request has its result by the plan. Once the whole plan is served, the
 /// memory that was opened and the plan alone say what is kept, whatever the threads did. A plan that isn't served yet
 /// may be gone on with ([`resume_planned`](crate::resume_planned)), after a crash too
 /// ([`stopped_runs_end_as_one`](crate::stopped_runs_end_as_one)).
 pub fn finish<D: Disk, K: Name, R: Wait>(
+    rt: &R,
+    controller: Controller<D, K>,
+    ports: Vec<Port<K>>,
+) -> Finished<D>
+    ensures legal { IsLegal K.origin.memory result.trace.items }
+    ensures end { end_of K.origin.memory result.trace.items ≡ result.session.engine.memory }
+    ensures recorded { result.trace.recorded ≡ K.origin.book.recorded }
+    ensures planned { EndsBy K.origin.memory K.origin.plan result.trace.items result.session.engine.memory }
+    ensures put { IsSessionOf D.Disk K.origin result.trace.items result.session }
+    ensures came { HaveCome K.origin result.trace ports.items result.left result.came result.claimed }
+{
+    finish_kept(rt, controller, ports)
+}
+
+/// Does what [`finish`] does. Each file that a crash may have left at the time of a line or later has all accepted
+/// commands of the trace up to that line, and since the trace began it has what was put then. No line has an earlier
+/// time than one before it. So what a receipt tells is on the disk from then on: its history and its time are the
+/// trace's, as [`Recording::knows`] and [`Recording::times`] say.
+pub fn finish_kept<D: Disk, K: Name, R: Wait>(
     rt: &R,
     controller: Controller<D, K>,
     ports: Vec<Port<K>>,

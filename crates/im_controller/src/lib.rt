@@ -24,7 +24,7 @@ mod standing; // How things stand.
 mod stops; // Laws of planned runs that are stopped.
 
 pub use controller::Controller;
-pub use finishing::{Finished, finish};
+pub use finishing::{Finished, finish, finish_kept};
 pub use im_queue::{Ask, ServerState, stuck_is_each};
 pub use im_trace::{
     Found, LineLedger, Marked, Name, Prefix, Receipt, Recording, Shown, Since, Tally, Traced, When,

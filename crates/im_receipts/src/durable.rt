@@ -6,7 +6,7 @@ ghost use Rattle.im_controller.specs.Chains.{IsOpened};
 ghost use Rattle.im_controller.specs.Kept.{IsSessionOf, KeptSince};
 ghost use Rattle.im_receipts.specs.Durable.{StaysDurable, StaysFound};
 
-use im_controller::{Controller, Finished, Found, Name, Port, Prefix, Receipt, When, finish};
+use im_controller::{Controller, Finished, Found, Name, Port, Prefix, Receipt, When, finish_kept};
 use im_disk::Disk;
 use im_laws::{entry_lasts, repeat_is_told_again};
 use std::sync::Wait;
@@ -31,7 +31,7 @@ fn finish_with<D: Disk, K: Name, R: Wait>(
         came,
         left,
         claimed,
-    } = finish(rt, controller, ports);
+    } = finish_kept(rt, controller, ports);
     history.order(history);
     trace.knows(history);
     trace.times(when);

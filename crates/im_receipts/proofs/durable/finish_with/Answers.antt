@@ -16,10 +16,10 @@ returns-clause-time g c = c.times.ensures.time
 
 pub returns-clause-keeps : goal.returns-clause-keeps
 returns-clause-keeps g c =
-    subst (λ (r : RecordingState). KeptSince _ g.K.Name.origin r.items r.times c.finish-session.result.session)
-    (sym (c.times.ensures.same ∙ c.knows.ensures.same)) c.finish-session.ensures.keeps
+    subst (λ (r : RecordingState). KeptSince _ g.K.Name.origin r.items r.times c.finish_kept-session.result.session)
+    (sym (c.times.ensures.same ∙ c.knows.ensures.same)) c.finish_kept-session.ensures.keeps
 
 pub returns-clause-put : goal.returns-clause-put
 returns-clause-put g c =
-    subst (λ (r : RecordingState). IsSessionOf _ g.K.Name.origin r.items c.finish-session.result.session)
-    (sym (c.times.ensures.same ∙ c.knows.ensures.same)) c.finish-session.ensures.put
+    subst (λ (r : RecordingState). IsSessionOf _ g.K.Name.origin r.items c.finish_kept-session.result.session)
+    (sym (c.times.ensures.same ∙ c.knows.ensures.same)) c.finish_kept-session.ensures.put

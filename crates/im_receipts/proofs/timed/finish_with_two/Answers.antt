@@ -12,8 +12,8 @@ returns g c = record {
   order = λ honest begins.
       let one = c.args.one.now in
       let two = c.args.two.now in
-      let trace = c.finish-session.result.trace in
-      let kept = c.finish-session.ensures.keeps honest in
+      let trace = c.finish_kept-session.result.trace in
+      let kept = c.finish_kept-session.ensures.keeps honest in
       let same = c.knows.ensures.same in
       let later = subst (λ (h : List Line). IsPrefix h trace.items) c.history.ensures c.knows.ensures.known in
       both-at one.time two.time (time_at trace.times (length one.history)) (time_at trace.times (length two.history))

@@ -10,7 +10,7 @@ use Rattle.im_controller.specs.Planned.{EndsBy}
 use Rattle.im_controller.specs.State.{PortState}
 use Rattle.im_controller.specs.Kept.{IsSessionOf, KeepsSince}
 use Rattle.im_controller.proofs.PlannedLemmas.{ends-by}
-use Rattle.im_controller.proofs.finishing.finish.Goals as goal
+use Rattle.im_controller.proofs.finishing.finish_kept.Goals as goal
 
 pub returns-clause-came : goal.returns-clause-came
 returns-clause-came g c =
