@@ -11,7 +11,7 @@ use Rattle.im_types.specs.Changes.{changes_of, shown_by}
 use Rattle.im_laws.proofs.Tests.{true_false}
 use Rattle.im_disk.specs.declared.disk.Disk.{Ghosts}
 use Rattle.im_engine.specs.State.{EngineState}
-use Rattle.im_session.specs.Keeping.{KeepsPut}
+use Rattle.im_session.specs.Keeping.{KeepsPut, MakesFewCalls}
 use Rattle.im_glass.specs.Panes.{PaneView}
 use Rattle.im_trace.specs.Log.{LogState}
 use Rattle.im_controller.specs.State.{SharedState}
@@ -19,7 +19,7 @@ use Rattle.im_queue.specs.Members.{AreOneOfEach, AreSureBehind, IsCut, AreFreeFo
 use Rattle.im_controller.specs.Admitted.{free_lines, places_with, Admits}
 use Rattle.im_controller.specs.Planned.{AreOnPlan, StartsBy}
 use Rattle.im_controller.specs.Groups.{served_answer, with_all_unclaimed, lines_left, AreAnswersTo, MembersAnswered}
-use Rattle.im_controller.specs.Groups.{changes_put_all, LendsGroup, MakesFewCalls, MembersPut}
+use Rattle.im_controller.specs.Groups.{changes_put_all, LendsGroup, MembersPut}
 use Rattle.im_controller.proofs.AdmitLemmas.{admit-cut, admit-apart, admit-sure, admit-few, admit-free, admit-trace}
 use Rattle.im_controller.proofs.AdmitLemmas.{admit-limit, admit-planned, admit-all}
 use Rattle.im_controller.proofs.GroupLemmas.{Fits, members-fit, members-room}

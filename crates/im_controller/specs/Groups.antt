@@ -14,13 +14,11 @@ use Rattle.im_types.specs.declared.changes.Change.{Change}
 use Rattle.im_types.specs.Contents.{Contents}
 use Rattle.im_types.specs.Trace.{answer_to}
 use Rattle.im_disk.specs.declared.disk.Disk.{Ghosts}
-use Rattle.im_disk.specs.Since.{CallsAtMost}
 use Rattle.im_groups.specs.Commands.{places_behind}
 use Rattle.im_engine.specs.State.{EngineState}
-use Rattle.im_engine.specs.Commands.{CommandsAnswered, commands_put, each_refused}
-use Rattle.im_engine.specs.Groups.{calls_for_group}
+use Rattle.im_engine.specs.Commands.{CommandsAnswered, each_refused}
 use Rattle.im_session.specs.Kept.{SessionState}
-use Rattle.im_session.specs.Keeping.{KeepsPut}
+use Rattle.im_session.specs.Keeping.{KeepsPut, MakesFewCalls}
 use Rattle.im_session.specs.Serving.{served_together}
 use Rattle.im_trace.specs.Lines.{LineCounts, leaves_line, left_lines, memory_after, counts_after}
 use Rattle.im_trace.specs.Log.{ReceiptState, LogState, plain, IsOf, with_unclaimed}
@@ -79,11 +77,6 @@ pub record MembersPut {D : Type 0} (old : SessionState D) (room : ℕ) (members 
   pub full : old.engine.failed ≡ false → room ≡ 0 → new ≡ old
   pub dead : old.engine.failed ≡ true → new ≡ old
   pub put : 0 < room → new ≡ served_together old members new.engine
-
--- no more calls of the disk than the engine makes for these commands
-abbrev pub MakesFewCalls : {D : Type 0} → Ghosts D → SessionState D → List Command → SessionState D → Type 0
-MakesFewCalls disk old members new = disk.honest new.engine.disk → CallsAtMost disk.past old.engine.disk new.engine.disk
-    (calls_for_group (length (commands_put old.engine members)))
 
 -- ---- what a group comes to
 

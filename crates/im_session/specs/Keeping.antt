@@ -5,7 +5,9 @@ use Rattle.im_types.specs.Meaning.{Means}
 use Rattle.im_types.specs.Run.{after}
 use Rattle.im_disk.specs.declared.disk.Disk.{Ghosts}
 use Rattle.im_disk.specs.Moment.{LeftSince}
-use Rattle.im_disk.specs.Since.{LeavesWithin}
+use Rattle.im_disk.specs.Since.{CallsAtMost, LeavesWithin}
+use Rattle.im_engine.specs.Commands.{commands_put}
+use Rattle.im_engine.specs.Groups.{calls_for_group}
 use Rattle.im_session.specs.Kept.{SessionStart, SessionState}
 
 -- the file means the memory after a prefix of these commands that has at least so many of them
@@ -28,3 +30,8 @@ pub record KeepsPut {D : Type 0} (disk : Ghosts D) (old new : SessionState D) : 
   pub honest : disk.honest new.engine.disk → disk.honest old.engine.disk
   pub leaves : disk.honest new.engine.disk → LeavesWithin disk.now disk.past old.engine.disk new.engine.disk
       (MeansFrom new.start (new.put ++ new.doubt) (length old.put))
+
+-- it makes no more calls of the disk than the engine for these commands
+abbrev pub MakesFewCalls : {D : Type 0} → Ghosts D → SessionState D → List Command → SessionState D → Type 0
+MakesFewCalls disk old members new = disk.honest new.engine.disk → CallsAtMost disk.past old.engine.disk new.engine.disk
+    (calls_for_group (length (commands_put old.engine members)))

@@ -5,9 +5,8 @@ ghost use Rattle.im_disk.specs.Since.{CallsAtMost, CallsBy};
 ghost use Rattle.im_checkpoint.specs.Turns.{most_calls};
 ghost use Rattle.im_groups.specs.Ahead.{ServesPrefix};
 ghost use Rattle.im_engine.specs.Commands.{CommandsAnswered, commands_put};
-ghost use Rattle.im_engine.specs.Groups.{GroupCalls, calls_for_group};
 ghost use Rattle.im_engine.specs.Run.{Answered, SweepAnswered, TurnAnswered, calls_for};
-ghost use Rattle.im_session.specs.Keeping.{KeepsPut};
+ghost use Rattle.im_session.specs.Keeping.{KeepsPut, MakesFewCalls};
 ghost use Rattle.im_session.specs.Serving.{Rests, served_one, served_together};
 
 use crate::calls::GroupFound;
@@ -49,10 +48,7 @@ impl<D: Disk> Session<D> {
         ensures put { self.new ≡ served_together self.old (take (length served.new.items) members.now.items)
             self.new.engine }
         ensures keeps { KeepsPut D.Disk self.old self.new }
-        ensures calls { D.honest self.new.engine.disk → GroupCalls D.past self.old.engine.disk self.new.engine.disk
-            self.new.engine.failed
-            (calls_for_group
-            (length (commands_put self.old.engine (take (length served.new.items) members.now.items)))) }
+        ensures few { MakesFewCalls D.Disk self.old (take (length served.new.items) members.now.items) self.new }
     {
         let failed = self.engine.failed();
         let places = self.engine.places();

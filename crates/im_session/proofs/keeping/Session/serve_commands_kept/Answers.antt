@@ -39,5 +39,5 @@ returns-clause-keeps g c =
     (commands_go g.D.Disk c.self.inside.engine c.serve_commands.new.self _ c.serve_commands.new.served.items
     c.serve_commands.ensures.answered c.serve_commands.ensures.runs))
 
-pub returns-clause-calls : goal.returns-clause-calls
-returns-clause-calls g c = rw (← c.self.view_is) c.serve_commands.ensures.runs.calls
+pub returns-clause-few : goal.returns-clause-few
+returns-clause-few g c = rw (← c.self.view_is) (λ honest. (c.serve_commands.ensures.runs.calls honest).most)
