@@ -65,13 +65,14 @@ put_ahead-requires g c = record {
 
 pub receipt-requires : goal.receipt-requires
 receipt-requires g c =
+    let done = c.serve_kept-answer in
     let e = c.shared.inside.session.engine in
     let state = c.engine-engine.ensures.state in
     let now = c.engine-after.ensures.state in
     let alive : e.failed ≡ false = ap (λ (x : EngineState g.row.D.Denot). x.failed) (sym state)
     ∙ sym c.failed.ensures.failed ∙ c.if-failed.false in
-    let shown = lend-shown g.K.Name.origin.memory e c.serve_kept-answer.new.self.engine c.args.command.now
-    c.serve_kept-answer.result c.serve_kept-answer.ensures.answered alive c.memory.result.now.contents c.from-places.result
+    let shown = lend-shown g.K.Name.origin.memory e done.new.self.engine c.args.command.now
+    done.result done.ensures.answered alive c.memory.result.now.contents c.from-places.result
     (c.memory.ensures ∙ ap (λ (x : EngineState g.row.D.Denot). x.memory) state)
     (c.from-places.ensures ∙ c.room-2.ensures ∙ ap (λ (x : EngineState g.row.D.Denot). x.room) state)
     c.shared.inside.pane c.put_ahead.new.pane c.show_put-told.new.pane
@@ -88,8 +89,9 @@ receipt-requires g c =
 
 pub invariant_of-shared : goal.invariant_of-shared
 invariant_of-shared g c =
+    let done = c.serve_kept-answer in
     let k = g.K.Name.origin in let m = k.memory in let plan = k.plan in
-    let s = c.shared.inside.session in let t = c.serve_kept-answer.new.self in
+    let s = c.shared.inside.session in let t = done.new.self in
     let e = s.engine in let f = t.engine in let trace = c.shared.inside.log.state.trace in
     let state = c.engine-engine.ensures.state in
     let now = c.engine-after.ensures.state in
@@ -98,9 +100,9 @@ invariant_of-shared g c =
     let failed = c.failed-in-Ok.ensures.failed ∙ ap (λ (x : EngineState g.row.D.Denot). x.failed) now in
     let lines = ap (λ (l : LogState). l.trace) c.leave.ensures.log in
     let ends = c.leave.ensures.end
-    ∙ ap (λ (n : Contents). memory_after n (Commands c.args.command.now) c.serve_kept-answer.result) c.shared.invariant.0
-    ∙ sym (answered-memory e f c.args.command.now c.serve_kept-answer.result c.serve_kept-answer.ensures.answered alive) in
-    let shown = lend-shown m e f c.args.command.now c.serve_kept-answer.result c.serve_kept-answer.ensures.answered alive
+    ∙ ap (λ (n : Contents). memory_after n (Commands c.args.command.now) done.result) c.shared.invariant.0
+    ∙ sym (answered-memory e f c.args.command.now done.result done.ensures.answered alive) in
+    let shown = lend-shown m e f c.args.command.now done.result done.ensures.answered alive
     c.memory.result.now.contents c.from-places.result
     (c.memory.ensures ∙ ap (λ (x : EngineState g.row.D.Denot). x.memory) state)
     (c.from-places.ensures ∙ c.room-2.ensures ∙ ap (λ (x : EngineState g.row.D.Denot). x.room) state)
@@ -111,9 +113,9 @@ invariant_of-shared g c =
     let on = on-command m plan c.args.command.now (keeps-starts m plan trace c.shared.invariant.8)
     (ap (λ (p : Option (List Request)). has_command p c.args.command.now) (sym c.shared.invariant.7)
     ∙ sym c.has_command.ensures ∙ c.if-not-has_command.false) in
-    let keeps = c.serve_kept-answer.ensures.keeps in
+    let keeps = done.ensures.keeps in
     let next = session_lent g.D.Disk k trace s t c.shared.invariant.4 keeps c.leave.new.self.state.trace
-    c.args.command.now c.serve_kept-answer.result c.serve_kept-answer.ensures.answered alive c.serve_kept-answer.ensures.put
+    c.args.command.now done.result done.ensures.answered alive done.ensures.put
     c.shared.invariant.0 lines on in (
       ends,
       shown.ends,
@@ -129,13 +131,14 @@ invariant_of-shared g c =
       c.shared.invariant.6,
       c.shared.invariant.7,
       subst (λ (ls : List Line). KeepsTo m plan ls) (sym lines)
-          (keeps-line m trace (Commands c.args.command.now) c.serve_kept-answer.result plan c.shared.invariant.8 on),
+          (keeps-line m trace (Commands c.args.command.now) done.result plan c.shared.invariant.8 on),
     )
 
 pub returns-in-Ok-clause-lends : goal.returns-in-Ok-clause-lends
 returns-in-Ok-clause-lends g c =
+    let done = c.serve_kept-answer in
     let e = c.shared.inside.session.engine in
-    let f = c.serve_kept-answer.new.self.engine in
+    let f = done.new.self.engine in
     let state = c.engine-engine.ensures.state in
     let now = c.engine-after.ensures.state in
     let alive : e.failed ≡ false = ap (λ (x : EngineState g.row.D.Denot). x.failed) (sym state)
@@ -143,15 +146,15 @@ returns-in-Ok-clause-lends g c =
     let at = time_at c.leave.new.self.times (length c.leave.new.self.state.trace) in
     let time = length (g.D.Disk.past f.disk) in
     let is = c.receipt.ensures.receipt
-    ∙ ap (λ l. receipt_for c.leave.new.self.state.trace at l c.args.command.now c.serve_kept-answer.result)
+    ∙ ap (λ l. receipt_for c.leave.new.self.state.trace at l c.args.command.now done.result)
     c.show_put-told.ensures.told
     ∙ receipt-at c.leave.new.self.state.trace at time c.show_put-told.new.pane.shown c.args.command.now
-    c.serve_kept-answer.result
+    done.result
     (λ left. c.leave.ensures.time left ∙ ap (λ d. length (g.D.Disk.past d))
     (c.disk.ensures ∙ ap (λ (x : EngineState g.row.D.Denot). x.disk) now)) in
     let room = some_room c.room.result _ _ c.if-room-eq0.false c.room.ensures.room in
     let shown = lend-shown g.K.Name.origin.memory e f c.args.command.now
-    c.serve_kept-answer.result c.serve_kept-answer.ensures.answered alive c.memory.result.now.contents c.from-places.result
+    done.result done.ensures.answered alive c.memory.result.now.contents c.from-places.result
     (c.memory.ensures ∙ ap (λ (x : EngineState g.row.D.Denot). x.memory) state)
     (c.from-places.ensures ∙ c.room-2.ensures ∙ ap (λ (x : EngineState g.row.D.Denot). x.room) state)
     c.shared.inside.pane c.put_ahead.new.pane c.show_put-told.new.pane
@@ -161,7 +164,7 @@ returns-in-Ok-clause-lends g c =
     c.shared.inside.log.state.trace c.leave.new.self.state.trace c.shared.invariant.0 c.shared.invariant.1
     (ap (λ (l : LogState). l.trace) c.leave.ensures.log) in
     let s' : SharedState g.row.D.Denot = record {
-      session = c.serve_kept-answer.new.self;
+      session = done.new.self;
       log = c.leave.new.self.state;
       servers = c.shared.inside.servers;
       shown = c.show_put-told.new.pane.shown;
@@ -169,19 +172,20 @@ returns-in-Ok-clause-lends g c =
     subst (λ (s : SharedState g.row.D.Denot). Lends g.D.Disk g.K.Name.origin s c.args.tally.now
     c.args.command.now c.receipt.result s' c.leave.new.tally) c.shared.view_is
     (lends-served g.D.Disk g.K.Name.origin _ s' c.args.tally.now c.leave.new.tally c.args.command.now
-    c.serve_kept-answer.result c.receipt.result is alive room
+    done.result c.receipt.result is alive room
     (ap (λ (p : Option (List Request)). has_command p c.args.command.now) (sym c.shared.invariant.7)
     ∙ sym c.has_command.ensures ∙ c.if-not-has_command.false)
-    c.serve_kept-answer.ensures.answered c.leave.ensures.log refl c.leave.ensures.tally shown.pane.is)
+    done.ensures.answered c.leave.ensures.log refl c.leave.ensures.tally shown.pane.is)
 
 pub returns-in-Ok-clause-put : goal.returns-in-Ok-clause-put
 returns-in-Ok-clause-put g c =
-    let t = c.serve_kept-answer.new.self in
+    let done = c.serve_kept-answer in
+    let t = done.new.self in
     let same = sym (ap plain c.receipt.ensures.receipt
-    ∙ plain-receipt c.leave.new.self.state.trace _ c.show_put-told.result c.args.command.now c.serve_kept-answer.result) in
+    ∙ plain-receipt c.leave.new.self.state.trace _ c.show_put-told.result c.args.command.now done.result) in
     subst (λ (s : SharedState g.row.D.Denot). t ≡ served_one s.session c.args.command.now (plain c.receipt.result)
     t.engine) c.shared.view_is
-    (c.serve_kept-answer.ensures.put ∙ ap (λ (a : Result Outcome Refusal). served_one c.shared.inside.session
+    (done.ensures.put ∙ ap (λ (a : Result Outcome Refusal). served_one c.shared.inside.session
     c.args.command.now a t.engine) same)
 
 pub returns-in-Ok-clause-keeps : goal.returns-in-Ok-clause-keeps
@@ -190,11 +194,12 @@ returns-in-Ok-clause-keeps g c = subst (λ (s : SharedState g.row.D.Denot). Keep
 
 pub returns-in-Ok-clause-planned : goal.returns-in-Ok-clause-planned
 returns-in-Ok-clause-planned g c =
+    let done = c.serve_kept-answer in
     let m = g.K.Name.origin.memory in let trace = c.shared.inside.log.state.trace in
     tells-of m g.K.Name.origin.plan c.leave.new.self.state.trace c.receipt.result
     (subst (λ (ls : List Line). KeepsTo m g.K.Name.origin.plan ls)
     (sym (ap (λ (l : LogState). l.trace) c.leave.ensures.log))
-    (keeps-line m trace (Commands c.args.command.now) c.serve_kept-answer.result g.K.Name.origin.plan c.shared.invariant.8
+    (keeps-line m trace (Commands c.args.command.now) done.result g.K.Name.origin.plan c.shared.invariant.8
     (on-command m g.K.Name.origin.plan c.args.command.now
     (keeps-starts m g.K.Name.origin.plan trace c.shared.invariant.8)
     (ap (λ (p : Option (List Request)). has_command p c.args.command.now) (sym c.shared.invariant.7)

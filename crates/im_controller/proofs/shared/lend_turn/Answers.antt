@@ -16,8 +16,8 @@ returns-clause-same g c = subst (λ (s : SharedState g.row.D.Denot). Rests s.ses
     c.shared.view_is c.turn_kept-done.ensures.same
 
 pub returns-clause-keeps : goal.returns-clause-keeps
-returns-clause-keeps g c = subst (λ (s : SharedState g.row.D.Denot). KeepsPut g.D.Disk s.session c.turn_kept-done.new.self)
-    c.shared.view_is c.turn_kept-done.ensures.keeps
+returns-clause-keeps g c = subst (λ (s : SharedState g.row.D.Denot). KeepsPut g.D.Disk s.session
+    c.turn_kept-done.new.self) c.shared.view_is c.turn_kept-done.ensures.keeps
 
 pub invariant_of-shared : goal.invariant_of-shared
 invariant_of-shared g c =
