@@ -1,7 +1,7 @@
 use Rattle.std.proofs.Common.{refl}
 use Rattle.im_session.proofs.CallLemmas.{sweep_goes}
 use Rattle.im_session.proofs.KeptLemmas.{keeps_still, kept_still, memory_stays}
-use Rattle.im_session.proofs.keeping.Session.sweep_kept.Goals as goal
+use Rattle.im_session.proofs.session.Session.sweep_kept.Goals as goal
 
 pub invariant_of-self : goal.invariant_of-self
 invariant_of-self g c =
