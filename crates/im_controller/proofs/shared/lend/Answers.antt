@@ -1,4 +1,4 @@
-use Rattle.std.proofs.Common.{◌≡◌, false, List, Option, Result, length, refl, sym, ap, ◌∙◌, subst}
+use Rattle.std.proofs.Common.{◌≡◌, false, List, Option, Result, Err, length, refl, sym, ap, ◌∙◌, subst}
 use Rattle.im_types.specs.declared.commands.Call.TheVariants.{Command as Commands}
 use Rattle.im_types.specs.declared.commands.Line.{Line}
 use Rattle.im_types.specs.declared.commands.Outcome.{Outcome}
@@ -44,10 +44,16 @@ pub returns-then-not-has_command-clause-keeps : goal.returns-then-not-has_comman
 returns-then-not-has_command-clause-keeps g c = keeps_none g.D.Disk c.args.shared.now.session
 
 pub returns-in-Err-clause-put : goal.returns-in-Err-clause-put
-returns-in-Err-clause-put g c = refused_same c.args.shared.now.session c.args.command.now NoMemory refl
+returns-in-Err-clause-put g c =
+    let old = c.shared.inside.session in
+    subst (λ (s : SharedState g.row.D.Denot). old ≡ served_one s.session c.args.command.now (Err NoMemory) old.engine)
+    c.shared.view_is (refused_same old c.args.command.now NoMemory refl)
 
 pub returns-in-Err-clause-keeps : goal.returns-in-Err-clause-keeps
-returns-in-Err-clause-keeps g c = keeps_none g.D.Disk c.args.shared.now.session
+returns-in-Err-clause-keeps g c =
+    let old = c.shared.inside.session in
+    subst (λ (s : SharedState g.row.D.Denot). KeepsPut g.D.Disk s.session old) c.shared.view_is
+    (keeps_none g.D.Disk old)
 
 pub leave-requires-clause-is_so : goal.leave-requires-clause-is_so
 leave-requires-clause-is_so g c = λ told.
