@@ -15,10 +15,9 @@ use Rattle.im_laws.proofs.Tests.{true_or_false, true_false}
 use Rattle.im_checkpoint.proofs.Fitting.{none_or_some}
 use Rattle.im_engine.specs.State.{EngineState}
 use Rattle.im_engine.specs.Run.{Answered, is_device}
-use Rattle.im_engine.specs.Commands.{commands_put}
-use Rattle.im_session.specs.Put.{doubted_by, doubted_of, sure_by, sure_of}
+use Rattle.im_session.specs.Put.{doubted_by, sure_by}
 use Rattle.im_session.specs.Kept.{SessionState, session_of}
-use Rattle.im_session.specs.Serving.{CommandRefused, CommandServed, Rests, served_one, served_together}
+use Rattle.im_session.specs.Serving.{CommandRefused, CommandServed, Rests, served_one}
 use Rattle.im_session.proofs.CallLemmas.{not_device}
 
 ok_err : (x : Outcome) (e : Refusal) → ◌≡◌ {A = Result Outcome Refusal} (Ok x) (Err e) → ⊥
@@ -146,13 +145,3 @@ pub refused_same : {D : Type 0} (s : SessionState D) (c : Command) (r : Refusal)
 refused_same s c r none = sym (ap₂ (λ (put doubt : List Command). session_of s.start put doubt s.engine)
     (append-nil s.put)
     (ap (λ l. s.doubt ++ l) (not_device s.engine.memory c r none) ∙ append-nil s.doubt))
-
--- a session that has failed stays as it is
-pub together_dead : {D : Type 0} (old new : SessionState D) (members : List Command) → old.engine.failed ≡ true
-    → new.engine ≡ old.engine → new ≡ served_together old members new.engine → new ≡ old
-together_dead {D} old new members dead same is =
-    let put = commands_put old.engine members in
-    is ∙ ap (λ (e : EngineState D). served_together old members e) same
-    ∙ ap (λ (b : Bool). session_of old.start (old.put ++ sure_of b put) (old.doubt ++ doubted_of b b put) old.engine) dead
-    ∙ ap₂ (λ (sure doubt : List Command). session_of old.start sure doubt old.engine) (append-nil old.put)
-    (append-nil old.doubt)
