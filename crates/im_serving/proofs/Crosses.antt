@@ -10,6 +10,7 @@ use Rattle.im_memory.specs.contracts.memory.Memory as Memory
 use Rattle.im_checkpoint.specs.contracts.checkpoint.Checkpoint as Checkpoint
 use Rattle.im_engine.specs.contracts.engine.Engine as Engine
 use Rattle.im_session.specs.contracts.session.Session as Session
+use Rattle.im_noted.proofs.NoteList.TheLaws.TheKnot as noted
 use Rattle.im_trace.specs.contracts.books.Books as Books
 use Rattle.im_trace.specs.contracts.log.Unclaimed as Unclaimed
 use Rattle.im_trace.specs.contracts.traced.Traced as Traced
@@ -54,7 +55,7 @@ module _ (D : RattleType) (d : disk.Ghosts D.Denot) where
   Engine-send s = let m = Memory-send in let k = Checkpoint-send in search (sendable, crosses) depth 40
 
   pub Session-send : IsSend D → IsSend (Session.the_field D d).row
-  Session-send s = let e = Engine-send s in search (sendable, crosses, snapshot_send) depth 40
+  Session-send s = let e = Engine-send s in search (sendable, crosses, snapshot_send, noted.crosses) depth 40
 
 pub Unclaimed-send : IsSend Unclaimed.the_field.row
 Unclaimed-send = search (sendable, crosses) depth 40 fits 30000
