@@ -21,5 +21,5 @@ returns-clause-keeps g c =
 
 pub returns-clause-put : goal.returns-clause-put
 returns-clause-put g c =
-    subst (λ (r : RecordingState). IsSessionOf _ g.K.Name.origin r.items c.finish_kept-session.result.session)
+    subst (λ (r : RecordingState). IsSessionOf g.D.Disk g.K.Name.origin r.items c.finish_kept-session.result.session)
     (sym (c.times.ensures.same ∙ c.knows.ensures.same)) c.finish_kept-session.ensures.put
