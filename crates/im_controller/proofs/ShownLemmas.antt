@@ -195,7 +195,7 @@ module _ {D : Type 0} (disk : Ghosts D) (k : Origin) (s s' : SharedState D) (t t
         off = λ _ _ lacks. absurd (true_false (sym has ∙ lacks));
         served = λ _ _ _. inl (
           subst (λ (x : Result Outcome Refusal). Answered s.session.engine command x s'.session.engine) same
-          answered,
+              answered,
           record { log = log ∙ ap (with_line s.log (Commands command)) same; servers = servers },
         );
         tally = tally ∙ ap (λ x. counts_after k.marks t (left_lines (Commands command) x)) same;

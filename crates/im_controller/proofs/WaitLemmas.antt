@@ -112,25 +112,25 @@ module _ {D : Type 0} (m : Contents) (seen : List Line) (s1 : SharedState D) (e 
       ∙ ap is_answered (sym is)
 
   module _ (marks : Line → Bool) (s2 : SharedState D) (t t' : LineCounts)
-    (end : end_of m seen ≡ s2.session.engine.memory) where
-      err-room : (r : Refusal) → Looks marks s1 t e n (Err r) s2 t' → r ≡ Stalled → s1.session.engine.failed ≡ false
-          → (length s1.log.trace < s1.log.limit) ⊎ (s1.log.limit ≤ length s1.log.trace)
-          → is_answered (entry_under (end_of m seen) e n) ≡ false
-      err-room r l stalled alive (inl room) =
-          let it = l.found alive room in refused-entry s2 r end it.2 it.0
-      err-room r l stalled alive (inr over) = absurd (not-stalled r TraceFull full-other (l.full alive over).0 stalled)
+      (end : end_of m seen ≡ s2.session.engine.memory) where
+    err-room : (r : Refusal) → Looks marks s1 t e n (Err r) s2 t' → r ≡ Stalled → s1.session.engine.failed ≡ false
+        → (length s1.log.trace < s1.log.limit) ⊎ (s1.log.limit ≤ length s1.log.trace)
+        → is_answered (entry_under (end_of m seen) e n) ≡ false
+    err-room r l stalled alive (inl room) =
+        let it = l.found alive room in refused-entry s2 r end it.2 it.0
+    err-room r l stalled alive (inr over) = absurd (not-stalled r TraceFull full-other (l.full alive over).0 stalled)
 
-      err-life : (r : Refusal) → Looks marks s1 t e n (Err r) s2 t' → r ≡ Stalled → (failed : Bool)
-          → s1.session.engine.failed ≡ failed → is_answered (entry_under (end_of m seen) e n) ≡ false
-      err-life r l stalled true dead = absurd (not-stalled r Failed failed-other (l.dead dead).0 stalled)
-      err-life r l stalled false alive =
-          err-room r l stalled alive (below_or_from (length s1.log.trace) s1.log.limit)
+    err-life : (r : Refusal) → Looks marks s1 t e n (Err r) s2 t' → r ≡ Stalled → (failed : Bool)
+        → s1.session.engine.failed ≡ failed → is_answered (entry_under (end_of m seen) e n) ≡ false
+    err-life r l stalled true dead = absurd (not-stalled r Failed failed-other (l.dead dead).0 stalled)
+    err-life r l stalled false alive =
+        err-room r l stalled alive (below_or_from (length s1.log.trace) s1.log.limit)
 
-      -- a collect is refused otherwise
-      pub looks-stalls : (f : Result FoundState Refusal) → Looks marks s1 t e n (found_entry f) s2 t'
-          → StallsAt m seen e n f
-      looks-stalls (Ok found) l = tt
-      looks-stalls (Err r) l = λ stalled. err-life r l stalled s1.session.engine.failed refl
+    -- a collect is refused otherwise
+    pub looks-stalls : (f : Result FoundState Refusal) → Looks marks s1 t e n (found_entry f) s2 t'
+        → StallsAt m seen e n f
+    looks-stalls (Ok found) l = tt
+    looks-stalls (Err r) l = λ stalled. err-life r l stalled s1.session.engine.failed refl
 
 stalled-failed : ◌≢◌ {A = Result Ask Refusal} (Err Stalled) (Err Failed)
 stalled-failed e = cc

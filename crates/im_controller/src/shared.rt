@@ -122,7 +122,9 @@ pub fn lend<D: Disk, K: Name, R: Wait>(
             // A stop in it leaves the command on the disk, whole, or not at all: its answer isn't given before.
             let answer = shared.session.serve_kept(command);
             let after = shared.session.engine();
-            shared.log.leave(tally, Call::Command(*command), answer, after.disk());
+            shared
+                .log
+                .leave(tally, Call::Command(*command), answer, after.disk());
             let told = show_put(rt, &mut shared.pane, after.failed(), put);
             shared.log.receipt(told, command, answer)
         }
