@@ -29,7 +29,7 @@ use Rattle.im_session.proofs.ServedLemmas.{undoubted, unsure}
 
 -- ---- a command
 
-not_device : (m : Contents) (c : Command) (r : Refusal) → is_device r ≡ false → doubted_by m c (Err r) ≡ []
+pub not_device : (m : Contents) (c : Command) (r : Refusal) → is_device r ≡ false → doubted_by m c (Err r) ≡ []
 not_device m c r e = by_test (is_accepted m c) (is_device r) e
   where
     by_test : (b p : Bool) → p ≡ false → (if b && p then c ∷ [] else []) ≡ []

@@ -18,6 +18,7 @@ use Rattle.im_engine.specs.Run.{Answered, is_device}
 use Rattle.im_session.specs.Put.{doubted_by, sure_by}
 use Rattle.im_session.specs.Kept.{SessionState, session_of}
 use Rattle.im_session.specs.Serving.{CommandRefused, CommandServed, Rests, served_one}
+use Rattle.im_session.proofs.CallLemmas.{not_device}
 
 ok_err : (x : Outcome) (e : Refusal) → ◌≡◌ {A = Result Outcome Refusal} (Ok x) (Err e) → ⊥
 ok_err x e is = cc
@@ -147,3 +148,10 @@ rests_refused {D} old new c rests = record {
   doubt = inl (ap (λ (s : SessionState D). s.doubt) rests.same);
   memory = rests.memory;
 }
+
+-- what a session comes to by a refusal that no call of the disk caused
+pub refused_same : {D : Type 0} (s : SessionState D) (c : Command) (r : Refusal) → is_device r ≡ false
+    → s ≡ served_one s c (Err r) s.engine
+refused_same s c r none = sym (ap₂ (λ (put doubt : List Command). session_of s.start put doubt s.engine)
+    (append-nil s.put)
+    (ap (λ l. s.doubt ++ l) (not_device s.engine.memory c r none) ∙ append-nil s.doubt))
