@@ -39,7 +39,7 @@ use Rattle.im_session.specs.Put.{sure_by, doubted_by, sure_of, doubted_of}
 use Rattle.im_session.specs.Kept.{Kept, SessionStart, SessionState}
 use Rattle.im_session.specs.Keeping.{KeepsPut, KeptFrom}
 use Rattle.im_session.specs.Serving.{Rests, served_one, served_together}
-use Rattle.im_session.proofs.CallLemmas.{unsure}
+use Rattle.im_session.proofs.ServedLemmas.{unsure}
 use Rattle.im_session.proofs.KeepingLemmas.{now_kept, still_kept}
 use Rattle.im_trace.specs.Lines.{leaves_line, line_of, left_lines, time_at, times_of, NeverGoBack}
 use Rattle.im_trace.specs.Log.{TimedLog, GoesOnAt}

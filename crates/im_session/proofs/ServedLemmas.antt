@@ -18,7 +18,6 @@ use Rattle.im_engine.specs.Run.{Answered, is_device}
 use Rattle.im_session.specs.Put.{doubted_by, sure_by}
 use Rattle.im_session.specs.Kept.{SessionState, session_of}
 use Rattle.im_session.specs.Serving.{CommandRefused, CommandServed, Rests, served_one}
-use Rattle.im_session.proofs.CallLemmas.{not_device}
 
 ok_err : (x : Outcome) (e : Refusal) → ◌≡◌ {A = Result Outcome Refusal} (Ok x) (Err e) → ⊥
 ok_err x e is = cc
@@ -32,6 +31,14 @@ pub undoubted : (m : Contents) (c : Command) (a : Result Outcome Refusal) → is
     → doubted_by m c a ≡ []
 undoubted m c (Ok o) e = refl
 undoubted m c (Err r) e = ap (λ (b : Bool). if b && is_device r then c ∷ [] else []) e
+
+pub not_device : (m : Contents) (c : Command) (r : Refusal) → is_device r ≡ false → doubted_by m c (Err r) ≡ []
+not_device m c r e = by_test (is_accepted m c) (is_device r) e
+  where
+    by_test : (b p : Bool) → p ≡ false → (if b && p then c ∷ [] else []) ≡ []
+    by_test true true e = absurd (cc)
+    by_test true false e = refl
+    by_test false p e = refl
 
 -- an answer that is no refusal is the step's
 record Did {D : Type 0} (mid new : EngineState D) (c : Command) (o : Outcome) : Type 0 where
