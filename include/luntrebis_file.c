@@ -19,6 +19,7 @@ struct ltf {
     struct ltf_counts work;
     struct ltf_fault failure;
     int file;
+    off_t length; /* of the file, which an image keeps */
     char *note; /* the path of the note of a failed sync */
     uint8_t *bytes; /* of writes that touch */
     size_t room;
@@ -117,9 +118,20 @@ static size_t carry_out_writes(struct ltf *file, size_t index) {
     return write_all(file->file, file->bytes, (size_t)(end - begin), (off_t)begin) < 0 ? 0 : index;
 }
 
-/* Carries out all steps of the last call, in their order. Returns 0 or LT_DEVICE. */
+/* Whether the file has its length. One that another program cuts isn't made to grow again, with zeros in a hole: they
+ * would read as free cells. */
+static int has_length(const struct ltf *file) {
+    struct stat seen;
+    if (fstat(file->file, &seen) < 0) return 0;
+    errno = EIO;
+    return seen.st_size == file->length;
+}
+
+/* Carries out all steps of the last call, in their order. One look at the length is for all its writes. Returns 0 or
+ * LT_DEVICE. */
 static int carry_out(struct ltf *file) {
     size_t count = lt_steps(&file->image);
+    if (count > 0 && !lost(file) && !has_length(file)) lose(file, 0);
     for (size_t index = 0; index < count && !lost(file);) {
         if (lt_step_at(&file->image, index).kind == LT_SYNC) {
             file->work.syncs++;
@@ -480,6 +492,7 @@ static int form(struct ltf *file, const char *path, const char *forming) {
     answer = lt_format(sizes.cells, sizes.elements, sizes.slots, &file->image);
     if (answer == 0) answer = forget_woken(file, MEMBERS);
     if (answer == 0 && (ftruncate(file->file, length) < 0 || fsync(file->file) < 0)) answer = -errno;
+    file->length = length;
     if (answer == 0) answer = begin(file);
     if (answer == 0 && link(forming, path) < 0) answer = -errno;
     unlink(forming);
@@ -542,6 +555,7 @@ static int read_image(struct ltf *file) {
     size_t length = 0;
     int answer = note_stands(file->note) ? LTF_UNSYNCED : settle(file);
     if (answer == 0) answer = read_all(file->file, &bytes, &length);
+    file->length = (off_t)length;
     if (answer == 0) answer = lt_open(bytes, length, &file->image);
     if (answer == 0) answer = lt_limits(bytes, length, &file->limits);
     if (answer == 0) answer = forget_woken(file, MEMBERS);

@@ -1,17 +1,18 @@
 /* The work of `im_bench put_and_take N` through the library for C: the cost of a step through it beside the same call
- * in Rattle. */
+ * in Rattle. There a request is one call, with the step inside. So here it is one call, too: that of the library. */
 #include <stdlib.h>
 #include <stdio.h>
 #include "luntrebis.h"
 static struct lt_memory memory;
 static uint64_t sum;
-static struct lt_outcome step(uint8_t tag, uint16_t e, uint32_t a, uint64_t n, uint64_t v) {
+#define INSIDE static inline __attribute__((always_inline))
+INSIDE struct lt_outcome step(uint8_t tag, uint16_t e, uint32_t a, uint64_t n, uint64_t v) {
     struct lt_command c = {tag, e, a, n, v}; struct lt_outcome o = {0,0,0};
     lt_memory_step(memory, &c, &memory, &o);
     if (o.refusal) { printf("refused %d\n", o.refusal); exit(1); }
     return o;
 }
-static void ask(uint32_t index, uint8_t tag, uint32_t a, uint64_t v) {
+INSIDE void ask(uint32_t index, uint8_t tag, uint32_t a, uint64_t v) {
     uint16_t e = (uint16_t)(index % 64); uint64_t n = index / 64 + 1;
     if (n > 64 && n % 64 == 1) step(LT_CONFIRM, e, 0, n, 0);
     struct lt_outcome o = step(tag, e, a, n, v);

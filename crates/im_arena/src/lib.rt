@@ -95,6 +95,7 @@ impl Arena {
     }
 
     /// Returns the number of nodes that hold no waiter.
+    #[inline(always)]
     pub fn free_count(&self) -> u32
         ensures free { result ≡ free self.now.held }
         ensures sum { result + sum_by length self.now.held.lists ≡ self.now.held.nodes }
@@ -103,6 +104,7 @@ impl Arena {
     }
 
     /// Returns whether no node is free.
+    #[inline(always)]
     pub fn is_full(&self) -> bool
         ensures { IsTrue result ↔ (free self.now.held ≡ 0) }
     {
@@ -110,6 +112,7 @@ impl Arena {
     }
 
     /// Returns whether a list has no waiter.
+    #[inline(always)]
     pub fn is_empty(&self, list: u32) -> bool
         requires { list < length self.now.held.lists }
         ensures { IsTrue result ↔ (list_at self.now.held list ≡ []) }
@@ -171,6 +174,7 @@ impl Arena {
 
     /// Puts a waiter at the end of a list and returns `true`. If no node is free, it returns `false` and changes
     /// nothing.
+    #[inline(always)]
     pub fn push_back(&mut self, list: u32, waiter: Waiter) -> bool
         requires { list < length self.old.held.lists }
         ensures room { IsTrue result ↔ 0 < free self.old.held }
@@ -195,6 +199,7 @@ impl Arena {
     }
 
     /// Takes the first waiter off a list, frees its node and returns the waiter. Returns `None` if the list is empty.
+    #[inline(always)]
     pub fn pop_front(&mut self, list: u32) -> Option<Waiter>
         requires { list < length self.old.held.lists }
         ensures first { result ≡ slice_get (list_at self.old.held list) 0 }

@@ -122,15 +122,6 @@ abbrev pub has_device : List Served → Bool
 has_device [] = false
 has_device (answer ∷ served) = says_device answer || has_device served
 
--- the answer says that a command was put on the disk, or is in doubt
-abbrev pub may_be_put : Result Outcome Refusal → Bool
-may_be_put (Ok outcome) = true
-may_be_put (Err refusal) = is_device refusal
-
--- the command, if it was accepted and put on the disk, or may have been
-abbrev pub put_by_command : Contents → Command → Result Outcome Refusal → List Command
-put_by_command m command answer = if is_accepted m command && may_be_put answer then command ∷ [] else []
-
 -- ---- what was acknowledged
 
 -- the command of a member, if it changes the memory and was served

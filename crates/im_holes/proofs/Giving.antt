@@ -13,7 +13,6 @@ use Rattle.im_holes.specs.Holes.{AreHoles, IsRenewed, AreHeld, MeetsHole, joined
 use Rattle.im_holes.proofs.Runs.{neither, not-there, hole-at, IsFront, IsBack, joined-one, joined-others}
 use Rattle.im_holes.proofs.Runs.{joined-all, Outside}
 use Rattle.im_holes.proofs.Shown.{cell_by, length-cells, get-cells, begin-own, begin-none, begin-hole, hole-begins}
-use Rattle.im_holes.proofs.Cuts.{begin-past}
 use Rattle.im_holes.proofs.Kept.{patched, patched-in, patched-out, AreHoles-renewed}
 
 -- a cell after a fill
@@ -286,7 +285,7 @@ module _ (begins begins2 : List Bool) (tags tags2 nodes : List ℕ) (base n a z 
 
   pub given-holes : begins2 ≡ joined_marks begins a (base + n) → tags2 ≡ joined_tags tags a z
       → (nodes2 : List ℕ) (y : ℕ)
-      → (base + n < length tags → y ≡ base + n) → IsRenewed begins2 tags2 nodes nodes2 a y
+      → (base + n < z → y ≡ base + n) → IsRenewed begins2 tags2 nodes nodes2 a y
       → AreHoles begins2 tags2 nodes2
   given-holes marks_are tags_are nodes2 y at renewed =
       let c = are marks_are tags_are in
@@ -300,9 +299,11 @@ module _ (begins begins2 : List Bool) (tags tags2 nodes : List ℕ) (base n a z 
         | inr apart ↦ begin-joined (free_at (told_cells begins tags)) begins begins2 tags tags2 base n a z h.count
             h.own some
             inside not_free the-front the-back c k one apart
-        | inl e ↦ elim (cases_lt (base + n) (length tags)) [
+        | inl e ↦ elim (cases_lt (base + n) z) [
           | inl less ↦ absurd (two (e ∙ sym (at less)))
-          | inr past ↦ begin-past begins2 tags2 k (let l = c.longs in omega (arith, h.count))
-              ∙ sym (begin-past begins tags k (omega (arith, h.count)))
+          | inr none ↦
+              let was : begin_at begins tags (base + n) ≡ 0 = omega arith in
+              begin-none begins2 tags2 k (ap (mark_at begins2) e ∙ c.end_mark)
+              ∙ sym (ap (begin_at begins tags) e ∙ was)
         ]
       ]) renewed

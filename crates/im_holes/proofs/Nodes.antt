@@ -4,7 +4,7 @@ use Rattle.std.proofs.Common.{inr, refl}
 use Rattle.std.proofs.Common.{sym, ap, ◌∙◌, arith, length-set}
 use Rattle.std.proofs.lemmas.Bool.{cases_eq, cases_lt}
 use Rattle.std.proofs.lemmas.List.{get_or-set_same, get_or-set_other}
-use Rattle.im_holes.specs.Tree.{at_node, row_length, leaf_count, IsLarger, HasMaxima, IsFirst, IsUpTo}
+use Rattle.im_holes.specs.Tree.{at_node, row_length, leaf_count, IsLarger, HasMaxima, IsFirst, IsUpTo, IsStart}
 
 -- a node stays joined where it and the two below it stay
 pub joined-kept : (old new : List ℕ) (k : ℕ) → at_node new k ≡ at_node old k → at_node new (2 * k)
@@ -102,16 +102,60 @@ pub record Reaches (nodes : List ℕ) (n k : ℕ) : Type 0 where
   pub room : n ≤ at_node nodes k
   pub before : (i : ℕ) → leaf_count nodes ≤ i → i < lowest height k → at_node nodes i < n
 
-pub Reaches-root : (nodes : List ℕ) (n height : ℕ) → leaf_count nodes ≡ row_length height → n ≤ at_node nodes 1
-    → Reaches nodes n 1
-Reaches-root nodes n height power room = let l = lowest-root height in record {
-  height = height;
-  some = omega arith;
-  low = omega arith;
-  high = omega arith;
+-- the first node, so many rows below a node on the left edge, is one too
+lowest-edge : (h m : ℕ) → lowest h (row_length m) ≡ row_length (h + m)
+lowest-edge zero m = let e : m ≡ 0 + m = omega arith in ap row_length e
+lowest-edge (suc h) m = let e : h + suc m ≡ suc h + m = omega arith in lowest-edge h (suc m) ∙ ap row_length e
+
+-- a lower row is no shorter
+row_length-upto : (h m : ℕ) → row_length h ≤ row_length (h + m)
+row_length-upto zero m = let e : m ≡ 0 + m = omega arith in let l = leaves-some m in omega (arith, ap row_length e)
+row_length-upto (suc h) m =
+    let e : suc (h + m) ≡ suc h + m = omega arith in
+    let l = row_length-upto h m in
+    omega (arith, ap row_length e)
+
+pub Reaches-start : (nodes : List ℕ) (n k : ℕ) → IsStart nodes n k → Reaches nodes n k
+Reaches-start nodes n k s =
+    let at : lowest s.below k ≡ leaf_count nodes =
+    ap (lowest s.below) s.edge ∙ lowest-edge s.below s.above ∙ sym s.rows in
+    let rows = s.rows in
+    let edge = s.edge in
+    let some = leaves-some s.above in
+    let wide = row_length-upto s.below s.above in
+    record {
+      height = s.below;
+      some = omega arith;
+      low = omega arith;
+      high = omega arith;
+      room = s.room;
+      before = λ i from upto. absurd (omega arith);
+    }
+
+pub IsStart-root : (nodes : List ℕ) (n height : ℕ) → leaf_count nodes ≡ row_length height → n ≤ at_node nodes 1
+    → IsStart nodes n 1
+IsStart-root nodes n height power room = let e : height ≡ height + 0 = omega arith in record {
+  above = 0;
+  below = height;
+  edge = refl;
+  rows = power ∙ ap row_length e;
   room = room;
-  before = λ i from upto. absurd (omega arith);
 }
+
+-- the node above the first 256 leaves
+pub IsStart-near : (nodes : List ℕ) (n k height : ℕ) → leaf_count nodes ≡ row_length height
+    → k ≡ leaf_count nodes / 256 → 0 < k → n ≤ at_node nodes k → IsStart nodes n k
+IsStart-near nodes n k zero power is some room = absurd (omega arith)
+IsStart-near nodes n k (suc zero) power is some room = absurd (omega arith)
+IsStart-near nodes n k (suc (suc zero)) power is some room = absurd (omega arith)
+IsStart-near nodes n k (suc (suc (suc zero))) power is some room = absurd (omega arith)
+IsStart-near nodes n k (suc (suc (suc (suc zero)))) power is some room = absurd (omega arith)
+IsStart-near nodes n k (suc (suc (suc (suc (suc zero))))) power is some room = absurd (omega arith)
+IsStart-near nodes n k (suc (suc (suc (suc (suc (suc zero)))))) power is some room = absurd (omega arith)
+IsStart-near nodes n k (suc (suc (suc (suc (suc (suc (suc zero))))))) power is some room = absurd (omega arith)
+IsStart-near nodes n k (suc (suc (suc (suc (suc (suc (suc (suc m)))))))) power is some room =
+    let e : suc (suc (suc (suc (suc (suc (suc (suc m))))))) ≡ 8 + m = omega arith in
+    record { above = m; below = 8; edge = omega arith; rows = power ∙ ap row_length e; room = room }
 
 module _ (nodes : List ℕ) (joined : HasMaxima nodes) (n k : ℕ) (inner : k < leaf_count nodes) where
   left-by : (h : ℕ) (r : Reaches nodes n k) → r.height ≡ h → n ≤ at_node nodes (2 * k) → Reaches nodes n (2 * k)

@@ -55,6 +55,14 @@ pub record IsFirst (nodes : List ℕ) (n leaf : ℕ) : Type 0 where
   pub room : n ≤ at_node nodes (leaf_count nodes + leaf)
   pub before : (j : ℕ) → j < leaf → at_node nodes (leaf_count nodes + j) < n
 
+-- a node on the left edge, so many rows below the root and above the leaves, with at least this number
+pub record IsStart (nodes : List ℕ) (n k : ℕ) : Type 0 where
+  pub above : ℕ
+  pub below : ℕ
+  pub edge : k ≡ row_length above
+  pub rows : leaf_count nodes ≡ row_length (below + above)
+  pub room : n ≤ at_node nodes k
+
 -- a tree with at least this many leaves, all 0; the number of its leaves is a power of two
 pub record IsZeroTree (nodes : List ℕ) (leaves : ℕ) : Type 0 where
   pub height : ℕ

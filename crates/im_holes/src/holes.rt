@@ -61,6 +61,16 @@ fn take_at(begins: &mut [bool], tags: &mut [u32], nodes: &mut [u32], base: u32, 
     renew_two(nodes, begins, tags, base, rest);
 }
 
+// Returns the other cell whose leaf changes where cells up to `end` are freed: the one at `end`, if a hole began there.
+// The new hole begins at `from`, and ends at `to`.
+#[inline(always)]
+fn other_end(from: usize, end: usize, to: usize) -> usize
+    ensures joined { end < to → result ≡ end }
+    ensures inside { (count : ℕ) → from < count → to ≤ count → result < count }
+{
+    if end < to { end } else { from }
+}
+
 // Frees `n` held cells from `base` on.
 fn give_at(begins: &mut [bool], tags: &mut [u32], nodes: &mut [u32], base: u32, n: u32)
     requires holes { AreHoles begins.old tags.old nodes.old }
@@ -73,8 +83,8 @@ fn give_at(begins: &mut [bool], tags: &mut [u32], nodes: &mut [u32], base: u32, 
     let from = front_of(begins, tags, base as usize);
     let to = behind_of(begins, tags, end);
     join(begins, tags, from, end, to);
-    let rest = end.min(tags.len() - 1);
-    renew_two(nodes, begins, tags, from, rest);
+    let other = other_end(from, end, to);
+    renew_two(nodes, begins, tags, from, other);
 }
 
 impl Holes {

@@ -1,5 +1,5 @@
 //! Boundary tags: a mark at the first cell of a hole, and the hole's length at its first and its last cell.
-ghost use Rattle.std.specs.Prelude.{◌≡◌, ℕ, false, slice_set, ◌+◌, ◌/◌, ◌<◌, ◌≤◌, ◌^◌, length, replicate};
+ghost use Rattle.std.specs.Prelude.{◌≡◌, ℕ, false, slice_set, ◌+◌, ◌*◌, ◌/◌, ◌<◌, ◌≤◌, ◌^◌, length, replicate};
 ghost use Rattle.std.specs.Prelude.{IfOk};
 ghost use Rattle.im_holes.specs.Tree.{leaf_count, IsMaxTree};
 ghost use Rattle.im_holes.specs.Holes.{mark_at, kept_at, begin_at, IsLargest, HasLeaf, IsLeast};
@@ -52,12 +52,31 @@ pub(crate) fn begin(begins: &[bool], tags: &[u32], k: usize) -> u32
     if begins[k] { tags[k] } else { 0 }
 }
 
+// Returns the length of the longest hole that begins among the cells of a leaf that has all its cells. So many steps
+// are laid out one after another.
+#[inline(always)]
+fn longest_in_whole(begins: &[bool], tags: &[u32], leaf: usize) -> u32
+    requires count { length begins.now ≡ length tags.now }
+    requires few { leaf < 2 ^ 32 }
+    requires whole { leaf * PART + PART ≤ length tags.now }
+    ensures { IsLargest (begin_at begins.now tags.now) leaf result }
+{
+    let mut longest = 0;
+    for past in 0..PART {
+        longest = begin(begins, tags, leaf * PART + past).max(longest);
+    }
+    longest
+}
+
 // Returns the length of the longest hole that begins among the cells of a leaf.
 fn longest_in(begins: &[bool], tags: &[u32], leaf: usize) -> u32
     requires count { length begins.now ≡ length tags.now }
     requires few { leaf < 2 ^ 32 }
     ensures { IsLargest (begin_at begins.now tags.now) leaf result }
 {
+    if leaf * PART + PART <= tags.len() {
+        return longest_in_whole(begins, tags, leaf);
+    }
     let mut longest = 0;
     for at in leaf * PART..(leaf * PART + PART).min(tags.len()) {
         longest = begin(begins, tags, at).max(longest);

@@ -2,7 +2,7 @@
 //! caller gives the numbers of the leaves.
 ghost use Rattle.std.specs.Prelude.{◌≡◌, ℕ, false, slice_set, max, ◌+◌, ◌*◌, ◌<◌, ◌≤◌, ◌^◌, length, IfOk};
 ghost use Rattle.im_holes.specs.Tree.{at_node, row_length, leaf_count, IsMaxTree, IsPut, IsUp, IsUpTo, IsFirst};
-ghost use Rattle.im_holes.specs.Tree.{IsZeroTree};
+ghost use Rattle.im_holes.specs.Tree.{IsStart, IsZeroTree};
 
 use std::alloc::{AllocError, Global};
 
@@ -64,6 +64,27 @@ pub(crate) fn put(nodes: &mut [u32], leaf: usize, new: u32)
     renew_path(nodes, from);
 }
 
+// How many of the first leaves are looked at first. They are for the cells that are taken first of all.
+const NEAR: usize = 256;
+
+// Returns the node above the first leaves if one of them has at least the number `n`. Else returns the root, which must
+// have it.
+#[inline(always)]
+fn start_for(nodes: &[u32], n: u32) -> usize
+    requires power { (height : ℕ) × (leaf_count nodes.now ≡ row_length height) }
+    requires tree { IsMaxTree nodes.now }
+    requires room { n ≤ at_node nodes.now 1 }
+    ensures { IsStart nodes.now n result }
+{
+    let near = nodes.len() / 2 / NEAR;
+    if near > 0 {
+        if node(nodes, near) >= n {
+            return near;
+        }
+    }
+    1
+}
+
 /// Returns the first leaf with at least the number `n`. The root must have at least `n`.
 pub(crate) fn first_from(nodes: &[u32], n: u32) -> usize
     requires power { (height : ℕ) × (leaf_count nodes.now ≡ row_length height) }
@@ -72,7 +93,7 @@ pub(crate) fn first_from(nodes: &[u32], n: u32) -> usize
     ensures { IsFirst nodes.now n result }
 {
     let leaves = nodes.len() / 2;
-    let mut k = 1;
+    let mut k = start_for(nodes, n);
     while k < leaves {
         if node(nodes, 2 * k) >= n {
             k = 2 * k;

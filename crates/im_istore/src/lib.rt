@@ -60,7 +60,7 @@ pub fn look_to_write(table: &mut CellTable, a: u32, kind: Kind) -> Result<Cell, 
 
 /// Puts `who` behind the requests that wait for the cell at an address. The cell is in a block and has no value. The
 /// call takes a node.
-#[inline(never)]
+#[inline(always)]
 pub fn wait(table: &mut CellTable, arena: &mut Arena, a: u32, who: Waiter)
     requires some { IsSome (slot_at table.old a) }
     requires inside { a < length arena.old.held.lists }

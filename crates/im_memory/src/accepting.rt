@@ -4,7 +4,7 @@ ghost use Rattle.im_types.specs.Step.{step, is_accepted};
 ghost use Rattle.im_memory.specs.Touched.{touched, ChangesOnly};
 
 use crate::memory::Memory;
-use crate::serving::serve;
+use crate::serving::serve_apart;
 use im_types::{Command, Entry, Outcome, Refusal, Request};
 
 impl Memory {
@@ -35,7 +35,7 @@ impl Memory {
         ensures changes { let command = Command.Request request.now in
             ChangesOnly (touched self.old command) self.old.records self.new.records }
     {
-        serve(
+        serve_apart(
             &mut self.table,
             &mut self.arena,
             &mut self.sessions,

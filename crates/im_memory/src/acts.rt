@@ -1,9 +1,10 @@
 //! The effect of an operation on the cells, and the requests that it answers.
-ghost use Rattle.std.specs.Prelude.{◌≡◌, ◌<◌, false, List, Option, length};
+ghost use Rattle.std.specs.Prelude.{◌≡◌, ◌<◌, false, List, Option, length, Ok};
 ghost use Rattle.im_types.specs.declared.operations.Kind.TheVariants.{I, M};
 ghost use Rattle.im_types.specs.Act.{act, allocate, at_cell, block_with_base, put, release_block, reset_block, store};
 ghost use Rattle.im_types.specs.Contents.{held_at};
-ghost use Rattle.im_types.specs.Window.{answer_each};
+ghost use Rattle.im_types.specs.declared.commands.Judged.TheVariants.{Fresh};
+ghost use Rattle.im_types.specs.Window.{judge, note, answer_each};
 ghost use Rattle.im_laws.specs.Blocks.{TellsOnly};
 ghost use Rattle.im_cell.specs.declared.slots.Slot.{Slot};
 ghost use Rattle.im_cell.specs.Slots.{is_releasable};
@@ -19,7 +20,7 @@ use im_cell::CellTable;
 use im_istore::{fetch, next_reader};
 use im_mstore::take;
 use im_sessions::Sessions;
-use im_types::{Entry, Kind, Op, Reply, Waiter};
+use im_types::{Entry, Kind, Op, Reply, Request, Waiter};
 
 /// The waiting requests that an operation answers.
 #[derive(Clone, Copy)]
@@ -40,6 +41,7 @@ pub struct Acted {
 }
 
 // Returns the effect of an operation that answers no waiting request.
+#[inline(always)]
 fn told(entry: Entry) -> Acted
     ensures { result ≡ record { entry = entry; resumed = Resumed.Nobody } }
 {
@@ -50,6 +52,7 @@ fn told(entry: Entry) -> Acted
 }
 
 // Does a store. Its readers stay on the cell's list until `resume` answers them.
+#[inline(always)]
 fn store(table: &mut CellTable, arena: &Arena, a: u32, value: u64) -> Acted
     requires { Agree table.old arena.now }
     ensures acted { let cells = cells_of table.old arena.now in HasActed table.new arena.now result
@@ -69,6 +72,7 @@ fn store(table: &mut CellTable, arena: &Arena, a: u32, value: u64) -> Acted
 }
 
 // Does a put. If a take waits, it is taken off the cell's list.
+#[inline(always)]
 fn put(table: &mut CellTable, arena: &mut Arena, a: u32, value: u64) -> Acted
     requires { Agree table.old arena.old }
     ensures acted { let cells = cells_of table.old arena.old in HasActed table.new arena.new result
@@ -150,31 +154,66 @@ fn reset(table: &mut CellTable, arena: &Arena, a: u32) -> Reply
     }
 }
 
-/// Does an asker's operation on the cells. A free node must be there, in case the asker waits.
+// Keeps the entry of an operation that answers no waiting request, and returns its effect.
 #[inline(always)]
-pub fn act(table: &mut CellTable, arena: &mut Arena, who: Waiter, op: Op) -> Acted
+fn keep(sessions: &mut Sessions, request: &Request, entry: Entry) -> Acted
+    requires fresh { judge sessions.old request.now ≡ Ok Fresh }
+    ensures told { result ≡ record { entry = entry; resumed = Resumed.Nobody } }
+    ensures noted { sessions.new ≡ note sessions.old request.now result.entry }
+{
+    sessions.note(request, entry);
+    told(entry)
+}
+
+/// Does an asker's operation on the cells, and keeps the new request with its entry. A free node must be there, in case
+/// the asker waits.
+///
+/// Each access keeps its own entry, while it's known which ones it may have: so none is packed by a table of all.
+#[inline(always)]
+pub fn act(
+    table: &mut CellTable,
+    arena: &mut Arena,
+    sessions: &mut Sessions,
+    who: Waiter,
+    request: &Request,
+) -> Acted
     requires agree { Agree table.old arena.old }
     requires room { 0 < free arena.old.held }
-    ensures acted { HasActed table.new arena.new result (act (cells_of table.old arena.old) who op) }
+    requires fresh { judge sessions.old request.now ≡ Ok Fresh }
+    ensures acted { HasActed table.new arena.new result (act (cells_of table.old arena.old) who request.now.op) }
     ensures nodes { arena.new.held.nodes ≡ arena.old.held.nodes }
+    ensures noted { sessions.new ≡ note sessions.old request.now result.entry }
 
     // The records that it may change.
-    ensures changes { ChangesAt (places_in table.old arena.old op) table.old arena.old table.new arena.new }
-    ensures among { AreAmong (places_in table.old arena.old op) result.resumed arena.new }
+    ensures changes { ChangesAt (places_in table.old arena.old request.now.op) table.old arena.old table.new arena.new }
+    ensures among { AreAmong (places_in table.old arena.old request.now.op) result.resumed arena.new }
 {
-    match op {
-        Op::Alloc(kind, n) => told(Entry::Answered(allocate(table, arena, kind, n))),
-        Op::Release(a) => told(Entry::Answered(release(table, arena, a))),
-        Op::Reset(a) => told(Entry::Answered(reset(table, arena, a))),
-        Op::Fetch(a) => told(fetch(table, arena, a, who)),
-        Op::Store(a, value) => store(table, arena, a, value),
-        Op::Take(a) => told(take(table, arena, a, who)),
-        Op::Put(a, value) => put(table, arena, a, value),
+    match request.op {
+        Op::Alloc(kind, n) => keep(
+            sessions,
+            request,
+            Entry::Answered(allocate(table, arena, kind, n)),
+        ),
+        Op::Release(a) => keep(sessions, request, Entry::Answered(release(table, arena, a))),
+        Op::Reset(a) => keep(sessions, request, Entry::Answered(reset(table, arena, a))),
+        Op::Fetch(a) => keep(sessions, request, fetch(table, arena, a, who)),
+        Op::Store(a, value) => {
+            let acted = store(table, arena, a, value);
+            sessions.note(request, acted.entry);
+            acted
+        }
+        Op::Take(a) => keep(sessions, request, take(table, arena, a, who)),
+        Op::Put(a, value) => {
+            let acted = put(table, arena, a, value);
+            sessions.note(request, acted.entry);
+            acted
+        }
     }
 }
 
 // Answers each reader on a list with a value, and takes it off the list. After its store, `im_istore::store_and_drain`
 // does the same, but hands the readers out. This function answers them, and takes no memory.
+#[inline(always)]
 fn drain(sessions: &mut Sessions, arena: &mut Arena, a: u32, value: u64)
     requires awaited { AreAwaited sessions.old (replies_to (list_at arena.old.held a) value) }
     requires listed { a < length arena.old.held.lists }
@@ -193,6 +232,7 @@ fn drain(sessions: &mut Sessions, arena: &mut Arena, a: u32, value: u64)
 }
 
 /// Answers the requests that an operation resumes. After it, table and arena agree.
+#[inline(always)]
 pub fn resume(sessions: &mut Sessions, arena: &mut Arena, resumed: Resumed)
     requires awaited { AreAwaited sessions.old (replies_of resumed arena.old) }
     requires listed { AreListed resumed arena.old }

@@ -185,6 +185,7 @@ impl Memory {
 
     /// Returns the entry that is kept under an element's number. Returns `NoElement` if there is no such element,
     /// `Forgotten` below its window, and `Gap` if the number isn't used yet.
+    #[inline(always)]
     pub fn collect(&self, element: u16, number: u64) -> Result<Entry, Refusal>
         ensures { result ≡ ask self.now.contents.windows (record { element = element; number = number }) }
     {

@@ -26,6 +26,7 @@ use im_istore::{look_to_write, wait};
 use im_types::{Cell, Entry, Kind, Reply, Waiter};
 
 // Returns the cell without a value whose waiters are on this list.
+#[inline(always)]
 fn open_cell(arena: &Arena, list: u32) -> Cell
     requires { list < length arena.now.held.lists }
     ensures { result ≡ open_cell (list_at arena.now.held list) }
@@ -39,7 +40,7 @@ fn open_cell(arena: &Arena, list: u32) -> Cell
 
 // Takes the first request off the list of those that wait for a cell in a block. If others are left, the cell still
 // waits.
-#[inline(never)]
+#[inline(always)]
 fn first_taker(table: &mut CellTable, arena: &mut Arena, a: u32) -> Option<Waiter>
     requires some { IsSome (slot_at table.old a) }
     requires inside { a < length arena.old.held.lists }

@@ -85,6 +85,7 @@ impl Sessions {
     }
 
     /// Keeps a new request with its entry, under its element's next number.
+    #[inline(always)]
     pub fn note(&mut self, request: &Request, entry: Entry)
         requires { judge self.old request.now ≡ Ok Judged.Fresh }
         ensures { self.new ≡ note self.old request.now entry }
@@ -93,6 +94,7 @@ impl Sessions {
     }
 
     /// Answers a request that waits. From now on its entry is the reply.
+    #[inline(always)]
     pub fn answer(&mut self, who: Waiter, reply: Reply)
         requires { ask self.old who ≡ Ok Entry.Waiting }
         ensures { self.new ≡ answer self.old who reply }
@@ -120,6 +122,7 @@ impl Sessions {
 
     /// Returns the entry under an element's number, or why there is none. The refusals are `NoElement`, `Forgotten`
     /// below the window, and `Gap` if no request with this number was served yet.
+    #[inline(always)]
     pub fn entry(&self, element: u16, number: u64) -> Result<Entry, Refusal>
         ensures { result ≡ ask self.now (record { element = element; number = number }) }
     {
@@ -142,6 +145,7 @@ impl Sessions {
     }
 
     // Returns an element's window, or `NoElement`.
+    #[inline(always)]
     fn ring(&self, element: u16) -> Result<&Ring, Refusal>
         ensures { MatchResult result
             (λ ring. slice_get self.now element ≡ Some ring.now)

@@ -48,6 +48,7 @@ impl Model for RingPlace {
 const _: () = prove!(size_of::<RingPlace>() == 32);
 
 // Returns a reply as a flat variant.
+#[inline(always)]
 fn held_by(reply: Reply) -> Held
     ensures { result ≡ held_by reply }
 {
@@ -68,6 +69,7 @@ fn held_by(reply: Reply) -> Held
 }
 
 // Returns an entry as a flat variant.
+#[inline(always)]
 fn held_of(entry: Entry) -> Held
     ensures { result ≡ held_form entry }
 {
@@ -78,6 +80,7 @@ fn held_of(entry: Entry) -> Held
 }
 
 // Returns the entry that a flat variant stands for.
+#[inline(always)]
 fn entry_of(held: Held) -> Entry
     ensures { result ≡ held_entry held }
 {
@@ -100,6 +103,7 @@ fn entry_of(held: Held) -> Entry
 
 impl RingPlace {
     /// Makes a place with this operation and this entry.
+    #[inline(always)]
     pub fn new(op: Op, entry: Entry) -> RingPlace
         ensures { result ≡ record { op = op; entry = entry } }
     {
@@ -110,6 +114,7 @@ impl RingPlace {
     }
 
     /// Returns the operation of this place.
+    #[inline(always)]
     pub fn op(&self) -> &Op
         ensures { result.now ≡ self.now.op }
     {
@@ -117,6 +122,7 @@ impl RingPlace {
     }
 
     /// Returns the entry of this place.
+    #[inline(always)]
     pub fn entry(&self) -> Entry
         ensures { result ≡ self.now.entry }
     {
@@ -134,6 +140,7 @@ impl RingPlace {
     }
 
     /// Returns whether the entry is waiting.
+    #[inline(always)]
     pub fn is_waiting(&self) -> bool
         ensures { result ≡ is_waiting self.now }
     {
@@ -141,6 +148,7 @@ impl RingPlace {
     }
 
     /// Answers the entry: it is this reply from now on.
+    #[inline(always)]
     pub fn answer(&mut self, reply: Reply)
         ensures { self.new ≡ record { op = self.old.op; entry = Answered reply } }
     {

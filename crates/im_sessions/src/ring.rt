@@ -34,6 +34,7 @@ impl Model for Ring {
 }
 
 // Returns the place of the entry with this number.
+#[inline(always)]
 fn place_of(number: u64) -> usize
     ensures { result ≡ ring_place number }
 {
@@ -85,6 +86,7 @@ impl Ring {
     }
 
     /// Returns the base, and the number of the next new request.
+    #[inline(always)]
     pub fn bounds(&self) -> (u64, u64)
         ensures { result ≡ (self.now.base, next_number self.now) }
     {
@@ -97,12 +99,18 @@ impl Ring {
         ensures { result ≡ judge_window request.now (Some self.now) }
     {
         let (base, next) = self.bounds();
+        // First of all what is new: most requests are.
+        if request.number == next && next <= LAST && next - base < WINDOW {
+            return Ok(Judged::Fresh);
+        }
         if request.number < base {
             return Err(Refusal::Forgotten);
         }
         if request.number < next {
             let place = self.at(request.number);
-            return if is_same(place.op(), &request.op) {
+            // A copy, so that a request that is new stays in registers.
+            let op = request.op;
+            return if is_same(place.op(), &op) {
                 Ok(Judged::Repeat(place.entry()))
             } else {
                 Err(Refusal::Mismatch)
@@ -131,6 +139,7 @@ impl Ring {
     }
 
     /// Returns the entry under a number, or why there is none.
+    #[inline(always)]
     pub fn entry(&self, number: u64) -> Result<Entry, Refusal>
         ensures { result ≡ ask_window number (Some self.now) }
     {
@@ -145,6 +154,7 @@ impl Ring {
     }
 
     /// Keeps an operation with its entry, under the next number.
+    #[inline(always)]
     pub fn note(&mut self, op: Op, entry: Entry)
         requires room { length self.old.kept < WINDOW }
         requires to_last { next_number self.old ≤ LAST }
@@ -156,6 +166,7 @@ impl Ring {
     }
 
     /// Answers the entry under a number.
+    #[inline(always)]
     pub fn answer(&mut self, number: u64, reply: Reply)
         requires from_base { self.old.base ≤ number }
         requires below_next { number < next_number self.old }
@@ -196,6 +207,7 @@ impl Ring {
     }
 
     // Returns the place of a number that the window has.
+    #[inline(always)]
     fn at(&self, number: u64) -> &RingPlace
         requires from_base { self.now.base ≤ number }
         requires below_next { number < next_number self.now }

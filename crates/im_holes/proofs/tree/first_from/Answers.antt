@@ -1,9 +1,9 @@
 use Rattle.std.proofs.Common.{arith}
-use Rattle.im_holes.proofs.Nodes.{Reaches-root, Reaches-left, Reaches-right, Reaches-leaf}
+use Rattle.im_holes.proofs.Nodes.{Reaches-start, Reaches-left, Reaches-right, Reaches-leaf}
 use Rattle.im_holes.proofs.tree.first_from.Goals as goal
 
 pub loop-k-init : goal.loop-k-init
-loop-k-init c = Reaches-root c.args.nodes.now c.args.n c.requires.power.0 c.requires.power.1 c.requires.room
+loop-k-init c = Reaches-start c.args.nodes.now c.args.n c.start_for-k.result c.start_for-k.ensures
 
 pub loop-k-preserved-then-node-n : goal.loop-k-preserved-then-node-n
 loop-k-preserved-then-node-n c = Reaches-left c.args.nodes.now c.requires.tree.inner c.args.n c.loop-k.k
