@@ -1,10 +1,12 @@
 -- What the memory answers, and what is put, follows from the commands that were asked ahead.
-use Rattle.std.proofs.Common.{◌≡◌, ◌⊎◌, ◌∙◌, ⊎_elim, ℕ, ◌+◌, List, [], ◌∷◌, ◌++◌, length, true, refl, sym, ap, ap₂}
+use Rattle.std.proofs.Common.{◌≡◌, ◌∙◌, ⊎_elim, ℕ, ◌+◌, List, [], ◌∷◌, ◌++◌, length, true, refl, sym, ap, ap₂}
 use Rattle.std.proofs.Common.{subst}
-use Rattle.std.specs.Prelude.{All, Option, None, Some, Err}
+use Rattle.std.specs.Prelude.{All, Option, None, Some, Result, Err}
 use Rattle.std.proofs.lemmas.List.{append-nil}
 use Rattle.std.proofs.lemmas.List.Elements.{All-head, All-tail}
 use Rattle.im_types.specs.declared.commands.Command.{Command}
+use Rattle.im_types.specs.declared.commands.Outcome.{Outcome}
+use Rattle.im_types.specs.declared.refusals.Refusal.{Refusal}
 use Rattle.im_types.specs.declared.refusals.Refusal.TheVariants.{JournalFull}
 use Rattle.im_types.proofs.Tests.{false_true}
 use Rattle.im_types.specs.Contents.{Contents}
@@ -50,8 +52,8 @@ served_is : (m : Contents) (n : ℕ) (turns : List TurnDone) (here : Point) (com
     → AnswersQuestion m n turns here (Some (asks.Serve command)) answer → HasRoom answer
     → answer ≡ Served command (step m command).answer
 served_is m n turns here command answer (outcome, is, either) room = ⊎_elim
-    (λ told. is ∙ ap (Served command) told)
-    (λ full. absurd (room command (is ∙ ap (Served command) full.1.0)))
+    (λ told. is ∙ ap (λ (r : Result Outcome Refusal). Served command r) told)
+    (λ full. absurd (room command (is ∙ ap (λ (r : Result Outcome Refusal). Served command r) full.1.0)))
     either
 
 told_is : (m : Contents) (n : ℕ) (turns : List TurnDone) (here : Point) (asked : Option Question) (answer : LineAnswer)
