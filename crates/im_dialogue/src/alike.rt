@@ -1,4 +1,4 @@
-//! A law of two dialogues, as the contract of a function that only names another law.
+//! A law of two dialogues, as the contract of a function that does nothing.
 ghost use Rattle.std.specs.Prelude.{◌≡◌, ℕ};
 ghost use Rattle.im_types.specs.Contents.{Contents};
 ghost use Rattle.im_dialogue.specs.Alike.{AskAlike, EndAlike, LeaveOne, LineOf, TalkOf, commands_said};
