@@ -59,17 +59,17 @@ served_is m n turns here command answer (outcome, is, either) room = ⊎_elim
 told_is : (m : Contents) (n : ℕ) (turns : List TurnDone) (here : Point) (asked : Option Question) (answer : LineAnswer)
     → AnswersQuestion m n turns here asked answer → HasRoom answer → is_of_memory asked ≡ true
     → answer ≡ told_on m n asked
-told_is m n turns here (Some (asks.Serve command)) answer it room yes =
+told_is m n turns here (Some (asks.Serve command)) answer it room of_it =
     served_is m n turns here command answer it room
-told_is m n turns here (Some (asks.Look look)) answer it room yes = it
-told_is m n turns here (Some (asks.Window element)) answer it room yes = it
-told_is m n turns here (Some asks.Room) answer it room yes = absurd (false_true yes)
-told_is m n turns here (Some asks.Turn) answer it room yes = absurd (false_true yes)
-told_is m n turns here (Some asks.Count) answer it room yes = it
-told_is m n turns here (Some asks.About) answer it room yes = absurd (false_true yes)
-told_is m n turns here (Some (asks.Backup name)) answer it room yes = absurd (false_true yes)
-told_is m n turns here (Some asks.Quit) answer it room yes = absurd it
-told_is m n turns here None answer it room yes = absurd (false_true yes)
+told_is m n turns here (Some (asks.Look look)) answer it room of_it = it
+told_is m n turns here (Some (asks.Window element)) answer it room of_it = it
+told_is m n turns here (Some asks.Room) answer it room of_it = absurd (false_true of_it)
+told_is m n turns here (Some asks.Turn) answer it room of_it = absurd (false_true of_it)
+told_is m n turns here (Some asks.Count) answer it room of_it = it
+told_is m n turns here (Some asks.About) answer it room of_it = absurd (false_true of_it)
+told_is m n turns here (Some (asks.Backup name)) answer it room of_it = absurd (false_true of_it)
+told_is m n turns here (Some asks.Quit) answer it room of_it = absurd it
+told_is m n turns here None answer it room of_it = absurd (false_true of_it)
 
 -- ---- what is put
 
@@ -135,10 +135,10 @@ last_told : (m : Contents) (p : Point) (x : Exchange) (xs : List Exchange) → A
     → All RoomAt (x ∷ xs) → is_of_memory (asked_of x.line) ≡ true
     → x.answer ≡ told_on (after m (puts m (commands_said xs))) (p.count + length (puts m (commands_said xs)))
     (asked_of x.line)
-last_told m p x xs (turns, (answer, (led, rest))) room yes =
+last_told m p x xs (turns, (answer, (led, rest))) room of_it =
     let before = put_is m p xs rest (All-tail RoomAt x xs room) in
     told_is (after m (put_of m xs)) (p.count + length (put_of m xs)) turns x.here (asked_of x.line) x.answer answer
-    (All-head RoomAt x xs room) yes
+    (All-head RoomAt x xs room) of_it
     ∙ ap (λ (l : List Command). told_on (after m l) (p.count + length l) (asked_of x.line)) before
 
 -- ---- a dialogue
@@ -218,9 +218,9 @@ module _ {D : Type 0} (disk : Ghosts D) (m : Contents) (count : ℕ) (one : Mean
   line_told : (it : LineOf disk m count) → is_of_memory (asked_of it.last.line) ≡ true → it.last.answer
       ≡ told_on (after m (puts m (commands_said it.ahead))) (count + length (puts m (commands_said it.ahead)))
       (asked_of it.last.line)
-  line_told it yes =
+  line_told it of_it =
       let said = line_said it in
-      last_told m said.point it.last it.ahead said.answered said.room yes
+      last_told m said.point it.last it.ahead said.answered said.room of_it
       ∙ ap (λ (n : ℕ). told_on (after m (puts m (commands_said it.ahead)))
       (n + length (puts m (commands_said it.ahead))) (asked_of it.last.line)) said.is
 
@@ -229,11 +229,11 @@ module _ {D : Type 0} (disk : Ghosts D) (m : Contents) (count : ℕ) (one : Mean
 module _ {D E : Type 0} (disk : Ghosts D) (device : Ghosts E) (m : Contents) (count : ℕ) (means : MeansOne) where
   pub answered_alike : (one : LineOf disk m count) (other : LineOf device m count) → AskAlike one other
       → one.last.answer ≡ other.last.answer
-  answered_alike one other (same, (asked, yes)) =
-      line_told disk m count means one yes
+  answered_alike one other (same, (asked, of_it)) =
+      line_told disk m count means one of_it
       ∙ ap₂ (λ (cs : List Command) (q : Option Question). told_on (after m (puts m cs)) (count + length (puts m cs)) q)
       same asked
-      ∙ sym (line_told device m count means other (ap is_of_memory (sym asked) ∙ yes))
+      ∙ sym (line_told device m count means other (ap is_of_memory (sym asked) ∙ of_it))
 
   pub put_alike : (one : LineOf disk m count) (other : LineOf device m count)
       → commands_said one.ahead ≡ commands_said other.ahead → put_of m one.ahead ≡ put_of m other.ahead
