@@ -10,3 +10,4 @@ pub mod FitLemmas
 pub mod DialogueLemmas
 pub mod LineLemmas
 pub mod CountLemmas
+pub mod AlikeLemmas

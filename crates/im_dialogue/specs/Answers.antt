@@ -77,17 +77,11 @@ window_line element name (Err refusal) = element_refused element refusal name
 abbrev pub cells_said : About → List ℕ
 cells_said a = codes "version " ++ decimal a.version ++ codes " cells " ++ decimal a.cells
 
--- elements E slots S
-abbrev pub elements_said : About → List ℕ
-elements_said a = codes " elements " ++ decimal a.elements ++ codes " slots " ++ decimal a.slots
-
--- count N room R: how far it has come
-abbrev pub progress_said : About → List ℕ
-progress_said a = codes " count " ++ decimal a.count ++ codes " room " ++ decimal a.room ++ line_feed
-
--- what `about` says of an image
+-- about version V cells C elements E slots S count N room R: what an image is, and how far it has come
 abbrev pub about_line : About → List ℕ
-about_line a = codes "about " ++ cells_said a ++ elements_said a ++ progress_said a
+about_line a = codes "about " ++ cells_said a
+    ++ (codes " elements " ++ decimal a.elements ++ codes " slots " ++ decimal a.slots)
+    ++ (codes " count " ++ decimal a.count ++ codes " room " ++ decimal a.room ++ line_feed)
 
 -- what a turn did
 abbrev pub turn_text : TurnDone → List ℕ

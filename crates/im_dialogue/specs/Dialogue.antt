@@ -15,11 +15,6 @@ use Rattle.im_text.specs.Printing.{Begins, IsLast}
 use Rattle.im_dialogue.specs.Hearing.{HearsAll}
 use Rattle.im_dialogue.specs.Talk.{AreAnswered, AreKept, Exchange, Outputs, put_of, questions_of, texts_of, with_input}
 
--- a prefix of the text was written, and then at most a refusal
-abbrev pub PrintsThenLast : Option (List ℕ) → Option (List ℕ) → List ℕ → Type 0
-PrintsThenLast was is text =
-    (mid : Option (List ℕ)) × Begins was mid text × ((last : List ℕ) × (IsLast last × Begins mid is last))
-
 -- An image was opened with this engine, and what could be left of the disk before is what could be left then: one of
 -- those files means what the engine is, with at least its room.
 pub record WasOpened {D : Type 0} (disk : Ghosts D) (old : D) (first : EngineState D) : Type 0 where
@@ -53,7 +48,8 @@ pub record TalkClosed {D : Type 0} (disk : Ghosts D) (watch : Bool) (first : Eng
   pub answered : AreAnswered first.memory (point_of first) said
   pub put : session.put ≡ put_of first.memory said
   pub few : length session.doubt ≤ MAX_GROUP
-  pub printed : PrintsThenLast was.text is.text (texts_of watch first.memory said)
+  pub printed : (mid : Option (List ℕ)) × Begins was.text mid (texts_of watch first.memory said)
+      × ((last : List ℕ) × (IsLast last × Begins mid is.text last))
   pub whole : status ≡ 0 → (session.doubt ≡ []) × Appends was.text is.text (texts_of watch first.memory said)
   pub backups : AreKept first.memory was is said
   pub heard : HearsAll was.left (questions_of said) status

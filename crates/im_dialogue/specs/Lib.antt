@@ -11,3 +11,4 @@ pub mod Together
 pub mod Telling
 pub mod Dialogue
 pub mod Serving
+pub mod Alike

@@ -1,6 +1,6 @@
 -- What is shown of a memory by a line that only looks. (Own.)
 use Rattle.std.specs.Prelude.{ℕ, List, [], ◌∷◌, ◌++◌, length, codes, decimal, nat_lt, if◌then◌else◌, Option, None, Some}
-use Rattle.std.specs.Prelude.{option_map, Result, Ok, Err}
+use Rattle.std.specs.Prelude.{option_map, Result, Ok, Err, slice_get}
 use Rattle.im_types.specs.declared.operations.Waiter.{Waiter}
 use Rattle.im_types.specs.declared.operations.Block.{Block}
 use Rattle.im_types.specs.declared.operations.Kept.{Kept as KeptEntry}
@@ -13,7 +13,7 @@ use Rattle.im_types.specs.Window.{bounds}
 use Rattle.im_types.specs.Presences.{presence_in}
 use Rattle.im_text.specs.Texts.{kind_text, line_feed}
 use Rattle.im_dialogue.specs.declared.sort.Sort.TheVariants.{Base, Empty, Waiting, Full, Clashed}
-use Rattle.im_report.specs.Figures.{queue_figures, window_figures}
+use Rattle.im_report.specs.Figures.{kept_in, queue_at, sum_below}
 use Rattle.im_dialogue.specs.Counting.{many_cells}
 
 -- ---- a request and what is kept for it
@@ -30,14 +30,11 @@ recall windows who = recalled who.number (bounds windows who.element) (kept_for 
 
 -- ---- a cell
 
--- E.N behind a space
-abbrev pub queued_text : Waiter → List ℕ
-queued_text who = codes " " ++ decimal who.element ++ codes "." ++ decimal who.number
-
--- the requests that wait, in their order
+-- the requests that wait, in their order: E.N of each, behind a space
 abbrev pub queue_text : List Waiter → List ℕ
 queue_text [] = []
-queue_text (who ∷ others) = queued_text who ++ queue_text others
+queue_text (who ∷ others) =
+    (codes " " ++ decimal who.element ++ codes "." ++ decimal who.number) ++ queue_text others
 
 -- the state of a cell, with its value or the requests that wait at it
 abbrev pub state_text : Option Cell → List Waiter → List ℕ
@@ -77,8 +74,8 @@ states_said m = codes " empty " ++ decimal (many_cells Empty m) ++ codes " waiti
 
 -- kept K deferred D: how many entries are kept, and how many requests wait
 abbrev pub entries_said : Contents → List ℕ
-entries_said m = codes " kept " ++ decimal (window_figures m).kept ++ codes " deferred "
-    ++ decimal (queue_figures m).requests ++ line_feed
+entries_said m = codes " kept " ++ decimal (sum_below (λ k. kept_in (slice_get m.windows k)) (length m.windows))
+    ++ codes " deferred " ++ decimal (sum_below (queue_at m) (length m.cells)) ++ line_feed
 
 -- what `stat` says of a memory
 abbrev pub stat_line : Contents → List ℕ
@@ -86,16 +83,9 @@ stat_line m = blocks_said m ++ states_said m ++ entries_said m
 
 -- ---- help
 
--- the requests of a dialogue
-abbrev pub requests_said : List ℕ
-requests_said = codes "help E.N alloc i LENGTH, E.N alloc m LENGTH, E.N release A, E.N reset A, E.N fetch A, "
-    ++ codes "E.N store A VALUE, E.N take A, E.N put A VALUE, "
-
--- its other lines
-abbrev pub lines_said : List ℕ
-lines_said = codes "collect E.N, entry E.N, confirm E UPTO, window E, cell A, block A, "
-    ++ codes "stat, room, turn, count, about, backup NAME, help, quit" ++ line_feed
-
--- what `help` says
+-- what `help` says: the requests of a dialogue, and its other lines
 abbrev pub help_line : List ℕ
-help_line = requests_said ++ lines_said
+help_line = (codes "help E.N alloc i LENGTH, E.N alloc m LENGTH, E.N release A, E.N reset A, E.N fetch A, "
+    ++ codes "E.N store A VALUE, E.N take A, E.N put A VALUE, ")
+    ++ (codes "collect E.N, entry E.N, confirm E UPTO, window E, cell A, block A, "
+    ++ codes "stat, room, turn, count, about, backup NAME, help, quit" ++ line_feed)

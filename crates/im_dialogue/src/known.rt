@@ -22,14 +22,6 @@ use im_groups::judge_members;
 use im_memory::Memory;
 use im_types::layout::Version;
 use im_types::{Command, LAST, MAX_GROUP, Refusal};
-use std::cmp::min;
-
-/// Returns how many more commands can be accepted.
-pub(crate) fn places_of<D: Disk>(engine: &Engine<D>) -> u64
-    ensures { result ≡ (group_start engine.now).places }
-{
-    min(engine.room() as u64, LAST.saturating_sub(engine.count()))
-}
 
 // Finds which of the members ahead will be put on the disk. Returns whether that is known of all of them.
 fn judge_all<D: Disk>(
@@ -41,7 +33,7 @@ fn judge_all<D: Disk>(
     requires empty { put.old.items ≡ [] }
     ensures { result ≡ true → put.new.items ≡ commands_put engine.now ahead.now }
 {
-    judge_members(engine.memory(), places_of(engine), ahead, put) == ahead.len()
+    judge_members(engine.memory(), engine.places(), ahead, put) == ahead.len()
 }
 
 // Returns the bounds that are moved, or those that were.

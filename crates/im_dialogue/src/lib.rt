@@ -2,6 +2,7 @@
 #![tactic(auto)]
 
 mod about;
+mod alike;
 mod answers;
 mod asking;
 mod backup_name;
@@ -28,6 +29,7 @@ mod together;
 mod watching;
 
 pub use about::About;
+pub use alike::same_lines_are_answered_alike;
 pub use answers::{LineAnswer, add_answer};
 pub use asking::{Question, read_asked};
 pub use backup_name::BackupName;

@@ -9,7 +9,6 @@ ghost use Rattle.im_dialogue.specs.Watching.{told_with};
 use crate::answers::{LineAnswer, add_answer};
 use crate::group_line::GroupLine;
 use crate::grouping::Gathered;
-use crate::known::places_of;
 use crate::saying::{Draft, name_of};
 use crate::watching::told_with;
 use arrayvec::ArrayVec;
@@ -122,7 +121,7 @@ fn make_lines(
 fn lacks_places<D: Disk>(engine: &Engine<D>, group: &Gathered) -> bool
     ensures { result ≡ false → length group.now.members.items ≤ (group_start engine.now).places }
 {
-    places_of(engine) < group.members.len() as u64
+    engine.places() < group.members.len() as u64
 }
 
 /// Serves a group, and prints its answers in the order of its lines, each with what those that watch are told behind
