@@ -3,6 +3,9 @@ use Rattle.im_program.proofs.OkLemmas.{some_each, some_then}
 use Rattle.im_program.proofs.TransferLemmas.{is_of_two, of_two}
 use Rattle.im_program.proofs.work.act.Goals as goal
 
+pub returns-in-Alone-clause-done : goal.returns-in-Alone-clause-done
+returns-in-Alone-clause-done g c = rw c.in-Alone.is c.act_alone-status.ensures.done
+
 pub returns-in-Run-clause-done : goal.returns-in-Run-clause-done
 returns-in-Run-clause-done g c = rw c.in-Run.is c.act_at_once-status.ensures.ran
 
