@@ -65,6 +65,25 @@ what_isnt_seen_is_sent_again_ever_more_seldom_test() ->
     ?assert(Second >= 780),
     ?assertEqual(2, imem_commands:held(C2)).
 
+%% Behind some repeats the leader counts as one that doesn't hear; what is seen meanwhile begins the while anew.
+a_leader_that_takes_nothing_is_unheard_test_() ->
+    {timeout, 40, fun() ->
+        C0 = asked(b, asked(a, begun())),
+        Start = start(),
+        {is_heard, C1} = again(C0),
+        {is_heard, C2} = again(C1),
+        {[_], C3} = imem_commands:seen(Start, 1, C2),
+        Begin = erlang:monotonic_time(millisecond),
+        _ = until_unheard(C3),
+        ?assert(erlang:monotonic_time(millisecond) - Begin > 5000)
+    end}.
+
+until_unheard(C) ->
+    case again(C) of
+        {is_heard, After} -> until_unheard(After);
+        {unheard, After} -> After
+    end.
+
 what_is_seen_isnt_sent_again_test() ->
     C0 = asked(a, begun()),
     Start = start(),
