@@ -38,11 +38,11 @@ WITHIN = 90  # seconds in which members that were cut are alike
 CONTROL = "LD_PRELOAD=/calls.so NO_SYNC=all "  # The syncs of a are left out.
 
 
-def config(host, logs_to, imem, log, memory):
-    """Returns the configuration of a member."""
+def config(host, where, imem):
+    """Returns the configuration of a member in a folder. Ra keeps the paths of its files, so it is the same on the machine and here."""
     nodes = [atom(it) for it in NODES.values()]
     module = {"module": 0, "nodes": nodes, "sizes": SIZES, "snapshot_every": EVERY}
-    return otp.config(logs_to / f"{host}.log", imem=imem, log=log, memory=memory, modules=[module], listeners=[])
+    return otp.config(where / f"{host}.log", imem=imem, log=where / host, memory=where / "memory", modules=[module], listeners=[])
 
 
 def words(host, port):
@@ -59,9 +59,9 @@ def is_answer(entry):
 class Recording:
     """What the disk of a was asked, with the answers that were told meanwhile, and the logs of b and c at their ends."""
 
-    def __init__(self, workshop, room, start, name, system, seed, is_control):
-        self.name, self.system, self.seed = name, system, seed
-        self.workshop, self.room, self.start, self.is_control = workshop, room, start, is_control
+    def __init__(self, workshop, room, where, start, name, system, seed, is_control):
+        self.name, self.system, self.seed, self.where = name, system, seed, where
+        self.workshop, self.start, self.is_control = workshop, start, is_control
         self.disk, self.records, _ = workshop.served(workshop.base(name, system), random.Random(f"member {name} {seed}"))
         self.machine = logs.machine(workshop, room, 768)
         try:
@@ -73,15 +73,15 @@ class Recording:
         status, said = self.machine.ask(f"mount {self.system.type} {self.system.options}")
         if status:
             raise RuntimeError(f"not mounted: {said.strip()}")
-        self.do("ifconfig lo up; mkdir -p /m/log /t/b /t/c /t/memory; sync")
-        for host, log in (("b", "/t/b"), ("c", "/t/c")):
-            self.do(f"echo 00000000000000{HOSTS[host]} > {log}/member")
+        self.do(f"ifconfig lo up; mkdir -p /m/log {self.where}; cd {self.where}; mkdir b c memory; ln -s /m/log a; sync")
+        for host in "bc":
+            self.do(f"echo 00000000000000{HOSTS[host]} > {self.where}/{host}/member")
         self.layer, self.disk.log = dict(self.disk.top), []
         self.do(f"{self.start} -config /a -s imem_members ask make")
         self.begin("a", *("-s", "imem_server"))
         self.begin("c", *("-s", "imem_server"))
         self.begin("b", *("-s", "imem_server", "-s", "imem_member_cut", "work", NODES["a"], NODES["b"]))
-        self.do("until grep -q 'is open' /t/c.log; do sleep 1; done")
+        self.do(f"until grep -q 'is open' {self.where}/c.log; do sleep 1; done")
         self.reach(EARLY)
         self.kill("c")
         self.begin_at = len(self.disk.log)
@@ -93,7 +93,7 @@ class Recording:
         if bad := next((it.raw for it in self.log if is_answer(it) and it.raw.startswith(b"wrong")), None):
             raise RuntimeError(bad.decode())
         self.kill("b")
-        self.do("cd /t && tar cf /m/b.tar b && tar cf /m/c.tar c && sync")
+        self.do(f"cd {self.where} && tar cf /m/b.tar b && tar cf /m/c.tar c && sync")
         shown = guests.shown(self.machine, self.records, ["b.tar", "c.tar"])
         self.others = {it: shown[f"{it}.tar"] for it in "bc"}
 
@@ -122,7 +122,7 @@ class Recording:
         return sum(map(is_answer, list(self.disk.log)))
 
     def logged(self):
-        return self.machine.ask("tail -n 4 /t/*.log /t/*.out; true", 60)[1]
+        return self.machine.ask(f"tail -n 4 {self.where}/*.log /t/*.out; true", 60)[1]
 
 
 class States:
@@ -132,7 +132,7 @@ class States:
         self.it, self.ebin, self.count = recording, ebin, Counter()
         self.dice = random.Random(f"members {recording.name} {recording.seed}")
         self.mounter = recording.workshop.mounter(recording.workshop.base(recording.name, recording.system), recording.layer)
-        self.folder = Path(tempfile.mkdtemp(prefix="members-", dir="/dev/shm"))
+        self.folder, self.room = recording.where, Path(tempfile.mkdtemp(prefix="members-", dir="/dev/shm"))
         self.port, self.seen = self.dice.randrange(20000, 30000), {}
 
     def judge(self, most):
@@ -153,7 +153,8 @@ class States:
                 if place in chosen:
                     self.cut(place, writes, told, last)
         finally:
-            shutil.rmtree(self.folder, ignore_errors=True)
+            shutil.rmtree(self.room, ignore_errors=True)
+            self.folder.unlink(missing_ok=True)
         return self.count
 
     @staticmethod
@@ -193,8 +194,10 @@ class States:
 
     def started(self, packed, other):
         """Starts what the cut left, with another member. Returns what both have, or what is wrong."""
-        shutil.rmtree(self.folder)
-        self.folder.mkdir()
+        shutil.rmtree(self.room)
+        self.room.mkdir()
+        self.folder.unlink(missing_ok=True)
+        self.folder.symlink_to(self.room)
         tarfile.open(fileobj=io.BytesIO(packed)).extractall(self.folder)
         (self.folder / "log").rename(self.folder / "a")
         tarfile.open(fileobj=io.BytesIO(self.it.others[other])).extractall(self.folder)
@@ -210,7 +213,7 @@ class States:
 
     def node(self, host, *more):
         file = self.folder / f"{host}.config"
-        file.write_text(config(host, self.folder, harness.IMEM, self.folder / host, self.folder / "memory"))
+        file.write_text(config(host, self.folder, harness.IMEM))
         paths = [word for it in (self.ebin, *otp.ra()) for word in ("-pa", it)]
         start = ["erl", "-noshell", "-noinput", "+S", "1:1", "+sbwt", "none", *paths, *words(host, self.port)]
         start += ["-config", file, "-s", "imem_server", *more]
@@ -248,8 +251,9 @@ def judge(workshop, systems, most, seed):
     room = workshop.room / "member"
     room.mkdir()
     files, start, ebin = logs.erlang(room, "imem_member_cut.erl")
-    for host, log in (("a", Path("/m/log")), ("b", Path("/t/b")), ("c", Path("/t/c"))):
-        (room / f"{host}.config").write_text(config(host, Path("/t"), Path("/imem"), log, Path("/t/memory")))
+    where = Path(f"/tmp/members-{os.getpid()}")
+    for host in HOSTS:
+        (room / f"{host}.config").write_text(config(host, where, Path("/imem")))
         files[f"{host}.config"] = room / f"{host}.config"
     files |= {"init": workshop.room / "agent", "imem": harness.IMEM, "calls.so": workshop.room / "calls"}
     (room / "first").write_bytes(guests.first_files(workshop.modules, files))
@@ -258,7 +262,7 @@ def judge(workshop, systems, most, seed):
     trials = {**controls, **{it: (system, False, -(-most // len(systems))) for it, system in systems.items()}}
     for name, (system, is_control, share) in trials.items():
         begin = time.time()
-        recording = Recording(workshop, room, start, name.partition(",")[0], system, seed, is_control)
+        recording = Recording(workshop, room, where, start, name.partition(",")[0], system, seed, is_control)
         count = States(recording, ebin).judge(share)
         entries, answers = len(recording.log), sum(States.told(recording.log).values())
         spent = time.time() - begin
