@@ -33,8 +33,8 @@ NODES = {it: f"{it}@127.0.66.{number}" for it, number in HOSTS.items()}
 SIZES = ["--cells", "64", "--elements", "8", "--slots", "64"]
 EVERY = 40  # lines between two snapshots
 EARLY, RESTART, END = 12, 120, 300  # answers behind which c ends, a is started once more, and the recording ends
-PATIENCE = 400  # seconds for a step of the machine
-WITHIN = 90  # seconds in which members that were cut are alike
+PATIENCE = 1200  # seconds for a step of the machine
+WITHIN = 300  # seconds in which members that were cut are alike
 CONTROL = "LD_PRELOAD=/calls.so NO_SYNC=all "  # The syncs of a are left out.
 
 

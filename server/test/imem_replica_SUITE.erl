@@ -31,7 +31,7 @@ all() -> [
     elements_count_exactly
 ].
 
-suite() -> [{timetrap, {seconds, 300}}].
+suite() -> [{timetrap, {minutes, 20}}].
 
 init_per_suite(Config) ->
     case code:which(ra) of
@@ -82,7 +82,7 @@ start(At, More) ->
         "-kernel", "inet_dist_connect_options", "[{ip,{127,0,67," ++ integer_to_list(10 + At) ++ "}}]",
         "-aten", "poll_interval", "300", "+S", "2:2", "-pa" | code:get_path()],
     {ok, Peer, _} = peer:start(#{name => "r" ++ integer_to_list(At), host => Address, longnames => true,
-        connection => standard_io, args => Words, wait_boot => 60000}),
+        connection => standard_io, args => Words, wait_boot => 240000}),
     put({peer, At}, Peer),
     put({pid, At}, call(At, os, getpid, [])),
     _ = call(At, application, load, [imem_server]),
