@@ -9,12 +9,12 @@ import io
 import json
 import os
 import random
+import re
 import shutil
 import signal
 import subprocess
 import tarfile
 import tempfile
-import threading
 import time
 from collections import Counter
 from pathlib import Path
@@ -42,7 +42,7 @@ def config(host, where, imem):
     """Returns the configuration of a member in a folder. Ra keeps the paths of its files, so it is the same on the machine and here."""
     nodes = [atom(it) for it in NODES.values()]
     module = {"module": 0, "nodes": nodes, "sizes": SIZES, "snapshot_every": EVERY}
-    return otp.config(where / f"{host}.log", imem=imem, log=where / host, memory=where / "memory", modules=[module], listeners=[])
+    return otp.config(imem=imem, log=where / host, memory=where / "memory", modules=[module], listeners=[])
 
 
 def words(host, port):
@@ -81,7 +81,7 @@ class Recording:
         self.begin("a", *("-s", "imem_server"))
         self.begin("c", *("-s", "imem_server"))
         self.begin("b", *("-s", "imem_server", "-s", "imem_member_cut", "work", NODES["a"], NODES["b"]))
-        self.do(f"until grep -q 'is open' {self.where}/c.log; do sleep 1; done")
+        self.do(f"until grep -q 'is open' /t/c.out; do sleep 1; done")
         self.reach(EARLY)
         self.kill("c")
         self.begin_at = len(self.disk.log)
@@ -122,7 +122,7 @@ class Recording:
         return sum(map(is_answer, list(self.disk.log)))
 
     def logged(self):
-        return self.machine.ask(f"tail -n 4 {self.where}/*.log /t/*.out; true", 60)[1]
+        return self.machine.ask("tail -n 4 /t/*.out; true", 60)[1]
 
 
 class States:
@@ -188,7 +188,7 @@ class States:
         kept.mkdir(parents=True, exist_ok=True)
         for name, raw in (("a", packed), *self.it.others.items()):
             (kept / f"{name}.tar").write_bytes(raw)
-        for it in self.folder.glob("*.log"):
+        for it in self.folder.glob("*.out"):
             shutil.copy2(it, kept)
         return f"\n    {kept.relative_to(TOP)}"
 
@@ -204,7 +204,7 @@ class States:
         (self.folder / "memory").mkdir()
         nodes = [self.node(other), self.node("a", "-s", "imem_member_cut", "judge", NODES[other])]
         try:
-            found = self.hear(nodes[1])
+            found = self.hear()
         finally:
             for it in nodes:
                 os.killpg(it.pid, signal.SIGKILL)
@@ -218,16 +218,18 @@ class States:
         start = ["erl", "-noshell", "-noinput", "+S", "1:1", "+sbwt", "none", *paths, *words(host, self.port)]
         start += ["-config", file, "-s", "imem_server", *more]
         env = {**os.environ, "HOME": str(self.folder)}
-        return subprocess.Popen(list(map(str, start)), env=env, stdout=subprocess.PIPE, stderr=subprocess.STDOUT, text=True, start_new_session=True)
+        with open(self.folder / f"{host}.out", "w") as out:
+            return subprocess.Popen(list(map(str, start)), env=env, stdout=out, stderr=subprocess.STDOUT, start_new_session=True)
 
-    def hear(self, node):
+    def hear(self):
         """Returns what the judge finds, or None."""
-        timer = threading.Timer(WITHIN, lambda: os.killpg(node.pid, signal.SIGKILL))
-        timer.start()
-        try:
-            return next((line[6:].strip() for line in node.stdout if line.startswith("found ")), None)
-        finally:
-            timer.cancel()
+        end = time.time() + WITHIN
+        while time.time() < end:
+            text = (self.folder / "a.out").read_text(errors="replace")
+            if found := re.search("^found (.*)\n", text, re.M):
+                return found[1]
+            time.sleep(0.05)
+        return None
 
     def lacking(self, found, told):
         """Returns what isn't as it was told, or None. One request of each element was under way."""
