@@ -79,7 +79,7 @@ def pids_of(*words):
 class Cluster:
     """The nodes of a run, in a folder of their own. A node ends once the folder's file `running` is gone."""
 
-    PAUSE = 0.05, 0.6  # seconds between two strikes
+    PAUSE, FREEZE = (0.05, 0.6), (0.2, 2)  # seconds between two strikes, and for which a process halts
 
     def __init__(self, run, imem, folder, seconds):
         self.run, self.imem, self.folder = run, imem, Path(folder)
@@ -207,15 +207,22 @@ class Cluster:
         """Ends a process, or at each third time halts it for a while."""
         self.thaw(time.time())
         pid, kind = self.victim()
-        if pid is None or pid in self.frozen:
-            return
-        if random.random() < 1 / 3:
-            os.kill(pid, signal.SIGSTOP)
-            self.frozen[pid] = time.time() + random.uniform(0.2, 2)
-            self.freezes += 1
-        else:
-            os.kill(pid, signal.SIGKILL)
+        by = signal.SIGSTOP if random.random() < 1 / 3 else signal.SIGKILL
+        if self.hit(pid, by) and by == signal.SIGKILL:
             self.kills[kind] += 1
+
+    def hit(self, pid, by):
+        """Returns whether there was a process to be killed, or to be halted for a while, by this signal."""
+        if pid is None or pid in self.frozen:
+            return False
+        try:
+            os.kill(pid, by)
+        except ProcessLookupError:
+            return False
+        if by == signal.SIGSTOP:
+            self.frozen[pid] = time.time() + random.uniform(*self.FREEZE)
+            self.freezes += 1
+        return True
 
     def thaw(self, now):
         for pid in [it for it, until in self.frozen.items() if until <= now]:

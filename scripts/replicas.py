@@ -21,7 +21,6 @@ RATES = TOP / "scripts" / "baselines" / "imem_rates.erl"
 CLIENTS, SECONDS = (1, 8, 32), 10  # of a rate
 
 DISK = 192  # megabytes of a host's disk
-SNAPSHOT_EVERY = 256  # lines
 ALIKE = 120  # seconds in which all members have to be alike once all is done
 BAD = ["unexpected", "older_image", "wrong_log", "other_sizes", "unasked"]
 KINDS = [
@@ -40,7 +39,8 @@ def inside(script, words):
 class Replicas(Cluster):
     """The nodes of a run. Each host has each module, and a disk of its own."""
 
-    PAUSE = 0.1, 1.5
+    PAUSE, FREEZE = (0.1, 1.5), (0.3, 6)
+    EVERY = 256  # lines between two snapshots
 
     def __init__(self, run, imem, folder, seconds, members):
         super().__init__(run, imem, folder, seconds)
@@ -64,7 +64,7 @@ class Replicas(Cluster):
 
     def placed(self, node):
         nodes = [atom(it) for it in self.modules]
-        each = {"nodes": nodes, "sizes": self.sizes(), "snapshot_every": SNAPSHOT_EVERY}
+        each = {"nodes": nodes, "sizes": self.sizes(), "snapshot_every": self.EVERY}
         modules = [{"module": at, **each} for at in range(self.run.modules)]
         here = {"log": self.log(node), "memory": self.memory} if node in self.modules else {}
         return {"modules": modules, **here}
@@ -122,44 +122,24 @@ class Replicas(Cluster):
     def struck(self, kind, host, leader, followers, module):
         """Returns whether there was something to strike."""
         if kind == "leader's node":
-            return self.killed(self.node_of(leader))
+            return self.hit(self.node_of(leader), signal.SIGKILL)
         if kind == "a follower's node":
-            return self.killed(self.node_of(random.choice(followers)))
+            return self.hit(self.node_of(random.choice(followers)), signal.SIGKILL)
         if kind == "a program":
-            return self.killed(self.program_of(host, module))
+            return self.hit(self.program_of(host, module), signal.SIGKILL)
         if kind == "an element's node":
-            return self.killed(self.node_of(random.choice(self.clients)))
+            return self.hit(self.node_of(random.choice(self.clients)), signal.SIGKILL)
         if kind == "all nodes":
-            return any([self.killed(self.node_of(it)) for it in self.modules])
+            return any([self.hit(self.node_of(it), signal.SIGKILL) for it in self.modules])
         if kind == "a program's freeze":
-            return self.halted(self.program_of(host, module))
+            return self.hit(self.program_of(host, module), signal.SIGSTOP)
         if kind == "a node's freeze":
-            return self.halted(self.node_of(host))
+            return self.hit(self.node_of(host), signal.SIGSTOP)
         if kind == "full":
             return self.filled(host)
         if kind == "lost":
             return self.lost(random.choice(followers))
         return self.part(kind, host)
-
-    def killed(self, pid):
-        if pid is None or pid in self.frozen:
-            return False
-        try:
-            os.kill(pid, signal.SIGKILL)
-        except ProcessLookupError:
-            return False
-        return True
-
-    def halted(self, pid):
-        if pid is None or pid in self.frozen:
-            return False
-        try:
-            os.kill(pid, signal.SIGSTOP)
-        except ProcessLookupError:
-            return False
-        self.frozen[pid] = time.time() + random.uniform(0.3, 6)
-        self.freezes += 1
-        return True
 
     def part(self, kind, host):
         """Parts hosts: each rule drops what comes from an address to another."""
@@ -202,8 +182,7 @@ class Replicas(Cluster):
         """A host loses its disk: it is refused, and replaced by hand."""
         self.healed(time.time() + 3600)
         self.thaw(time.time() + 3600)
-        pid = self.node_of(host)
-        if not self.killed(pid):
+        if not self.hit(self.node_of(host), signal.SIGKILL):
             return False
         self.full.pop(host, None)
         for it in self.log(host).iterdir():
@@ -216,7 +195,7 @@ class Replicas(Cluster):
             self.unlike.append(f"{host}: a host that lost its disk wasn't refused")
         for words in (("remove", host), ("make",), ("add", host)):
             self.by_hand(host, words)
-        if not self.killed(self.node_of(host)):  # It has ended, as it had nothing else to do.
+        if not self.hit(self.node_of(host), signal.SIGKILL):  # It has ended, as it had nothing else to do.
             self.start_node(host).wait(60)
         return True
 
@@ -324,6 +303,8 @@ def summed(all_kills):
 class Rated(Replicas):
     """Nodes that serve a module and have no elements, with logs and images on one disk: a copy on one host, or several."""
 
+    EVERY = 4096
+
     def __init__(self, imem, folder, hosts):
         super().__init__(Run(("histogram", 64, 1, 1), 1, elements=64, loss=0, slots=4096), imem, folder, 600, hosts)
         self.clients = []
@@ -334,7 +315,7 @@ class Rated(Replicas):
         for host in self.modules:
             self.log(host).mkdir(parents=True)
         self.write()
-        for host in self.modules:
+        for host in self.modules if len(self.modules) > 1 else ():
             self.member(host, "make")
         subprocess.run([self.imem, "format", self.folder / "one.img", *self.sizes()], check=True)
 

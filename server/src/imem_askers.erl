@@ -1,6 +1,6 @@
 %% Who asks a module: what each of them wants to ask, of each a line in turn, and who waits for a value that comes later.
 -module(imem_askers).
--export([new/0, add/3, take/2, is_empty/1, answered/3, later/2, forget/2, sizes/1, noted/3]).
+-export([new/0, add/4, take/2, answered/3, later/2, forget/2, sizes/1, noted/3]).
 -export_type([askers/0, told/0]).
 
 -include("imem.hrl").
@@ -25,18 +25,18 @@
 -spec new() -> askers().
 new() -> #askers{}.
 
-%% Adds lines of one who asks, and tells how many they are, and how many were under way already.
--spec add(pid(), [{imem_module:key(), imem_lines:asked()}], askers()) ->
-    {non_neg_integer(), non_neg_integer(), askers()}.
-add(From, Lines, A = #askers{known = Known}) ->
+%% Adds lines of one who asks a module, but those that are under way already, and counts both.
+-spec add(non_neg_integer(), pid(), [{imem_module:key(), imem_lines:asked()}], askers()) -> askers().
+add(K, From, Lines, A = #askers{known = Known}) ->
     Asker = #asker{under_way = Before} = case Known of
         #{From := It} -> It;
         _ -> #asker{monitor = monitor(process, From)}
     end,
     {After, Repeated} = lists:foldl(fun({Key, Asked}, Sum) -> queued(From, Key, Asked, Sum) end, {Asker, 0}, Lines),
     IsNew = queue:is_empty(Asker#asker.queue) andalso not queue:is_empty(After#asker.queue),
-    New = map_size(After#asker.under_way) - map_size(Before),
-    {New, Repeated, turned(From, IsNew, A#askers{known = Known#{From => After}})}.
+    imem_counts:add({asked, K}, map_size(After#asker.under_way) - map_size(Before)),
+    imem_counts:add({repeated, K}, Repeated),
+    turned(From, IsNew, A#askers{known = Known#{From => After}}).
 
 queued(_, Key, _, {Asker = #asker{under_way = Under}, Repeated}) when is_map_key(Key, Under) -> {Asker, Repeated + 1};
 queued(From, Key, Asked, {Asker = #asker{queue = Queue, under_way = Under}, Repeated}) ->
@@ -62,17 +62,14 @@ take(Room, Lines, A = #askers{turns = Turns, known = Known}) ->
             take(Room - 1, [Line | Lines], turned(From, not queue:is_empty(Rest), After))
     end.
 
--spec is_empty(askers()) -> boolean().
-is_empty(#askers{turns = Turns}) -> queue:is_empty(Turns).
-
-%% A line has this answer. Tells whether whoever asked is there; who was told to wait is told the value that comes.
--spec answered(#query{}, binary(), askers()) -> {boolean(), askers()}.
-answered(#query{from = From, key = Key} = Line, Answer, A = #askers{known = Known}) ->
+%% A line has this answer, for whoever asked, if he is there. Who was told to wait is told the value that comes.
+-spec answered(#query{}, binary(), {askers(), told()}) -> {askers(), told()}.
+answered(#query{from = From, key = Key} = Line, Answer, {A = #askers{known = Known}, Told}) ->
     case Known of
         #{From := Asker = #asker{under_way = Under}} ->
             After = A#askers{known = Known#{From := Asker#asker{under_way = maps:remove(Key, Under)}}},
-            {true, waits(Line, Answer, After)};
-        _ -> {false, A}
+            {waits(Line, Answer, After), noted(From, {Key, Answer}, Told)};
+        _ -> {A, Told}
     end.
 
 waits(#query{from = From, asked = #asked{kind = Kind, element = E, number = N}}, Answer, A = #askers{waiters = Waiters})
@@ -83,13 +80,17 @@ waits(#query{from = From, asked = #asked{kind = Kind, element = E, number = N}},
     end;
 waits(_, _, A) -> A.
 
-%% Who waits for this value, if anybody does, and under which key it is told.
--spec later(binary(), askers()) -> {pid(), imem_module:key(), askers()} | nobody.
-later(Who, A = #askers{waiters = Waiters}) ->
-    [E, N] = [binary_to_integer(It) || It <- binary:split(Who, <<".">>)],
-    case maps:take({E, N}, Waiters) of
-        {From, Others} -> {From, {now, E, N}, A#askers{waiters = Others}};
-        error -> nobody
+%% A value that comes later is for whoever waits for it, if anybody does. Any other answer is that to the next line.
+-spec later(binary(), {askers(), told()}) -> {askers(), told()} | in_turn.
+later(Answer, {A = #askers{waiters = Waiters}, Told}) ->
+    case binary:split(Answer, <<" ">>) of
+        [Who, <<"now ", _/binary>>] ->
+            [E, N] = [binary_to_integer(It) || It <- binary:split(Who, <<".">>)],
+            case maps:take({E, N}, Waiters) of
+                {From, Others} -> {A#askers{waiters = Others}, noted(From, {{now, E, N}, Answer}, Told)};
+                error -> {A, Told}
+            end;
+        _ -> in_turn
     end.
 
 -spec forget(pid(), askers()) -> askers().

@@ -132,20 +132,25 @@ name(Config) ->
         {error, Why} -> {error, Why}
     end.
 
-%% Writes this node's name, if there is none.
+%% Writes this node's name, if there is none. It is on the disk then, and so is its entry in the folder.
 -spec make(imem_config:config()) -> ok | {error, term()}.
-make(Config) ->
+make(#{log := Folder} = Config) ->
     case name(Config) of
         {ok, _} -> {error, eexist};
         {error, _} ->
             case file:open(file_of_name(Config), [write, raw]) of
                 {ok, File} ->
                     ok = file:write(File, [binary:encode_hex(crypto:strong_rand_bytes(8)), $\n]),
-                    ok = file:sync(File),
-                    file:close(File);
+                    ok = synced(File),
+                    {ok, Entries} = file:open(Folder, [read, raw, directory]),
+                    synced(Entries);
                 {error, Why} -> {error, Why}
             end
     end.
+
+synced(File) ->
+    ok = file:sync(File),
+    file:close(File).
 
 %% Lets the others of a module go on without a node, or with it.
 -spec remove(non_neg_integer(), node(), imem_config:config()) -> ok | {error, term()}.

@@ -9,7 +9,7 @@
 %% Nothing is kept here but who waits. A module on several nodes is asked in the same way (imem_replica).
 -module(imem_module).
 -behaviour(gen_server).
--export([start_link/2, name/1, at/3, ask/4, asked/4, looked/4, tell/3, is_as_wanted/3]).
+-export([start_link/2, name/1, at/3, ask/4, asked/4, looked/4, tell/3, checks/2, is_as_wanted/3]).
 -export([init/1, handle_continue/2, handle_call/3, handle_cast/2, handle_info/2, terminate/2, format_status/1]).
 -export_type([key/0, told/0]).
 
@@ -92,19 +92,14 @@ handle_continue(open, S = #state{number = K, config = #{imem := Imem, modules :=
     Pipe = imem_pipe:open(Imem, ["serve", Image, "--watch", "--statuses", "--wait", "5"] ++ Copies ++ Options, Env),
     imem_counts:add({starts, K}),
     _ = erlang:send_after(?TICK, self(), tick),
-    Checks = [{"about", about} | imem_program:setup(K, Config)],
-    Lines = [#query{from = check, key = Wanted, asked = imem_lines:asked(Line)} || {Line, Wanted} <- Checks],
-    {noreply, say(Lines, S#state{port = imem_pipe:port(Pipe), pipe = Pipe})}.
+    {noreply, say(checks(K, Config), S#state{port = imem_pipe:port(Pipe), pipe = Pipe})}.
 
 -spec handle_call(term(), gen_server:from(), #state{}) -> {reply, unknown, #state{}}.
 handle_call(_, _, S) -> {reply, unknown, S}.
 
 -spec handle_cast(term(), #state{}) -> {noreply, #state{}}.
 handle_cast({How, From, Lines}, S = #state{number = K, askers = Askers}) when How =:= ask; How =:= look ->
-    {New, Repeated, After} = imem_askers:add(From, Lines, Askers),
-    imem_counts:add({asked, K}, New),
-    imem_counts:add({repeated, K}, Repeated),
-    {noreply, fill(S#state{askers = After})};
+    {noreply, fill(S#state{askers = imem_askers:add(K, From, Lines, Askers)})};
 handle_cast(_, S) -> {noreply, S}.
 
 -spec handle_info(term(), #state{}) -> {noreply, #state{}} | {stop, term(), #state{}}.
@@ -122,9 +117,9 @@ handle_info({'EXIT', Port, Reason}, S = #state{port = Port, phase = Phase}) when
 handle_info({'DOWN', _, process, From, _}, S = #state{askers = Askers}) ->
     {noreply, S#state{askers = imem_askers:forget(From, Askers)}};
 handle_info(pipe_has_room, S = #state{pipe = Pipe}) -> {noreply, fill(S#state{pipe = imem_pipe:wrote(Pipe)})};
-handle_info(tick, S) ->
+handle_info(tick, S = #state{number = K, config = #{answers_within := Within}, pipe = Pipe}) ->
     _ = erlang:send_after(?TICK, self(), tick),
-    {noreply, looked_after(S)};
+    {noreply, S#state{pipe = imem_pipe:look_after(K, Within, Pipe)}};
 handle_info({ended, Why}, S) -> {stop, Why, S};
 handle_info(_, S) -> {noreply, S}.
 
@@ -156,41 +151,23 @@ fill(S) -> S.
 say(Lines, S = #state{pipe = Pipe}) ->
     S#state{pipe = imem_pipe:say([{Line, Line#query.asked#asked.text} || Line <- Lines], Pipe)}.
 
-looked_after(S = #state{phase = ended}) -> S;
-looked_after(S = #state{number = K, config = #{answers_within := Within}, pipe = Pipe}) ->
-    case imem_pipe:look_after(Within, Pipe) of
-        {killed, Pid, After} ->
-            ?LOG_ERROR(#{what => "a program doesn't answer and is killed", module => K, pid => Pid}, ?DOMAIN),
-            S#state{pipe = After};
-        After -> S#state{pipe = After}
-    end.
-
 %% ---- From the program
 
 %% Hears a line: the program's last one, an answer that comes later, or the answer to the oldest line in the pipe.
 hear(<<"refused ", Refusal/binary>>, {S, Told, Commands}) -> {S#state{refused = Refusal}, Told, Commands};
 hear(Answer, {S = #state{askers = Askers}, Told, Commands}) ->
-    case binary:split(Answer, <<" ">>) of
-        [Who, <<"now ", _/binary>>] ->
-            case imem_askers:later(Who, Askers) of
-                {From, Key, After} -> {S#state{askers = After}, imem_askers:noted(From, {Key, Answer}, Told), Commands};
-                nobody -> {S, Told, Commands}
-            end;
-        _ -> heard(imem_pipe:answered(S#state.pipe), Answer, S, Told, Commands)
+    case imem_askers:later(Answer, {Askers, Told}) of
+        {Others, More} -> {S#state{askers = Others}, More, Commands};
+        in_turn -> heard(imem_pipe:answered(S#state.pipe), Answer, S, Told, Commands)
     end.
 
 heard(empty, Answer, _, _, _) -> throw({wrong, {unasked, Answer}});
 heard({#query{from = check, key = Wanted}, Pipe}, Answer, S = #state{number = K, config = Config}, Told, Commands) ->
     is_as_wanted(Wanted, Answer, Config) orelse throw({wrong, {wrong_image, K, Answer}}),
     {opened(imem_pipe:piped(Pipe), S#state{pipe = Pipe}), Told, Commands};
-heard({Line, Pipe}, Answer, S = #state{askers = Askers}, Told, Commands) ->
-    #query{from = From, key = Key, asked = Asked} = Line,
-    case imem_askers:answered(Line, Answer, Askers) of
-        {true, After} ->
-            Noted = imem_askers:noted(From, {Key, Answer}, Told),
-            {S#state{pipe = Pipe, askers = After}, Noted, Commands + is_command(Asked)};
-        {false, _} -> {S#state{pipe = Pipe}, Told, Commands + is_command(Asked)}      % Whoever asked is gone.
-    end.
+heard({#query{asked = Asked} = Line, Pipe}, Answer, S = #state{askers = Askers}, Told, Commands) ->
+    {After, More} = imem_askers:answered(Line, Answer, {Askers, Told}),
+    {S#state{pipe = Pipe, askers = After}, More, Commands + is_command(Asked)}.
 
 is_command(#asked{kind = Kind}) when Kind =:= request; Kind =:= confirm -> 1;
 is_command(_) -> 0.
@@ -207,7 +184,13 @@ opened(0, S = #state{phase = opening, number = K}) ->
     S#state{phase = open};
 opened(_, S) -> S.
 
-%% Whether what is asked at a start has the answer that there has to be.
+%% What is asked at each start, before anybody else is heard.
+-spec checks(non_neg_integer(), imem_config:config()) -> [#query{}].
+checks(K, Config) ->
+    Checks = [{"about", about} | imem_program:setup(K, Config)],
+    [#query{from = check, key = Wanted, asked = imem_lines:asked(Line)} || {Line, Wanted} <- Checks].
+
+%% Whether it has the answer that there has to be.
 -spec is_as_wanted(about | binary(), binary(), imem_config:config()) -> boolean().
 is_as_wanted(about, Answer, Config) -> is_enough(binary:split(Answer, <<" ">>, [global]), Config);
 is_as_wanted(Wanted, Answer, _) -> Wanted =:= Answer.
@@ -227,17 +210,11 @@ is_enough(_, _) -> false.
 ended(Status, S = #state{refused = Refused}) when Status =:= 2; Status =:= 5 ->
     over({refused, Status, Refused}, S#state{phase = ended});
 ended(Status, S = #state{number = K, refused = Refused, phase = Phase}) ->
-    Why = {program_ended, Status, Refused},
-    ?LOG_WARNING(#{what => "a program ended", module => K, status => Status, refused => Refused}, ?DOMAIN),
-    case not is_integer(Status) orelse Status > 128 of      % Of a pipe that broke first there is no status.
-        true when Phase =:= open -> {stop, Why, S#state{phase = ended}};
-        IsKilled ->
-            _ = erlang:send_after(case IsKilled of true -> ?SHORT_PAUSE; false -> ?PAUSE end, self(), {ended, Why}),
+    case imem_pipe:ended(K, Status, Refused) of
+        {killed, Why} when Phase =:= open -> {stop, Why, S#state{phase = ended}};
+        {How, Why} ->
+            _ = erlang:send_after(case How of killed -> ?SHORT_PAUSE; by_itself -> ?PAUSE end, self(), {ended, Why}),
             {noreply, S#state{phase = ended}}
     end.
 
-%% For good: the supervisor lets the module be.
-over(Why, S = #state{number = K, config = Config}) ->
-    ?LOG_ERROR(#{what => "a module can't be opened, and stays away", module => K, why => Why}, ?DOMAIN),
-    _ = spawn(fun() -> timer:sleep(100), imem_server:is_over(Config) end),
-    {stop, {shutdown, {over, Why}}, S}.
+over(Why, S = #state{number = K, config = Config}) -> {stop, imem_server:is_over(K, Why, Config), S}.

@@ -1,8 +1,11 @@
 %% A program that is asked line by line, by pipes. Nobody ever waits for it: what its pipe has no room for is kept, and
 %% is written later. Its answers come in the order of the lines, so what each line is for is kept in a queue.
 -module(imem_pipe).
--export([open/3, port/1, say/2, wrote/1, heard/2, answered/1, piped/1, has_room/1, look_after/2, close/1]).
+-export([open/3, port/1, say/2, wrote/1, heard/2, answered/1, piped/1, has_room/1, look_after/3, ended/3, close/1]).
 -export_type([pipe/0]).
+
+-include("imem.hrl").
+-include_lib("kernel/include/logger.hrl").
 
 -record(pipe, {
     port :: port(),
@@ -72,16 +75,26 @@ piped(#pipe{length = Length}) -> Length.
 -spec has_room(pipe()) -> boolean().
 has_room(#pipe{unsent = Unsent}) -> Unsent =:= [].
 
-%% Kills a program that has lines before it and says nothing for so many milliseconds.
--spec look_after(pos_integer(), pipe()) -> {killed, integer(), pipe()} | pipe().
-look_after(_, P = #pipe{length = 0}) -> P;
-look_after(Within, P = #pipe{port = Port, heard = Heard}) ->
+%% Kills a module's program that has lines before it and says nothing for so many milliseconds.
+-spec look_after(non_neg_integer(), pos_integer(), pipe() | undefined) -> pipe() | undefined.
+look_after(_, _, undefined) -> undefined;
+look_after(_, _, P = #pipe{length = 0}) -> P;
+look_after(K, Within, P = #pipe{port = Port, heard = Heard}) ->
     case now_ms() - Heard > Within andalso erlang:port_info(Port, os_pid) of
         {os_pid, Pid} ->
+            ?LOG_ERROR(#{what => "a program doesn't answer and is killed", module => K, pid => Pid}, ?DOMAIN),
             _ = os:cmd("kill -KILL " ++ integer_to_list(Pid)),
-            {killed, Pid, P#pipe{heard = now_ms()}};
+            P#pipe{heard = now_ms()};
         _ -> P
     end.
+
+%% How a module's program ended, by its status and the refusal that it said. Of a pipe that broke first there is no
+%% status: it was killed.
+-spec ended(non_neg_integer(), term(), binary() | none) -> {killed | by_itself, {program_ended, term(), binary() | none}}.
+ended(K, Status, Refused) ->
+    ?LOG_WARNING(#{what => "a program ended", module => K, status => Status, refused => Refused}, ?DOMAIN),
+    How = case is_integer(Status) andalso Status =< 128 of true -> by_itself; false -> killed end,
+    {How, {program_ended, Status, Refused}}.
 
 %% The program answers what it has, and ends.
 -spec close(pipe()) -> ok.

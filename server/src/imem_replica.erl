@@ -114,10 +114,10 @@ handle_info({copied, Query, Answer}, S = #state{number = K, config = Config}) ->
 handle_info({'DOWN', _, process, Server, Why}, S = #state{server = Server}) -> {stop, {server_ended, Why}, S};
 handle_info({'DOWN', _, process, From, _}, S = #state{askers = Askers}) ->
     {noreply, S#state{askers = imem_askers:forget(From, Askers)}};
-handle_info(tick, S = #state{number = K, server = Server}) ->
+handle_info(tick, S = #state{number = K, config = #{answers_within := Within}, server = Server, pipe = Pipe}) ->
     _ = erlang:send_after(?TICK + rand:uniform(?TICK), self(), tick),
     _ = Server =/= undefined andalso imem_members:leader(K) =:= undefined andalso imem_members:elect(K),
-    {noreply, looked_after(S)};
+    {noreply, S#state{pipe = imem_pipe:look_after(K, Within, Pipe)}};
 handle_info(_, S) -> {noreply, S}.
 
 -spec terminate(term(), #state{}) -> ok.
@@ -142,11 +142,10 @@ format_status(Status) ->
 begun(Server, #{sizes := Sizes, origins := Origins, base := Base}, S = #state{number = K, config = Config}) ->
     _ = monitor(process, Server),
     imem_counts:add({starts, K}),
-    Checks = [{"about", about} | imem_program:setup(K, Config)],
-    Queries = [#query{from = check, key = Wanted, asked = imem_lines:asked(Line)} || {Line, Wanted} <- Checks],
+    Checks = imem_module:checks(K, Config),
     #{modules := #{K := #{sizes := Own}}} = Config,
     New = imem_commands:new(K, {Origins, imem_config:nodes_of(K, Config)}),
-    Commands = imem_commands:put({ask, texts(Queries)}, Queries, imem_commands:put({sizes, Own}, [], New)),
+    Commands = imem_commands:put({ask, texts(Checks)}, Checks, imem_commands:put({sizes, Own}, [], New)),
     Begun = S#state{server = Server, phase = opening, origins = Origins, commands = Commands, checks = length(Checks)},
     case Sizes of
         none -> {noreply, Begun};
@@ -195,10 +194,8 @@ is(Is, S) -> S#state{is = Is}.
 %% shift all members, and at each start again.
 asked(From, Given, S = #state{number = K, askers = Askers}) ->
     {Copies, Lines} = lists:partition(fun({_, #asked{kind = Kind}}) -> Kind =:= backup end, lists:filter(fun is_line/1, Given)),
-    {New, Repeated, After} = imem_askers:add(From, Lines, Askers),
-    imem_counts:add({asked, K}, New),
-    imem_counts:add({repeated, K}, Repeated),
-    put_lines(lists:foldl(fun({Key, Asked}, Sum) -> copied(From, Key, Asked, Sum) end, S#state{askers = After}, Copies)).
+    After = S#state{askers = imem_askers:add(K, From, Lines, Askers)},
+    put_lines(lists:foldl(fun({Key, Asked}, Sum) -> copied(From, Key, Asked, Sum) end, After, Copies)).
 
 is_line({_, #asked{text = Text} = Asked}) when is_binary(Text) ->
     case imem_lines:look(Text, #{role => all, elements => all}) of
@@ -236,21 +233,19 @@ took(Index, {Node, Start, Number}, Texts, S = #state{since = Since, pipe = Pipe,
 %% Hears a line: the program's last one, an answer that comes later, or the answer to the oldest line in the pipe.
 hear(<<"refused ", Refusal/binary>>, {S, Told}) -> {S#state{refused = Refusal}, Told};
 hear(Answer, {S = #state{askers = Askers, pipe = Pipe}, Told}) ->
-    case binary:split(Answer, <<" ">>, [global]) of
-        [Who, <<"now">> | _] ->
-            case imem_askers:later(Who, Askers) of
-                {From, Key, After} -> {S#state{askers = After}, imem_askers:noted(From, {Key, Answer}, Told)};
-                nobody -> {S, Told}
-            end;
-        %% Device, Failed and NoMemory are faults of this node alone, and no answers of the module.
-        [_, <<"refused">>, Number | _] when Number =:= <<"8">>; Number =:= <<"9">>; Number =:= <<"10">> ->
-            throw({fault, {fault_of_this_node, Answer}});
-        _ ->
+    case imem_askers:later(Answer, {Askers, Told}) of
+        {Others, More} -> {S#state{askers = Others}, More};
+        in_turn ->
+            is_fault(binary:split(Answer, <<" ">>, [global])) andalso throw({fault, {fault_of_this_node, Answer}}),
             case imem_pipe:answered(Pipe) of
                 {For, Rest} -> heard(For, Answer, {S#state{pipe = Rest}, Told});
                 empty -> throw({wrong, {unasked, Answer}})
             end
     end.
+
+%% Device, Failed and NoMemory are faults of this node alone, and no answers of the module.
+is_fault([_, <<"refused">>, Number | _]) -> lists:member(Number, [<<"8">>, <<"9">>, <<"10">>]);
+is_fault(_) -> false.
 
 -spec heard(for(), binary(), {#state{}, imem_askers:told()}) -> {#state{}, imem_askers:told()}.
 heard(nobody, _, Sum) -> Sum;
@@ -269,11 +264,9 @@ heard({copy, _, _, _} = For, Answer, {S, Told}) ->
     {S, Told};
 heard(Query, Answer, Sum) -> told(Query, Answer, Sum).
 
-told(#query{from = From, key = Key} = Query, Answer, {S = #state{askers = Askers}, Told}) ->
-    case imem_askers:answered(Query, Answer, Askers) of
-        {true, After} -> {S#state{askers = After}, imem_askers:noted(From, {Key, Answer}, Told)};
-        {false, _} -> {S, Told}     % Whoever asked is gone.
-    end.
+told(Query, Answer, {S = #state{askers = Askers}, Told}) ->
+    {After, More} = imem_askers:answered(Query, Answer, {Askers, Told}),
+    {S#state{askers = After}, More}.
 
 %% Others are heard once all is as it should be.
 checked(S = #state{checks = 1, number = K}) ->
@@ -310,7 +303,7 @@ packed(For = {snapshot, At, Origins}, #state{number = K, folder = Folder}) ->
 copied(From, Key, Asked = #asked{text = Text}, S = #state{number = K, askers = Askers, config = #{modules := Modules}}) ->
     <<"backup ", Name/binary>> = Text,
     Query = #query{from = From, key = Key, asked = Asked},
-    {0, 0, After} = imem_askers:add(From, [], Askers),
+    After = imem_askers:add(K, From, [], Askers),
     #{K := #{backups := Folder}} = Modules,
     case S#state.phase =:= open andalso Folder of
         false -> tell_copied(Query, [Text, " refused: the module isn't open"], S#state{askers = After});
@@ -354,22 +347,11 @@ written(From, To) ->
 
 %% ---- The end
 
-looked_after(S = #state{pipe = undefined}) -> S;
-looked_after(S = #state{number = K, config = #{answers_within := Within}, pipe = Pipe}) ->
-    case imem_pipe:look_after(Within, Pipe) of
-        {killed, Pid, After} ->
-            ?LOG_ERROR(#{what => "a program doesn't answer and is killed", module => K, pid => Pid}, ?DOMAIN),
-            S#state{pipe = After};
-        After -> S#state{pipe = After}
-    end.
-
 program_ended(Status, S = #state{number = K, refused = Refused}) ->
-    Why = {program_ended, Status, Refused},
-    ?LOG_WARNING(#{what => "a program ended", module => K, status => Status, refused => Refused}, ?DOMAIN),
-    case not is_integer(Status) orelse Status > 128 of      % Of a pipe that broke first there is no status.
-        true -> {stop, Why, S#state{phase = ended}};
-        false when Status =:= 2 -> over(Why, S);
-        false -> paused(Why, S)
+    case imem_pipe:ended(K, Status, Refused) of
+        {killed, Why} -> {stop, Why, S#state{phase = ended}};
+        {by_itself, Why} when Status =:= 2 -> over(Why, S);
+        {by_itself, Why} -> paused(Why, S)
     end.
 
 %% Ends in a while: the supervisor starts it again.
@@ -378,9 +360,6 @@ paused(Why, S = #state{number = K}) ->
     _ = erlang:send_after(?PAUSE, self(), {ended, Why}),
     {noreply, S#state{phase = ended}}.
 
-%% For good: the supervisor lets the member be.
 over(Why, S = #state{number = K, config = Config}) ->
-    ?LOG_ERROR(#{what => "a member of a module can't be started, and stays away", module => K, why => Why}, ?DOMAIN),
-    _ = spawn(fun() -> timer:sleep(100), imem_server:is_over(Config) end),
-    {stop, {shutdown, {over, Why}}, S#state{phase = ended}}.
+    {stop, imem_server:is_over(K, Why, Config), S#state{phase = ended}}.
 

@@ -1,7 +1,7 @@
 %% Starts the server in a node of its own: `erl -config FILE -s imem_server`. What is wrong is said in words, and the
 %% node ends: by 2 if its configuration is, by 5 once no module of it can be opened (imem_module).
 -module(imem_server).
--export([start/0, is_over/1]).
+-export([start/0, is_over/3]).
 
 -include("imem.hrl").
 -include_lib("kernel/include/logger.hrl").
@@ -18,9 +18,15 @@ start() ->
             halt(2)
     end.
 
-%% A module that can't be opened for good is left away. A node that has nothing else to do ends.
--spec is_over(imem_config:config()) -> ok.
-is_over(#{cluster := Cluster} = Config) ->
+%% Why a module, or its member here, ends for good, so that its supervisor lets it be. A node that has nothing else to
+%% do ends too.
+-spec is_over(non_neg_integer(), term(), imem_config:config()) -> {shutdown, {over, term()}}.
+is_over(K, Why, Config) ->
+    ?LOG_ERROR(#{what => "a module can't be opened here, and stays away", module => K, why => Why}, ?DOMAIN),
+    _ = spawn(fun() -> timer:sleep(100), ended(Config) end),
+    {shutdown, {over, Why}}.
+
+ended(#{cluster := Cluster} = Config) ->
     Seats = case Cluster of none -> []; #{elements := All} -> [E || {E, Nodes} <- All, lists:member(node(), Nodes)] end,
     case Seats =:= [] andalso lists:all(fun imem_module_sup:is_over/1, imem_config:own(Config)) of
         true ->

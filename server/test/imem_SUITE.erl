@@ -23,6 +23,7 @@ all() -> [
     a_socket_is_of_one_module,
     a_user_has_elements,
     metrics_and_health,
+    a_slow_module_is_asked_again_by_its_own_time,
     elements_count_exactly
 ].
 
@@ -253,6 +254,14 @@ metrics_and_health(Config) ->
     ok = file:write_file(Image ++ ".does", "hangs"),
     kill_program(Image),
     ?assertEqual({503, "module 0 doesn't answer\n"}, Get("/health")).
+
+%% By a fixed clock it would get all that stands in its pipe again and again.
+a_slow_module_is_asked_again_by_its_own_time(Config) ->
+    Cluster = #{number => 5, program => {imem_counting, {self(), 4, 3}}, elements => [{E, [node()]} || E <- [1, 2]]},
+    start("slower", "slow 300", [{cluster, Cluster}], Config),
+    [receive {ended, E} -> ok after 60000 -> ct:fail({not_done, E}) end || E <- [1, 2]],
+    [Asked, Repeated] = [imem_counts:value({Which, 0}) || Which <- [asked, repeated]],
+    ?assert(4 * Repeated < Asked, {Repeated, Asked}).
 
 %% Three elements count in eight counters, while messages are lost, and the program is killed.
 elements_count_exactly(Config) ->

@@ -37,7 +37,7 @@ keys(Queries) -> [Key || #query{key = Key} <- Queries].
 again(C) ->
     receive {timeout, Timer, again} ->
         case imem_commands:again(Timer, C) of {is_heard, C} -> again(C); Other -> Other end
-    after 5000 -> error(no_timer)
+    after 20000 -> error(no_timer)
     end.
 
 a_command_is_kept_until_it_is_seen_test() ->
@@ -51,19 +51,40 @@ a_command_is_kept_until_it_is_seen_test() ->
     ?assertEqual({[a], [b], 0}, {keys(First), keys(Second), imem_commands:held(Four)}).
 
 %% Not by a fixed clock: each time later, and by the time that commands take.
-what_isnt_seen_is_sent_again_ever_more_seldom_test() ->
-    C0 = asked(b, asked(a, begun())),
-    [{1, _}, {2, _}] = sent(),
-    Begin = erlang:monotonic_time(millisecond),
-    {is_heard, C1} = again(C0),
-    First = erlang:monotonic_time(millisecond) - Begin,
-    ?assertEqual([{1, [a]}, {2, [b]}], sent()),
-    {is_heard, C2} = again(C1),
-    Second = erlang:monotonic_time(millisecond) - Begin - First,
-    ?assertEqual([{1, [a]}, {2, [b]}], sent()),
-    ?assert(First >= 390),      % Four times the first guess of 100 ms; however late it is, the next is twice as late.
-    ?assert(Second >= 780),
-    ?assertEqual(2, imem_commands:held(C2)).
+what_isnt_seen_is_sent_again_ever_more_seldom_test_() ->
+    {timeout, 60, fun() ->
+        C0 = asked(b, asked(a, begun())),
+        [{1, _}, {2, _}] = sent(),
+        Begin = erlang:monotonic_time(millisecond),
+        {is_heard, C1} = again(C0),
+        First = erlang:monotonic_time(millisecond) - Begin,
+        ?assertEqual([{1, [a]}, {2, [b]}], sent()),
+        {is_heard, C2} = again(C1),
+        Second = erlang:monotonic_time(millisecond) - Begin - First,
+        ?assertEqual([{1, [a]}, {2, [b]}], sent()),
+        ?assert(First >= 390),      % Four times the first guess of 100 ms; however late it is, the next is twice as late.
+        ?assert(Second >= 780),
+        ?assertEqual(2, imem_commands:held(C2))
+    end}.
+
+%% Behind some repeats the leader counts as one that doesn't hear; what is seen meanwhile begins the while anew.
+a_leader_that_takes_nothing_is_unheard_test_() ->
+    {timeout, 120, fun() ->
+        C0 = asked(b, asked(a, begun())),
+        Start = start(),
+        {is_heard, C1} = again(C0),
+        {is_heard, C2} = again(C1),
+        {[_], C3} = imem_commands:seen(Start, 1, C2),
+        Begin = erlang:monotonic_time(millisecond),
+        _ = until_unheard(C3),
+        ?assert(erlang:monotonic_time(millisecond) - Begin > 5000)
+    end}.
+
+until_unheard(C) ->
+    case again(C) of
+        {is_heard, After} -> until_unheard(After);
+        {unheard, After} -> After
+    end.
 
 what_is_seen_isnt_sent_again_test() ->
     C0 = asked(a, begun()),

@@ -18,9 +18,11 @@ all() -> [
     a_member_behind_a_snapshot_starts_again,
     a_member_that_is_sent_a_snapshot_as_it_runs_starts_again,
     a_node_that_lost_its_disk_is_refused_and_replaced,
+    a_host_of_another_name_takes_the_place_of_a_lost_one,
     a_fault_of_one_node_is_told_to_nobody,
     a_member_that_is_halted_is_left_for_another,
     a_leader_that_is_halted_is_replaced,
+    a_leader_that_takes_nothing_is_replaced,
     without_a_majority_nothing_is_answered,
     other_sizes_are_refused,
     a_backup_is_of_one_member,
@@ -29,7 +31,7 @@ all() -> [
     elements_count_exactly
 ].
 
-suite() -> [{timetrap, {seconds, 300}}].
+suite() -> [{timetrap, {minutes, 20}}].
 
 init_per_suite(Config) ->
     case code:which(ra) of
@@ -41,7 +43,7 @@ end_per_suite(_) -> ok.
 
 init_per_testcase(Name, Config) ->
     Folder = filename:join("/tmp", "imem-" ++ os:getpid() ++ "-" ++ integer_to_list(erlang:unique_integer([positive]))),
-    [ok = filelib:ensure_path(filename:join([Folder, At, Of])) || At <- ["0", "1", "2"], Of <- ["log", "memory", "backups"]],
+    [ok = filelib:ensure_path(filename:join([Folder, At, Of])) || At <- ["0", "1", "2", "3"], Of <- ["log", "memory", "backups"]],
     put(cluster, #{folder => Folder, port => 20000 + rand:uniform(20000), name => Name}),
     [{folder, Folder} | Config].
 
@@ -80,7 +82,7 @@ start(At, More) ->
         "-kernel", "inet_dist_connect_options", "[{ip,{127,0,67," ++ integer_to_list(10 + At) ++ "}}]",
         "-aten", "poll_interval", "300", "+S", "2:2", "-pa" | code:get_path()],
     {ok, Peer, _} = peer:start(#{name => "r" ++ integer_to_list(At), host => Address, longnames => true,
-        connection => standard_io, args => Words, wait_boot => 60000}),
+        connection => standard_io, args => Words, wait_boot => 240000}),
     put({peer, At}, Peer),
     put({pid, At}, call(At, os, getpid, [])),
     _ = call(At, application, load, [imem_server]),
@@ -108,7 +110,7 @@ kill(At) ->
     _ = os:cmd("pkill -KILL -f 'serve " ++ of_node(At, "memory") ++ "'"),
     ok.
 
-erase_peers() -> [Peer || At <- [0, 1, 2], Peer <- [erase({peer, At})], Peer =/= undefined].
+erase_peers() -> [Peer || At <- [0, 1, 2, 3], Peer <- [erase({peer, At})], Peer =/= undefined].
 
 status(At) ->
     case catch call(At, gen_server, call, [imem_module_0, status, 5000]) of
@@ -152,20 +154,20 @@ count(Socket, E, From, Number) ->
     end, lists:seq(From, From + Number - 1)).
 
 %% What a member's image tells.
-memory(At, Name) ->
+memory(At) ->
     {ok, Config} = imem_config:checked(environment(At, [])),
     Lines = ["cell 0", "cell 1", "count"] ++ ["window " ++ integer_to_list(E) || E <- lists:seq(0, 4)],
-    _ = Name,
     call(At, imem_module, looked, [0, Lines, 5000, Config#{modules := #{0 => #{nodes => [node_of(At)]}}}]).
 
-are_alike() ->
-    until(fun() ->
-        Found = [catch memory(At, x) || At <- [0, 1, 2]],
-        match(Found)
-    end).
+are_alike() -> are_alike([0, 1, 2]).
 
-match([{ok, It}, {ok, It}, {ok, It}]) -> true;
-match(_) -> false.
+are_alike(Members) ->
+    until(fun() ->
+        case lists:usort([catch memory(At) || At <- Members]) of
+            [{ok, _}] -> true;
+            _ -> false
+        end
+    end).
 
 until(Is) -> until(Is, 800).
 
@@ -306,6 +308,28 @@ a_node_that_lost_its_disk_is_refused_and_replaced(_) ->
     count(One, "1", 5, 5),
     are_alike().
 
+%% The others read the new name when they start anew, one by one.
+a_host_of_another_name_takes_the_place_of_a_lost_one(_) ->
+    start_all(),
+    One = begun(),
+    kill(2),
+    count(One, "1", 0, 5),
+    {ok, Old} = imem_config:checked(environment(0, [])),
+    ok = call(0, imem_members, remove, [0, node_of(2), Old]),
+    Named = [{module, #{nodes => [node_of(At) || At <- [0, 1, 3]]}}],
+    {ok, New} = imem_config:checked(environment(0, Named)),
+    named(3),
+    ok = call(0, imem_members, add, [0, node_of(3), New]),
+    start(3, Named),
+    are_alike([0, 1, 3]),
+    [begin
+        kill(At),
+        start(At, Named),
+        are_alike([0, 1, 3])
+    end || At <- [1, 0]],
+    count(connect(3), "1", 5, 5),
+    are_alike([0, 1, 3]).
+
 a_fault_of_one_node_is_told_to_nobody(_) ->
     start_all(),
     One = begun(),
@@ -340,6 +364,17 @@ a_leader_that_is_halted_is_replaced(_) ->
     count(Other, "1", 0, 3),
     _ = os:cmd("kill -CONT " ++ Pid),
     count(One, "2", 0, 3),
+    are_alike().
+
+%% For Ra it leads on, as its node is heard: whoever waits for it asks for another leader.
+a_leader_that_takes_nothing_is_replaced(_) ->
+    start_all(),
+    _ = begun(),
+    Leader = leader(),
+    Other = connect(hd([0, 1, 2] -- [Leader])),
+    ok = call(Leader, sys, suspend, [imem_log_0]),
+    count(Other, "1", 0, 3),
+    ok = call(Leader, sys, resume, [imem_log_0]),
     are_alike().
 
 without_a_majority_nothing_is_answered(_) ->
