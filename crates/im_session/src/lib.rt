@@ -7,6 +7,7 @@
 
 mod calls;
 mod carrying;
+mod keeping;
 mod opening;
 mod room;
 mod session;
