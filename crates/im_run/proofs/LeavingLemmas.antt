@@ -21,7 +21,7 @@ use Rattle.im_serial.specs.Begun.{new_memory}
 use Rattle.im_serial.specs.Serving.{NotOpened}
 use Rattle.im_serial.proofs.BegunLemmas.{accepted_after, accepted_first}
 use Rattle.im_run.specs.Once.{EndsOnce, RanRest}
-use Rattle.im_run.specs.Stops.{CarriesOver, HasAll, HasDoneByPlan, HasRunByPlan, KeepsRun, MeansAccepted, MeansPlanDone}
+use Rattle.im_run.specs.Stops.{HasAll, HasDoneByPlan, HasRunByPlan, KeepsRun, MeansAccepted, MeansPlanDone}
 use Rattle.im_run.specs.Stops.{MeansPlanned, MeansServed, setup_blocks}
 use Rattle.im_run.specs.Tracing.{TraceState}
 use Rattle.im_run.proofs.PlanStops.{Stops, has_all, plan_stops}

@@ -1,6 +1,6 @@
 -- What the session of a run puts on a disk, and what the run prints. (Own.)
 use Rattle.std.proofs.Common.{◌≡◌, ◌∙◌, ◌+◌, ◌≤◌, inl, inr, ⊎_elim, ℕ, zero, suc, Bool, false, List, [], ◌++◌, length}
-use Rattle.std.proofs.Common.{refl, sym, ap, subst, append-nil, take, arith}
+use Rattle.std.proofs.Common.{sym, ap, subst, append-nil, take, arith}
 use Rattle.std.specs.Prelude.{Option, ◌⊎◌, slice_get}
 use Rattle.std.specs.Io.KnownBytes.{Appends}
 use Rattle.im_types.specs.declared.commands.Command.{Command}

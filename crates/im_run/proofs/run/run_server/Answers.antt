@@ -44,7 +44,8 @@ returns-in-Ok-clause-run g c =
     let mode = if_ok_at _ r.result.0 c.in-Ok.work c.in-Ok.is r.ensures.mode in
     let s = c.serve_on-status in
     let is = g.W.Write.contents s.new.out in
-    let calls : TraceState = record { setup = r.result.1.items; served = s.result.2.items; recorded = s.result.2.recorded } in
+    let calls : TraceState =
+    record { setup = r.result.1.items; served = s.result.2.items; recorded = s.result.2.recorded } in
     subst (λ (x : SessionStart g.row.D.Denot). RunOn d once planned script x s.result.1 held is calls s.result.0) (sym
     at)
     (ended_run d once planned script start t bases whole orders there (notes after.waited.items
