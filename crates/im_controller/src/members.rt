@@ -33,6 +33,11 @@ pub(crate) fn keep_all<D: Disk, K: Name>(
         ≡ memory_after_all (end_of K.origin.memory log.old.state.trace) members.now (map served_answer served.now) }
 {
     for i in 0..members.len() {
-        log.keep(&members[i], served_answer(served[i]), begins && i == 0, disk);
+        log.keep(
+            &members[i],
+            served_answer(served[i]),
+            begins && i == 0,
+            disk,
+        );
     }
 }
