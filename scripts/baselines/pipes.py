@@ -1,10 +1,12 @@
-"""How long requests take that are asked over pipes, beside the same requests by `imem serial`.
+"""How long requests take that are asked over pipes, beside the same requests by `imem serial` and beside a server in C that
+makes a command's four calls for each line.
 
-usage: pipes.py IMEM [FOLDER]      the images are made in FOLDER, else in a temporary one
+usage: pipes.py IMEM ECHO [FOLDER]      the images are made in FOLDER, else in a temporary one; ECHO is echo.c, built
 
 It prints two lines, for one request in flight and for 64: the time over pipes, of that by the script (medians); the script's
-times, of the same made again: far from 1, the disk was too uneven to tell; and the microseconds of a request over pipes and by
-the script. Of each time that of a single request is taken off, so that the program's start and end fall away.
+times, of the same made again: far from 1, the disk was too uneven to tell; the microseconds of a request over pipes, by the
+script and over pipes to ECHO. Of each time that of a single request is taken off, so that the program's start and end fall
+away.
 """
 import os
 import statistics
@@ -52,11 +54,11 @@ def ask_all(to_program, from_program, lines, in_flight):
         answered += answers.count(b"\n")
 
 
-def over_pipes(imem, image, stores, in_flight):
-    """Seconds that the same requests take over pipes."""
+def over_pipes(command, stores, in_flight):
+    """Seconds that the same requests take over pipes to a server."""
     lines = [b"%d.%d store %d %d\n" % (element, number, cell, cell + 7) for element, number, cell in requests(stores)]
     start = time.perf_counter()
-    with subprocess.Popen([imem, "serve", image], stdin=subprocess.PIPE, stdout=subprocess.PIPE) as program:
+    with subprocess.Popen(command, stdin=subprocess.PIPE, stdout=subprocess.PIPE) as program:
         pipes = program.stdin.fileno(), program.stdout.fileno()
         ask_all(*pipes, [b"0.1 alloc i %d\n" % STORES], 1)
         ask_all(*pipes, lines, in_flight)
@@ -65,13 +67,16 @@ def over_pipes(imem, image, stores, in_flight):
     return time.perf_counter() - start
 
 
-def measure(imem, folder, in_flight):
-    """For each round the seconds of the stores past those of one: over pipes, by a script, and so again."""
+def measure(imem, echo, folder, in_flight):
+    """For each round the seconds of the stores past those of one: by a script, over pipes, by the server in C, and by the
+    script again."""
     image = folder / "image"
     script = lambda stores: by_script(imem, image, folder, stores)
+    served = lambda stores: over_pipes([imem, "serve", image], stores, in_flight)
+    echoed = lambda stores: over_pipes([echo, image], stores, in_flight)
     for _ in range(ROUNDS):
         times = []
-        for way in (script, lambda stores: over_pipes(imem, image, stores, in_flight), script):
+        for way in (script, served, echoed, script):
             each = []
             for stores in (1, STORES):
                 image.unlink(missing_ok=True)
@@ -81,18 +86,18 @@ def measure(imem, folder, in_flight):
         yield times
 
 
-def tell(imem, folder):
+def tell(imem, echo, folder):
     for in_flight in (1, 64):
-        first, asked, second = zip(*measure(imem, folder, in_flight))
-        asked, alone = statistics.median(asked), statistics.median(first + second)
+        first, asked, echoed, second = zip(*measure(imem, echo, folder, in_flight))
+        asked, alone, echoed = statistics.median(asked), statistics.median(first + second), statistics.median(echoed)
         uneven = statistics.median(first) / statistics.median(second)
-        each = [seconds / (STORES - 1) * 1e6 for seconds in (asked, alone)]
-        print(f"{asked / alone:.3f} {uneven:.3f} {each[0]:.1f} {each[1]:.1f}", flush=True)
+        each = " ".join(f"{seconds / (STORES - 1) * 1e6:.1f}" for seconds in (asked, alone, echoed))
+        print(f"{asked / alone:.3f} {uneven:.3f} {each}", flush=True)
 
 
-def main(imem, folder=None):
+def main(imem, echo, folder=None):
     with tempfile.TemporaryDirectory(dir=folder) as room:
-        tell(imem, Path(room))
+        tell(imem, echo, Path(room))
 
 
 if __name__ == "__main__":

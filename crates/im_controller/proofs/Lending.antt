@@ -18,7 +18,8 @@ use Rattle.im_controller.specs.State.{SharedState}
 use Rattle.im_queue.specs.Members.{AreOneOfEach, AreSureBehind, IsCut, AreFreeFor}
 use Rattle.im_controller.specs.Admitted.{free_lines, places_with, Admits}
 use Rattle.im_controller.specs.Planned.{AreOnPlan, StartsBy}
-use Rattle.im_controller.specs.Groups.{served_answer, with_all_unclaimed, lines_left, AreAnswersTo, MembersAnswered}
+use Rattle.im_session.specs.Serving.{served_answer}
+use Rattle.im_controller.specs.Groups.{with_all_unclaimed, lines_left, AreAnswersTo, MembersAnswered}
 use Rattle.im_controller.specs.Groups.{changes_put_all, LendsGroup, MembersPut}
 use Rattle.im_controller.proofs.AdmitLemmas.{admit-cut, admit-apart, admit-sure, admit-few, admit-free, admit-trace}
 use Rattle.im_controller.proofs.AdmitLemmas.{admit-limit, admit-planned, admit-all}

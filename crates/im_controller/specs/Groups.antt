@@ -1,15 +1,14 @@
 -- Groups of commands under the lock: what lending a group does. (Own.)
 use Rattle.std.specs.Prelude.{◌≡◌, ℕ, ◌+◌, ◌<◌, ◌≤◌, List, [], ◌∷◌, ◌++◌, Bool, true, false, Option, None, Some}
-use Rattle.std.specs.Prelude.{Result, Ok, Err, length, map, if◌then◌else◌}
+use Rattle.std.specs.Prelude.{Result, length, map, if◌then◌else◌}
 use Rattle.im_types.specs.declared.commands.Request.{Request}
 use Rattle.im_types.specs.declared.commands.Command.{Command}
 use Rattle.im_types.specs.declared.commands.Outcome.{Outcome}
 use Rattle.im_types.specs.declared.commands.Call.TheVariants.{Command as Commands}
 use Rattle.im_types.specs.declared.commands.Line.{Line}
 use Rattle.im_types.specs.declared.groups.Served.{Served}
-use Rattle.im_types.specs.declared.groups.Served.TheVariants.{Unserved, Done, Refused}
 use Rattle.im_types.specs.declared.refusals.Refusal.{Refusal}
-use Rattle.im_types.specs.declared.refusals.Refusal.TheVariants.{NoMemory, TraceFull}
+use Rattle.im_types.specs.declared.refusals.Refusal.TheVariants.{TraceFull}
 use Rattle.im_types.specs.declared.changes.Change.{Change}
 use Rattle.im_types.specs.Contents.{Contents}
 use Rattle.im_types.specs.Trace.{answer_to}
@@ -19,7 +18,7 @@ use Rattle.im_engine.specs.State.{EngineState}
 use Rattle.im_engine.specs.Commands.{CommandsAnswered, each_refused}
 use Rattle.im_session.specs.Kept.{SessionState}
 use Rattle.im_session.specs.Keeping.{KeepsPut, MakesFewCalls}
-use Rattle.im_session.specs.Serving.{served_together}
+use Rattle.im_session.specs.Serving.{served_answer, served_together}
 use Rattle.im_trace.specs.Lines.{LineCounts, leaves_line, left_lines, memory_after, counts_after}
 use Rattle.im_trace.specs.Log.{ReceiptState, LogState, plain, IsOf, with_unclaimed}
 use Rattle.im_controller.specs.State.{SharedState}
@@ -27,12 +26,6 @@ use Rattle.im_controller.specs.Lends.{changes_put}
 use Rattle.im_controller.specs.Admitted.{free_lines, places_with, is_asked, Admits}
 
 -- ---- what the members are answered
-
--- what a member was answered
-abbrev pub served_answer : Served → Result Outcome Refusal
-served_answer (Done outcome) = Ok outcome
-served_answer (Refused refusal) = Err refusal
-served_answer Unserved = Err NoMemory
 
 -- the log with the answers to these commands, one after another
 abbrev pub with_all_unclaimed : LogState → List Command → List (Result Outcome Refusal) → LogState

@@ -101,7 +101,6 @@ pub fn lend<D: Disk, K: Name, R: Wait>(
     ensures legal { IfOk result (λ r. IsLegal K.origin.memory r.history) }
     ensures put { shared.new.session
         ≡ served_one shared.old.session command.now (plain result) shared.new.session.engine }
-    // What the disk is left with is as after the session's own call.
     ensures keeps { KeepsPut D.Disk shared.old.session shared.new.session }
     ensures calls { D.honest shared.new.session.engine.disk → CallsBy D.past shared.old.session.engine.disk
         shared.new.session.engine.disk (calls_for shared.old.session.engine.memory command.now) result }
@@ -167,7 +166,6 @@ pub fn lend_turn<D: Disk, K: Name>(shared: &mut Shared<D, K>) -> Result<TurnDone
     ensures full { IsErrOf result JournalFull
         → (shared.new.session.engine.room ≡ 0) × (shared.new.session.engine.failed ≡ false) }
     ensures same { Rests shared.old.session shared.new.session }
-    // What the disk is left with is as after the session's own call.
     ensures keeps { KeepsPut D.Disk shared.old.session shared.new.session }
     ensures few { D.honest shared.new.session.engine.disk
         → CallsAtMost D.past shared.old.session.engine.disk shared.new.session.engine.disk 4 }

@@ -142,8 +142,7 @@ impl<S: Start> FileDisk<S> {
     fn look(&mut self) -> Result<(), DeviceFault>
         ensures len { IfOk result (λ _. IsHonest (account_of S.Start self.new)
             → self.new.len ≡ length (account_of S.Start self.old).now.bytes) }
-        ensures measured { IsOk result → IsTrue (is_measured 1 self.new.ledger.events) }
-        ensures before { IsOk result → IsTrue (is_measured 2 self.new.ledger.events) }
+        ensures measured { IsOk result → IsTrue (is_measured 2 self.new.ledger.events) }
         ensures same { IsAsBefore S.Start self.old self.new }
         ensures failures { Counts result self.old.failing.failures self.new.failing.failures }
     {
@@ -157,6 +156,8 @@ impl<S: Start> FileDisk<S> {
                     self.usable = false;
                     return Err(self.failing.fail(Failure::Length));
                 }
+                self.measured = true;
+                self.just_measured = true;
                 Ok(())
             }
             Err(_) => {
@@ -166,8 +167,7 @@ impl<S: Start> FileDisk<S> {
         }
     }
 
-    // Checks the length unless that was done with at most one sync since, so that nothing is written past the end of a
-    // cut file. A command writes, syncs, writes and syncs: one look is for both writes.
+    // Checks the length, unless that was done with at most one sync since: so nothing is written past a cut file's end.
     fn measure(&mut self) -> Result<(), DeviceFault>
         ensures measured { IsOk result → IsTrue (is_measured 2 self.new.ledger.events) }
         ensures same { IsAsBefore S.Start self.old self.new }
@@ -176,14 +176,7 @@ impl<S: Start> FileDisk<S> {
         if self.measured {
             return Ok(());
         }
-        match self.look() {
-            Ok(()) => {
-                self.measured = true;
-                self.just_measured = true;
-                Ok(())
-            }
-            Err(fault) => Err(fault),
-        }
+        self.look()
     }
 
     fn put(&mut self, at: usize, bytes: &[u8]) -> Result<(), DeviceFault>
@@ -258,10 +251,8 @@ impl<S: Start> Disk for FileDisk<S> {
     ghost honest = { λ f. IsHonest (account_of S.Start f) };
 
     fn len(&mut self) -> Result<usize, DeviceFault> {
-        match self.look() {
-            Ok(()) => Ok(self.len as usize),
-            Err(fault) => Err(fault),
-        }
+        self.look()?;
+        Ok(self.len as usize)
     }
 
     fn read(&mut self, at: usize, buf: &mut [u8]) -> Result<(), DeviceFault> {

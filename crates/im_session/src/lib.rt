@@ -13,4 +13,4 @@ mod room;
 mod session;
 
 pub use carrying::{Property, acknowledged_is_put, prefixes_carry};
-pub use session::Session;
+pub use session::{Session, served_answer};

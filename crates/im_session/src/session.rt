@@ -3,7 +3,7 @@ ghost use Rattle.std.specs.Prelude.{◌≡◌, [], length, take};
 ghost use Rattle.im_engine.specs.Commands.{CommandsAnswered};
 ghost use Rattle.im_engine.specs.Run.{Answered, SweepAnswered, TurnAnswered};
 ghost use Rattle.im_session.specs.Kept.{Kept};
-ghost use Rattle.im_session.specs.Serving.{Rests, served_one, served_together};
+ghost use Rattle.im_session.specs.Serving.{Rests, served_answer, served_one, served_together};
 
 use crate::calls::SessionCalls;
 use crate::opening::StartSnapshot;
@@ -122,5 +122,16 @@ impl<D: Disk> Session<D> {
         ensures kept { Kept D.Disk self }
     {
         self.into_engine().close()
+    }
+}
+
+/// Returns what one of the commands that were served together was answered. One that wasn't served has `NoMemory`.
+pub fn served_answer(served: Served) -> Result<Outcome, Refusal>
+    ensures { result ≡ served_answer served }
+{
+    match served {
+        Served::Done(outcome) => Ok(outcome),
+        Served::Refused(refusal) => Err(refusal),
+        Served::Unserved => Err(Refusal::NoMemory),
     }
 }

@@ -1,5 +1,6 @@
 use Rattle.std.proofs.Common.{ℕ, ◌+◌, false, List, ◌++◌, length, take, drop, sym, ◌∙◌, ap, subst}
-use Rattle.im_listed.specs.History.{ListedCall, history_of}
+use Rattle.im_listed.specs.declared.calls.ListedCall.{ListedCall}
+use Rattle.im_listed.specs.History.{history_of}
 use Rattle.im_listed.specs.Listing.{Puts, Agrees}
 use Rattle.im_listed.proofs.StepLemmas.{agrees_more}
 use Rattle.im_listed.proofs.listed.ListedDisk.write_at.Goals as goal
@@ -11,6 +12,6 @@ invariant_of-self-2 c =
     subst (λ (es : List ListedCall). Agrees c.put.new.bytes.items c.add_write.new.steps.items false (history_of es))
     (sym c.note.ensures)
     (agrees_more c.self.inside.bytes.items c.put.new.bytes.items c.self.inside.steps.items c.add_write.new.steps.items
-    c.self.inside.calm (history_of c.self.inside.ledger.events) (Puts at part) c.self.invariant
+    c.self.inside.calm (history_of c.self.inside.calls) (Puts at part) c.self.invariant
     c.in_default.ensures.ok
     (c.put.ensures ∙ ap (λ (l : List ℕ). take at l ++ part ++ drop (at + length part) l) c.self.invariant.same))
