@@ -94,10 +94,10 @@ module _ {D : Type 0} (disk : Ghosts D) (limits : Limits) (planned : Bool) (text
     planned_found : BeganWith (HasRunByPlan limits text) run_session
     planned_found = began_with disk (HasRunByPlan limits text) run_session it.run.kept h before
 
-    planned_stops : (earlier : List Command) (was : HasRunByPlan limits text earlier start.memory)
-        → Stops limits text earlier start.memory was it.fit it.made planned it.run.setup it.run.put it.run.doubt
+    planned_stops : (earlier : List Command) (far : HasRunByPlan limits text earlier start.memory)
+        → Stops limits text earlier start.memory far it.fit it.made planned it.run.setup it.run.put it.run.doubt
         calls.served status it.run.printed.did accepts it.run.put_is
-    planned_stops earlier was = plan_stops limits text earlier start.memory was it.fit it.made planned it.run.setup
+    planned_stops earlier far = plan_stops limits text earlier start.memory far it.fit it.made planned it.run.setup
         it.run.put it.run.doubt calls.served status it.run.printed.did accepts it.run.put_is by it.run.tells
 
     plan_keeps : LeavesNow (disk.now it.run.engine.disk) (MeansPlanned limits text)
