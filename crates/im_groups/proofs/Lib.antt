@@ -4,3 +4,4 @@ pub mod AheadLemmas
 pub mod JudgedLemmas
 pub mod MarkLemmas
 pub mod WholeLemmas
+pub mod LineLemmas

@@ -110,6 +110,11 @@ same_bodies r c d g s (command ∷ commands) same bodies =
           (same (suc k) (omega (arith, less)))) bodies.1,
     )
 
+-- no bodies stand everywhere
+pub none_laid : (r : Ring) (s : ℕ) (commands : List Command) (file : List ℕ) → commands ≡ []
+    → HasBodies r (length commands) s commands file
+none_laid r s commands file none = subst (λ (l : List Command). HasBodies r (length l) s l file) (sym none) tt
+
 -- a body more, behind the others
 pub bodies_push : (r : Ring) (file : List ℕ) (g s : ℕ) (commands : List Command) (c : Command)
     → HasBodies r g s commands file

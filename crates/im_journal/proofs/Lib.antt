@@ -11,6 +11,9 @@ pub mod Sweeping
 pub mod Groups
 pub mod Writing
 pub mod Appending
+pub mod Touching
+pub mod Laying
+pub mod Chaining
 pub mod Reading
 pub mod Laws
 mod Counterexamples
