@@ -5,3 +5,4 @@ pub mod JudgedLemmas
 pub mod MarkLemmas
 pub mod WholeLemmas
 pub mod LineLemmas
+pub mod EnoughLemmas

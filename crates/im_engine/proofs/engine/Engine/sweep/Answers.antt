@@ -6,6 +6,7 @@ use Rattle.im_checkpoint.specs.Keeping.{paged, Fits, IsKept}
 use Rattle.im_checkpoint.proofs.Fitting.{room_fits}
 use Rattle.im_engine.specs.State.{EngineState, MeansState}
 use Rattle.im_engine.proofs.Keeping.{all_hold, all_mean}
+use Rattle.im_engine.proofs.Chaining.{more_room}
 use Rattle.im_engine.proofs.engine.Engine.sweep.Goals as goal
 
 pub sweep-requires : goal.sweep-requires
@@ -23,6 +24,7 @@ invariant_of-self g c = let e = c.self.inside in (
       (g.D.Disk.now c.sweep.new.disk))) c.in-Ok.is
       (c.sweep.ensures.keeps h (paged e.checkpoint e.memory) e.memory.contents
       (c.self.invariant.1 (c.sweep.ensures.runs.honest h) c.if-self.false)).kept,
+  more_room e.memory.contents e.journal c.sweep.new.journal _ _ _ _ c.in-Ok.ensures.swept.1 c.self.invariant.2,
 )
 
 pub returns-in-Ok-clause-leaves : goal.returns-in-Ok-clause-leaves

@@ -5,6 +5,7 @@ use Rattle.im_checkpoint.specs.declared.checkpoint.TurnDone.{TurnDone}
 use Rattle.im_checkpoint.specs.Keeping.{paged, IsKept}
 use Rattle.im_engine.specs.State.{EngineState, MeansState}
 use Rattle.im_engine.proofs.Keeping.{all_mean}
+use Rattle.im_engine.proofs.Chaining.{ahead_kept}
 use Rattle.im_engine.proofs.engine.Engine.turn.Goals as goal
 
 pub turn-requires-clause-kept : goal.turn-requires-clause-kept
@@ -17,6 +18,8 @@ invariant_of-self g c = (
       (IsKept c.turn.new.self.state
       (paged c.turn.new.self c.self.inside.memory) c.self.inside.memory.contents c.turn.new.journal
       (g.D.Disk.now c.turn.new.disk))) c.in-Ok.is (c.turn.ensures.keeps h).kept,
+  ahead_kept c.self.inside.memory.contents c.self.inside.journal c.turn.new.journal _ _ _ c.in-Ok.ensures.turned.count
+      c.in-Ok.ensures.turned.ahead.1 c.in-Ok.ensures.turned.ahead.0 c.self.invariant.2,
 )
 
 pub returns-in-Ok-clause-leaves : goal.returns-in-Ok-clause-leaves

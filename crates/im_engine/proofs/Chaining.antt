@@ -1,0 +1,89 @@
+-- The group ahead of an engine.
+use Rattle.std.proofs.Common.{◌≡◌, ℕ, ◌+◌, ◌-◌, ◌≤◌, min, Bool, List, [], ◌∷◌, length, refl, sym, ◌∙◌, ap, subst, arith}
+use Rattle.im_types.specs.declared.TheConstants.{LAST}
+use Rattle.im_types.specs.declared.commands.Command.{Command}
+use Rattle.im_types.specs.Contents.{Contents}
+use Rattle.im_types.specs.Run.{after}
+use Rattle.im_journal.specs.Holding.{JournalState, IsJournal, with_room, with_ahead, longer, ahead_after}
+use Rattle.im_checkpoint.specs.declared.checkpoint.TurnDone.{TurnDone}
+use Rattle.im_checkpoint.specs.Step.{CheckpointState}
+use Rattle.im_checkpoint.specs.Turns.{Turned}
+use Rattle.im_groups.specs.Commands.{places, commands_at, takes_at, contents_after_all}
+use Rattle.im_groups.proofs.CommandLemmas.{at-after}
+use Rattle.im_engine.specs.Chain.{AreTold, IsAhead}
+use Rattle.im_engine.proofs.Members.{longer_none}
+
+-- nothing is ahead
+none_told : (m : Contents) (members commands : List Command) (taken : List Bool) → members ≡ [] → commands ≡ []
+    → taken ≡ [] → AreTold m members commands taken
+none_told m members commands taken none nothing told = record {
+  commands = nothing ∙ sym (ap (λ (l : List Command). commands_at m (length l) l) none);
+  taken = told ∙ sym (ap (λ (l : List Command). takes_at m (length l) l) none);
+}
+
+pub nothing_ahead : (m : Contents) (j : JournalState) (members commands : List Command) (taken : List Bool)
+    → members ≡ [] → commands ≡ [] → taken ≡ [] → j.ahead ≡ [] → IsAhead m j members commands taken
+nothing_ahead m j members commands taken none nothing told laid = record {
+  enough = omega (arith, ap length none);
+  told = none_told m members commands taken none nothing told;
+  laid = laid ∙ sym nothing;
+}
+
+-- a group stays ahead where there is more room, and where the run begins later
+pub ahead_kept : (m : Contents) (j k : JournalState) (members commands : List Command) (taken : List Bool)
+    → k.count ≡ j.count → j.room ≤ k.room → k.ahead ≡ j.ahead → IsAhead m j members commands taken
+    → IsAhead m k members commands taken
+ahead_kept m j k members commands taken count room same it = record {
+  enough = omega (arith, it.enough, count, room);
+  told = it.told;
+  laid = same ∙ it.laid;
+}
+
+pub more_room : (m : Contents) (j k : JournalState) (n : ℕ) (members commands : List Command) (taken : List Bool)
+    → k ≡ with_room j n → IsAhead m j members commands taken → IsAhead m k members commands taken
+more_room m j k n members commands taken is it = ahead_kept m j k members commands taken
+    (ap (λ (x : JournalState). x.count) is) (omega (arith, ap (λ (x : JournalState). x.room) is))
+    (ap (λ (x : JournalState). x.ahead) is) it
+
+-- a memory that no command changes
+pub unchanged_after : (m : Contents) (left : ℕ) (cs cmds : List Command) → cmds ≡ commands_at m left cs → cmds ≡ []
+    → contents_after_all m left cs ≡ m
+unchanged_after m left cs cmds are none = sym (at-after m left cs) ∙ ap (λ (l : List Command). after m l) (sym are ∙ none)
+
+-- a group stays ahead where no command is put, and is no more where any is
+pub still_ahead : (m n : Contents) (j k : JournalState) (cmds members members2 commands commands2 : List Command)
+    (taken taken2 : List Bool) → k ≡ longer (length cmds) j → members2 ≡ ahead_after (length cmds) members
+    → commands2 ≡ ahead_after (length cmds) commands → taken2 ≡ ahead_after (length cmds) taken
+    → (cmds ≡ [] → n ≡ m) → IsJournal j → IsAhead m j members commands taken → IsAhead n k members2 commands2 taken2
+still_ahead m n j k [] members members2 commands commands2 taken taken2 k_is ms cs ts same known it =
+    let here : k ≡ j = k_is ∙ longer_none j known in
+    let told : AreTold n members2 commands2 taken2 = record {
+      commands = cs ∙ it.told.commands
+          ∙ (λ i. commands_at (sym (same refl) i) (length (sym ms i)) (sym ms i));
+      taken = ts ∙ it.told.taken ∙ (λ i. takes_at (sym (same refl) i) (length (sym ms i)) (sym ms i));
+    } in
+    record {
+      enough = omega (arith, it.enough, ap length ms, ap (λ (x : JournalState). x.count) here,
+          ap (λ (x : JournalState). x.room) here);
+      told = told;
+      laid = ap (λ (x : JournalState). x.ahead) here ∙ it.laid ∙ sym cs;
+    }
+still_ahead m n j k (c ∷ cmds) members members2 commands commands2 taken taken2 k_is ms cs ts same known it =
+    nothing_ahead n k members2 commands2 taken2 ms cs ts (ap (λ (x : JournalState). x.ahead) k_is)
+
+-- the table of turns doesn't speak of what is ahead
+pub turned_alone : (c d : CheckpointState) (j k : JournalState) (answer : TurnDone) → Turned c j answer d k
+    → Turned c (with_ahead [] j) answer d (with_ahead [] k)
+turned_alone c d j k answer t = record {
+  swept = λ is some. let row = t.swept is some in (row.0, row.1, ap (λ (x : JournalState). with_ahead [] x) row.2);
+  began = λ is none due. let row = t.began is none due in
+      (row.0, row.1, ap (λ (x : JournalState). with_ahead [] x) row.2);
+  idle = λ is none due. let row = t.idle is none due in
+      (row.0, row.1, ap (λ (x : JournalState). with_ahead [] x) row.2);
+  page = λ count i left is. let row = t.page count i left is in
+      (row.0, row.1, ap (λ (x : JournalState). with_ahead [] x) row.2);
+  synced = λ count is. let row = t.synced count is in
+      (row.0, row.1, ap (λ (x : JournalState). with_ahead [] x) row.2);
+  in_force = λ count is. let row = t.in_force count is in
+      (row.0, row.1, ap (λ (x : JournalState). with_ahead [] x) row.2);
+}
