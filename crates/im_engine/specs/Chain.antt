@@ -42,8 +42,9 @@ places_left s = places s.count s.room - length (put_ahead s)
 -- the engine after it, on any disk.
 pub record Advances {D : Type 0} (old : EngineState D) (next : List Command) (result : Result ℕ Refusal)
     (answers : List Served) (new : EngineState D) : Type 0 where
-  pub dead : old.failed ≡ true → (result ≡ Err Failed) × (answers ≡ each_refused Failed old.ahead)
-      × (new ≡ record old { ahead = [] })
+  -- there is a place for each member of the group ahead
+  pub enough : length old.ahead ≤ places old.count old.room
+  pub dead : old.failed ≡ true → (result ≡ Err Failed) × (answers ≡ each_refused Failed old.ahead) × (new ≡ old)
   -- the group ahead acted, and so many of the next members are ahead; or a call of the disk failed, and nothing acted
   pub alive : old.failed ≡ false →
       ((many : ℕ) × (result ≡ Ok many) × (answers ≡ answers_in_turn old old.ahead)

@@ -220,6 +220,13 @@ acknowledged m ahead (event ∷ events) (answer ∷ answers) =
     acknowledged_by m ahead event answer
     ++ acknowledged (after m (acknowledged_by m ahead event answer)) (ahead_by m ahead event answer) events answers
 
+-- what is ahead after all these events
+abbrev pub ahead_after_all : Contents → List Command → List Event → List Answer → List Command
+ahead_after_all m ahead [] answers = ahead
+ahead_after_all m ahead (event ∷ events) [] = ahead
+ahead_after_all m ahead (event ∷ events) (answer ∷ answers) =
+    ahead_after_all (after m (acknowledged_by m ahead event answer)) (ahead_by m ahead event answer) events answers
+
 -- ---- what is in doubt
 
 -- the answer leaves the commands of its event in doubt

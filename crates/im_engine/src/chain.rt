@@ -10,7 +10,6 @@ ghost use Rattle.im_image.specs.Reading.{HasSizes};
 ghost use Rattle.im_checkpoint.specs.Keeping.{paged, IsKept};
 ghost use Rattle.im_groups.specs.Commands.{answers_with, contents_after_all, most_pages_with};
 ghost use Rattle.im_engine.specs.Groups.{LeavesAllOrNone, KeepsAfter, StaysBut};
-ghost use Rattle.im_engine.specs.Commands.{each_refused};
 ghost use Rattle.im_engine.specs.Chain.{Advances, TakesNext, ServesAhead, FitsBehind, BehindPut, AreTold, IsComing};
 ghost use Rattle.im_engine.specs.Chain.{put_ahead};
 
@@ -103,10 +102,10 @@ impl<D: Disk> Engine<D> {
     /// where there is no place more, and before the first confirmation of which it isn't known, before the group ahead
     /// acts, that each entry that it drops is answered. The rest is untouched, and is put again. (Own.)
     ///
-    /// `Failed` exactly where an earlier call failed on the disk. `Device` where one fails now: then the memory stays,
-    /// the commands of the group ahead are on the disk all together or not at all, none of the next members' is, the
-    /// engine has failed, and the image has to be opened again. In both cases each member of the group ahead is refused
-    /// so, nothing is ahead any more, and none of the next members was taken.
+    /// `Failed` exactly where an earlier call failed on the disk: all stays. `Device` where one fails now: then the memory
+    /// stays, the commands of the group ahead are on the disk all together or not at all, none of the next members' is,
+    /// nothing is ahead any more, the engine has failed, and the image has to be opened again. In both cases each member
+    /// of the group ahead is refused so, and none of the next members was taken.
     pub fn advance(
         &mut self,
         next: &ArrayVec<Command, MAX_GROUP>,
@@ -120,7 +119,7 @@ impl<D: Disk> Engine<D> {
     {
         if self.failed {
             // First of all: the disk may have more than the memory.
-            self.refuse_ahead(Refusal::Failed, served);
+            refuse_all(self.ahead.members.as_slice(), Refusal::Failed, served);
             return Err(Refusal::Failed);
         }
         let coming = self.judge_coming(next.as_slice());
@@ -128,7 +127,9 @@ impl<D: Disk> Engine<D> {
         // answer is given before.
         if let Err(_) = put_behind(&mut self.journal, &mut self.disk, &coming.commands) {
             self.failed = true; // All of the group ahead is there, or nothing of it.
-            self.refuse_ahead(Refusal::Device, served);
+            refuse_all(self.ahead.members.as_slice(), Refusal::Device, served);
+            self.ahead.forget();
+            self.journal.forget_ahead();
             return Err(Refusal::Device);
         }
         act_ahead(
@@ -140,19 +141,6 @@ impl<D: Disk> Engine<D> {
         let many = coming.members.as_slice().len();
         self.ahead = coming;
         Ok(many)
-    }
-
-    // Refuses the members of the group ahead, and forgets it.
-    #[inline(never)]
-    fn refuse_ahead(&mut self, refusal: Refusal, served: &mut ArrayVec<Served, MAX_GROUP>)
-        requires empty { served.old.items ≡ [] }
-        requires failed { self.old.failed ≡ true }
-        ensures answers { served.new.items ≡ each_refused refusal self.old.ahead }
-        ensures state { self.new ≡ record self.old { ahead = [] } }
-    {
-        refuse_all(self.ahead.members.as_slice(), refusal, served);
-        self.ahead.forget();
-        self.journal.forget_ahead();
     }
 
     // Judges the next members behind the group ahead, as many as there are places for.
