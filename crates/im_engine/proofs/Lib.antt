@@ -13,3 +13,4 @@ pub mod Adding
 pub mod Together
 pub mod Requests
 pub mod Chaining
+pub mod Advancing

@@ -122,6 +122,7 @@ impl<D: Disk> Engine<D> {
             refuse_all(self.ahead.members.as_slice(), Refusal::Failed, served);
             return Err(Refusal::Failed);
         }
+        let _count = self.journal.count(); // So that it is known that it isn't past the last one.
         let coming = self.judge_coming(next.as_slice());
         // A stop in it leaves all of the group ahead on the disk, or nothing of it, and nothing of the next one: no
         // answer is given before.
