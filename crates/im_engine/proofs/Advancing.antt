@@ -4,12 +4,13 @@ use Rattle.std.proofs.Common.{false, List, [], ◌∷◌, ◌++◌, length, map,
 use Rattle.std.proofs.Common.{◌∙◌, ap, subst, arith, length-take, length-take-le, if◌then◌else◌}
 use Rattle.std.specs.Prelude.{slice_get}
 use Rattle.std.proofs.lemmas.Bool.{cases_eq}
+use Rattle.std.proofs.lemmas.Bool.Decides.{nat_tests}
 use Rattle.std.proofs.lemmas.List.{take-take}
-use Rattle.im_types.specs.declared.TheConstants.{LAST}
+use Rattle.im_types.specs.declared.TheConstants.{LAST, MAX_GROUP}
 use Rattle.im_types.specs.declared.commands.Command.{Command}
 use Rattle.im_types.specs.declared.groups.Served.{Served}
 use Rattle.im_types.specs.declared.refusals.Refusal.{Refusal}
-use Rattle.im_types.specs.declared.refusals.Refusal.TheVariants.{Device}
+use Rattle.im_types.specs.declared.refusals.Refusal.TheVariants.{Device, Failed}
 use Rattle.im_types.specs.Contents.{Contents}
 use Rattle.im_types.specs.Meaning.{accept_each}
 use Rattle.im_types.specs.Groups.{as_served}
@@ -25,11 +26,12 @@ use Rattle.im_groups.specs.Commands.{places, answers_with, contents_after_all, c
 use Rattle.im_groups.specs.Ahead.{IsUnsure, ServesBehind, AreAccepted}
 use Rattle.im_groups.proofs.CommandLemmas.{few_at, at-after, at-accepts, at-accepted}
 use Rattle.im_groups.proofs.EnoughLemmas.{enough-commands, enough-takes, enough-answers, enough-contents, enough-pages}
-use Rattle.im_groups.proofs.EnoughLemmas.{at_most_members}
+use Rattle.im_groups.proofs.EnoughLemmas.{at_most_members, whole-accepted}
 use Rattle.im_engine.specs.State.{EngineState, engine_of}
-use Rattle.im_engine.specs.Commands.{each_refused, answers_in_turn}
+use Rattle.im_engine.specs.Commands.{AreWhole, AreParted, each_refused, answers_in_turn}
 use Rattle.im_engine.specs.Chain.{AreTold, IsAhead, Advances, IsComing, TakesNext, FitsBehind, put_ahead, places_left}
 use Rattle.im_engine.specs.Chain.{calls_to_advance}
+use Rattle.im_engine.proofs.Members.{longer_none}
 
 -- ---- places
 
@@ -182,6 +184,16 @@ module _ {D : Type 0} (d : D) (c : PagedCheckpoint) (m : MemoryState) (j : Journ
             (enough-pages m.contents (length members) p members (omega arith) it.enough) adds;
       }
 
+  -- an earlier call failed
+  pub advance_dead : f ≡ true → (next : List Command) (answers : List Served) → answers ≡ each_refused Failed members
+      → Advances here next (Err Failed) answers here
+  advance_dead dead next answers told = record {
+    enough = it.enough;
+    dead = λ e. (refl, told, refl);
+    alive = λ e. absurd (cc);
+    pages = λ e w. absurd (cc);
+  }
+
   -- a call of the disk failed
   pub advance_failed : f ≡ false → (d2 : D) (j2 : JournalState) (next ahead2 : List Command) → j2 ≡ with_ahead [] j
       → ahead2 ≡ [] → (answers : List Served) → answers ≡ each_refused Device members
@@ -212,3 +224,53 @@ pub few_calls : (ahead next : ℕ) → calls_to_advance ahead next ≤ next + 2
 few_calls zero zero = omega arith
 few_calls zero (suc next) = omega arith
 few_calls (suc ahead) next = omega arith
+
+pub calls_some : (ahead next : ℕ) → 0 < ahead → calls_to_advance ahead next ≡ next + 2
+calls_some zero next some = absurd (omega (arith, some))
+calls_some (suc ahead) next some = refl
+
+pub calls_first : (ahead next : ℕ) → ahead ≡ 0 → 0 < next → calls_to_advance ahead next ≡ next + 1
+calls_first zero zero none some = absurd (omega (arith, some))
+calls_first zero (suc next) none some = refl
+calls_first (suc ahead) next none some = absurd (omega (arith, none))
+
+pub no_group : {X : Type 0} (xs : List X) → 0 < length xs → xs ≡ [] → ⊥
+no_group xs some none = absurd (omega (arith, some, ap length none))
+
+-- a journal with nothing ahead, and with nothing more
+pub same_ahead : (j : JournalState) (next : List Command) → IsJournal j → j.ahead ≡ [] → next ≡ []
+    → j ≡ with_ahead next (longer (length j.ahead) j)
+same_ahead j next known none nothing =
+    let here : longer (length j.ahead) j ≡ j = ap (λ (l : List Command). longer (length l) j) none
+    ∙ longer_none j known in
+    (λ i. record { ring = j.ring; first = j.first; count = j.count; room = j.room; ahead = ahead i })
+    ∙ ap (λ (x : JournalState). with_ahead next x) (sym here)
+  where
+    ahead : j.ahead ≡ next
+    ahead = none ∙ sym nothing
+
+-- members that were judged, as they act: all of them take places, or each as it was told
+same_number : (a b : ℕ) → (a == b) ≡ true → a ≡ b
+same_number a b is = grind (arith, nat_tests)
+
+pub whole_of : (m : Contents) (left : ℕ) (members slice commands : List Command) (taken : List Bool) (test : Bool)
+    → slice ≡ members → left ≡ length slice → length slice ≤ MAX_GROUP → AreTold m members commands taken
+    → (length commands == length members) ≡ true → AreWhole m left slice
+whole_of m left members slice commands taken test same enough few told all = record {
+  few = few;
+  accepted = subst (λ (l : List Command). AreAccepted m l) (sym same)
+      (whole-accepted m (length members) members
+      (sym (ap length told.commands) ∙ same_number (length commands) (length members) all));
+  enough = omega (arith, enough);
+}
+
+pub parted_of : (m : Contents) (left : ℕ) (members slice commands : List Command) (taken told_slice : List Bool)
+    → slice ≡ members → left ≡ length slice → length slice ≤ MAX_GROUP → AreTold m members commands taken
+    → told_slice ≡ taken → AreParted m left slice told_slice
+parted_of m left members slice commands taken told_slice same enough few told is = record {
+  few = few;
+  taken = is ∙ told.taken ∙ (λ i. takes_at m (at i) (sym same i));
+}
+  where
+    at : length members ≡ left
+    at = sym (ap length same) ∙ sym enough

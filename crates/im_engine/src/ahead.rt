@@ -52,19 +52,6 @@ impl GroupAhead {
         }
     }
 
-    // Adds members behind those that are there.
-    pub(crate) fn set_members(&mut self, members: &[Command])
-        requires empty { self.old.members.items ≡ [] }
-        requires fits { length members.now ≤ MAX_GROUP }
-        ensures members { self.new.members.items ≡ members.now }
-        ensures commands { self.new.commands ≡ self.old.commands }
-        ensures taken { self.new.taken ≡ self.old.taken }
-    {
-        for member in members {
-            self.members.push(*member);
-        }
-    }
-
     // Whether all members take places.
     pub(crate) fn is_whole(&self) -> bool
         ensures { result ≡ (length self.now.commands.items == length self.now.members.items) }

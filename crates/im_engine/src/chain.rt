@@ -44,15 +44,28 @@ fn put_behind<D: Disk>(
     ensures faults { Faults (λ e. e ≡ Refusal.Device) result (D.failures disk.old) (D.failures disk.new) }
     ensures honest { D.honest disk.new → D.honest disk.old }
 {
-    if journal.ahead() > 0 {
+    let some = journal.ahead() > 0;
+    if some {
         // A stop in it leaves all of the commands ahead, or none, and none of the next ones.
         return journal.put_ahead(disk, next);
     }
-    if next.as_slice().is_empty() {
+    let none = next.as_slice().is_empty();
+    if none {
         return Ok(());
     }
     // A stop in it leaves what was there: no gate is written.
     journal.lay_ahead(disk, next)
+}
+
+// Copies members.
+fn copy_members(members: &[Command], copies: &mut ArrayVec<Command, MAX_GROUP>)
+    requires fits { length members.now ≤ MAX_GROUP }
+    requires empty { copies.old.items ≡ [] }
+    ensures { copies.new.items ≡ members.now }
+{
+    for member in members {
+        copies.push(*member);
+    }
 }
 
 // Lets the members of a group act in their order that were judged with a place for each. The disk already has the
@@ -163,7 +176,7 @@ impl<D: Disk> Engine<D> {
             &mut coming.commands,
             &mut coming.taken,
         );
-        coming.set_members(&asked[..many]);
+        copy_members(&asked[..many], &mut coming.members);
         coming
     }
 }

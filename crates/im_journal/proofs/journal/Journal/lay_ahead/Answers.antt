@@ -2,7 +2,7 @@ use Rattle.std.proofs.Common.{ap, sym, ◌∙◌, List, rules}
 use Rattle.im_types.specs.declared.commands.Command.{Command}
 use Rattle.im_journal.specs.Holding.{JournalState, journal_state, with_ahead}
 use Rattle.im_journal.proofs.Laying.{first_of, lay_leaves, lays}
-use Rattle.im_journal.proofs.ahead.Journal.lay_ahead.Goals as goal
+use Rattle.im_journal.proofs.journal.Journal.lay_ahead.Goals as goal
 
 pub returns-in-Err-clause-runs : goal.returns-in-Err-clause-runs
 returns-in-Err-clause-runs g c = record {

@@ -1,7 +1,7 @@
 use Rattle.std.proofs.Common.{length, ap, ◌+◌, ◌∙◌, sym, rules}
 use Rattle.im_journal.specs.Holding.{JournalState, journal_state, room_after, longer, with_ahead}
 use Rattle.im_journal.proofs.Chaining.{chain_of, chained_state, gate_leaves_put, bodies_leave_put, group_puts}
-use Rattle.im_journal.proofs.ahead.Journal.put_ahead.Goals as goal
+use Rattle.im_journal.proofs.journal.Journal.put_ahead.Goals as goal
 
 pub returns-in-Err-clause-runs : goal.returns-in-Err-clause-runs
 returns-in-Err-clause-runs g c = record {

@@ -1,0 +1,79 @@
+use Rattle.std.proofs.Common.{◌≡◌, ℕ, true, false, List, [], length, map, take, Result, Ok, Err, rules, sym, ◌∙◌, ap, subst}
+use Rattle.std.proofs.Common.{arith}
+use Rattle.im_types.specs.declared.refusals.Refusal.TheVariants.{Device, Failed}
+use Rattle.im_types.specs.Contents.{Contents}
+use Rattle.im_disk.proofs.SinceLemmas.{only_weaker}
+use Rattle.im_checkpoint.specs.Keeping.{paged, IsKept}
+use Rattle.im_groups.specs.Commands.{places, contents_after_all}
+use Rattle.im_groups.proofs.EnoughLemmas.{enough-contents}
+use Rattle.im_engine.specs.State.{EngineState, engine_of}
+use Rattle.im_engine.specs.Commands.{MeansCommands}
+use Rattle.im_engine.specs.Chain.{Advances, ServesAhead}
+use Rattle.im_engine.proofs.Keeping.{all_mean, all_hold}
+use Rattle.im_engine.proofs.Together.{means_group, fits_group}
+use Rattle.im_engine.proofs.Advancing.{laid_is, accepts, fits, next_ahead, advance_dead, advance_failed, advance_done}
+use Rattle.im_engine.proofs.engine.Engine.advance.Goals as goal
+
+pub returns-then-self-clause-answered : goal.returns-then-self-clause-answered
+returns-then-self-clause-answered g c =
+    let e = c.self.inside in
+    subst (λ (s : EngineState g.row.D.Denot). Advances s c.args.next.now.items (Err Failed)
+    c.refuse_all.new.served.items s) c.self.view_is
+    (advance_dead e.disk e.checkpoint e.memory e.journal e.ahead.members.items e.ahead.commands.items
+    e.ahead.taken.items e.failed _ c.self.invariant.2 c.if-self.true c.args.next.now.items
+    c.refuse_all.new.served.items (c.refuse_all.ensures ∙ search rules))
+
+pub put_behind-requires-clause-fits : goal.put_behind-requires-clause-fits
+put_behind-requires-clause-fits g c =
+    let e = c.self.inside in
+    let alive : e.failed ≡ false = c.if-self.false in
+    let ms = e.ahead.members.items in
+    let cs = e.ahead.commands.items in
+    let ts = e.ahead.taken.items in
+    let known = c.count-_count.ensures.known in
+    let it = c.self.invariant.2 in
+    fits e.disk e.checkpoint e.memory e.journal ms cs ts e.failed known it c.judge_coming-coming.result.members.items
+    c.judge_coming-coming.result.commands.items c.judge_coming-coming.result.taken.items (search rules) (search rules)
+
+pub put_behind-requires-clause-holds : goal.put_behind-requires-clause-holds
+put_behind-requires-clause-holds g c = λ h.
+    let e = c.self.inside in
+    all_hold e.checkpoint.state (paged e.checkpoint e.memory) e.memory.contents e.journal (g.D.Disk.now e.disk)
+    (c.self.invariant.1 h c.if-self.false)
+
+pub act_ahead-requires-clause-told : goal.act_ahead-requires-clause-told
+act_ahead-requires-clause-told g c = c.self.invariant.2.told
+
+pub returns-in-Err-clause-answered : goal.returns-in-Err-clause-answered
+returns-in-Err-clause-answered g c =
+    let e = c.self.inside in
+    let alive : e.failed ≡ false = c.if-self.false in
+    let ms = e.ahead.members.items in
+    let cs = e.ahead.commands.items in
+    let ts = e.ahead.taken.items in
+    let known = c.count-_count.ensures.known in
+    let it = c.self.invariant.2 in
+    subst (λ (s : EngineState g.row.D.Denot). Advances s c.args.next.now.items (Err Device)
+    c.refuse_all-2.new.served.items (engine_of c.put_behind.new.disk e.checkpoint e.memory c.forget_ahead.new.self
+    c.forget.new.self.members.items true)) c.self.view_is
+    (advance_failed e.disk e.checkpoint e.memory e.journal ms cs ts e.failed known it alive c.put_behind.new.disk
+    c.forget_ahead.new.self c.args.next.now.items c.forget.new.self.members.items (search rules)
+    c.forget.ensures.members c.refuse_all-2.new.served.items (c.refuse_all-2.ensures ∙ search rules))
+
+pub returns-clause-answered : goal.returns-clause-answered
+returns-clause-answered g c =
+    let e = c.self.inside in
+    let alive : e.failed ≡ false = c.if-self.false in
+    let ms = e.ahead.members.items in
+    let cs = e.ahead.commands.items in
+    let ts = e.ahead.taken.items in
+    let known = c.count-_count.ensures.known in
+    let it = c.self.invariant.2 in
+    subst (λ (s : EngineState g.row.D.Denot). Advances s c.args.next.now.items (Ok c.len-many.result)
+    c.act_ahead.new.served.items (engine_of c.put_behind.new.disk c.act_ahead.new.checkpoint c.act_ahead.new.memory
+    c.put_behind.new.journal c.judge_coming-coming.result.members.items e.failed)) c.self.view_is
+    (advance_done e.disk e.checkpoint e.memory e.journal ms cs ts e.failed known it alive c.put_behind.new.disk
+    c.act_ahead.new.checkpoint c.act_ahead.new.memory c.put_behind.new.journal c.args.next.now.items
+    c.judge_coming-coming.result.commands.items c.judge_coming-coming.result.members.items c.len-many.result
+    c.in_default.ensures.state (search rules) c.act_ahead.ensures.stays.state c.act_ahead.ensures.contents
+    c.act_ahead.new.served.items c.act_ahead.ensures.answers c.act_ahead.ensures.stays.pages)
