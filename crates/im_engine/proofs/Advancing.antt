@@ -125,8 +125,11 @@ module _ {D : Type 0} (d : D) (c : PagedCheckpoint) (m : MemoryState) (j : Journ
       (judged : AreTold (after m.contents (put_ahead here)) next put told)
       (few : length next ≤ places_left here) where
     few_next : length put ≤ length next
-    few_next = omega (arith, ap length judged.commands,
-        at_most_members (after m.contents (put_ahead here)) (length next) next)
+    few_next = omega (
+      arith,
+      ap length judged.commands,
+      at_most_members (after m.contents (put_ahead here)) (length next) next,
+    )
 
     pub fits : FitsBehind j put
     fits = record {
@@ -139,8 +142,14 @@ module _ {D : Type 0} (d : D) (c : PagedCheckpoint) (m : MemoryState) (j : Journ
     pub next_ahead : (m2 : Contents) (j2 : JournalState) → m2 ≡ contents_after_all m.contents (length members) members
         → j2 ≡ with_ahead put (longer (length j.ahead) j) → IsAhead m2 j2 next put told
     next_ahead m2 j2 contents journal = record {
-      enough = omega (arith, few, ap length laid_is, places_behind j.count j.room (length j.ahead),
-          ap (λ (x : JournalState). x.count) journal, ap (λ (x : JournalState). x.room) journal);
+      enough = omega (
+        arith,
+        few,
+        ap length laid_is,
+        places_behind j.count j.room (length j.ahead),
+        ap (λ (x : JournalState). x.count) journal,
+        ap (λ (x : JournalState). x.room) journal,
+      );
       told = subst (λ (x : Contents). AreTold x next put told) (sym (contents
           ∙ enough-contents m.contents (length members) p members (omega arith) it.enough
           ∙ sym (at-after m.contents p members))) judged;

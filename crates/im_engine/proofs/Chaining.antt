@@ -63,8 +63,13 @@ still_ahead m n j k [] members members2 commands commands2 taken taken2 k_is ms 
       taken = ts ∙ it.told.taken ∙ (λ i. takes_at (sym (same refl) i) (length (sym ms i)) (sym ms i));
     } in
     record {
-      enough = omega (arith, it.enough, ap length ms, ap (λ (x : JournalState). x.count) here,
-          ap (λ (x : JournalState). x.room) here);
+      enough = omega (
+        arith,
+        it.enough,
+        ap length ms,
+        ap (λ (x : JournalState). x.count) here,
+        ap (λ (x : JournalState). x.room) here,
+      );
       told = told;
       laid = ap (λ (x : JournalState). x.ahead) here ∙ it.laid ∙ sym cs;
     }

@@ -130,12 +130,12 @@ impl<D: Disk> Engine<D> {
         ensures takes { IfOk result (λ many. TakesNext self.old next.now.items self.new many) }
         ensures runs { ServesAhead D.Disk self.old self.new (length next.now.items) result }
     {
+        let _count = self.journal.count(); // So that it is known that it isn't past the last one.
         if self.failed {
             // First of all: the disk may have more than the memory.
             refuse_all(self.ahead.members.as_slice(), Refusal::Failed, served);
             return Err(Refusal::Failed);
         }
-        let _count = self.journal.count(); // So that it is known that it isn't past the last one.
         let coming = self.judge_coming(next.as_slice());
         // A stop in it leaves all of the group ahead on the disk, or nothing of it, and nothing of the next one: no
         // answer is given before.
@@ -146,12 +146,7 @@ impl<D: Disk> Engine<D> {
             self.journal.forget_ahead();
             return Err(Refusal::Device);
         }
-        act_ahead(
-            &mut self.checkpoint,
-            &mut self.memory,
-            &self.ahead,
-            served,
-        );
+        act_ahead(&mut self.checkpoint, &mut self.memory, &self.ahead, served);
         let many = coming.members.as_slice().len();
         self.ahead = coming;
         Ok(many)

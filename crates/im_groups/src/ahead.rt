@@ -70,11 +70,7 @@ pub(crate) fn moved_behind(bounds: (u64, u64), element: u16, commands: &[Command
 }
 
 // Returns the bounds of an element's window in the memory after these commands.
-fn bounds_after(
-    memory: &Memory,
-    ahead: &CommandsAhead,
-    element: u16,
-) -> Result<(u64, u64), Refusal>
+fn bounds_after(memory: &Memory, ahead: &CommandsAhead, element: u16) -> Result<(u64, u64), Refusal>
     ensures bounds { result ≡ moved_by element ahead.now (bounds memory.now.contents.windows element) }
     ensures memory { let m = memory.now.contents in IsMemory (length m.cells) (length m.windows) m }
 {

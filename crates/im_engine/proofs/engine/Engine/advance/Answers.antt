@@ -20,7 +20,7 @@ returns-then-self-clause-answered g c =
     subst (λ (s : EngineState g.row.D.Denot). Advances s c.args.next.now.items (Err Failed)
     c.refuse_all.new.served.items s) c.self.view_is
     (advance_dead e.disk e.checkpoint e.memory e.journal e.ahead.members.items e.ahead.commands.items
-    e.ahead.taken.items e.failed _ c.self.invariant.2 c.if-self.true c.args.next.now.items
+    e.ahead.taken.items e.failed c.count-_count.ensures.known c.self.invariant.2 c.if-self.true c.args.next.now.items
     c.refuse_all.new.served.items (c.refuse_all.ensures ∙ search rules))
 
 pub put_behind-requires-clause-fits : goal.put_behind-requires-clause-fits

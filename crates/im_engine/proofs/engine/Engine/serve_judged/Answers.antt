@@ -26,10 +26,10 @@ put_on-requires-clause-fits g c =
       known = c.places_in-places.ensures.known;
       few = c.requires.few;
       room = room_for e.disk e.checkpoint e.memory e.journal e.ahead.members.items e.failed
-    c.args.members.now.all.now
+          c.args.members.now.all.now
           c.places_in-places.ensures.known c.args.commands.now are;
       last = last_for e.disk e.checkpoint e.memory e.journal e.ahead.members.items e.failed
-    c.args.members.now.all.now
+          c.args.members.now.all.now
           c.places_in-places.ensures.known c.args.commands.now are;
     }
 
@@ -87,7 +87,7 @@ returns-in-Err-clause-runs g c =
     (record {
       honest = λ h. c.put_on.ensures.honest h;
       calls = λ h. calls_failed e.disk e.checkpoint e.memory e.journal e.ahead.members.items e.failed
-    c.args.members.now.all.now known
+          c.args.members.now.all.now known
           c.args.commands.now are g.D.Disk.past c.put_on.new.disk c.put_on.result c.in-Err.field-0 c.in-Err.is
           (c.put_on.ensures.calls.made h);
       faults = search rules;
@@ -118,7 +118,7 @@ invariant_of-self-2 g c =
           (c.in_default.ensures.kept h e.checkpoint.state (paged e.checkpoint e.memory) e.memory.contents
           (contents_after_all e.memory.contents (places e.journal.count e.journal.room) c.args.members.now.all.now)
           (accepts e.disk e.checkpoint e.memory e.journal e.ahead.members.items e.failed
-    c.args.members.now.all.now known c.args.commands.now
+          c.args.members.now.all.now known c.args.commands.now
           are)
           (c.self.invariant.1 (c.put_on.ensures.honest h) f))),
       still_ahead e.memory.contents c.act_all.new.memory.contents e.journal c.put_on.new.journal
@@ -184,7 +184,7 @@ returns-clause-runs g c =
     (record {
       honest = λ h. c.put_on.ensures.honest h;
       calls = λ h. calls_done e.disk e.checkpoint e.memory e.journal e.ahead.members.items e.failed
-    c.args.members.now.all.now known
+          c.args.members.now.all.now known
           c.args.commands.now are g.D.Disk.past c.put_on.new.disk c.put_on.result _ c.in_default.is
           (c.put_on.ensures.calls.made h);
       faults = search rules;
@@ -203,7 +203,7 @@ returns-clause-runs g c =
           (c.in_default.ensures.kept h e.checkpoint.state (paged e.checkpoint e.memory) e.memory.contents
           (contents_after_all e.memory.contents (places e.journal.count e.journal.room) c.args.members.now.all.now)
           (accepts e.disk e.checkpoint e.memory e.journal e.ahead.members.items e.failed
-    c.args.members.now.all.now known c.args.commands.now
+          c.args.members.now.all.now known c.args.commands.now
           are)
           (c.self.invariant.1 (c.put_on.ensures.honest h) f))));
     })

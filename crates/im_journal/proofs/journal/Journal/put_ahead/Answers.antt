@@ -64,10 +64,10 @@ returns-clause-added g c = λ h2.
     group_puts g.D.Disk.now g.D.Disk.past c.args.disk.now c.write_gate.new.disk c.self.view_is
     c.as_slice-slice.ensures.value
     (chain_of (journal_state c.self.inside.base c.self.inside.slots c.self.inside.first c.self.inside.count
-      c.self.inside.room c.self.inside.laid) c.args.self.now c.as_slice-slice.result.now
-      (g.D.Disk.now c.args.disk.now) c.many-laid.result _ c.has_room.result c.self.view_is c.self.invariant
-      (c.requires.holds h0) c.requires.some c.many-laid.ensures (search rules) c.has_room.ensures
-      c.if-not-has_room.false) (c.write_gate.ensures.runs.leaves h)
+    c.self.inside.room c.self.inside.laid) c.args.self.now c.as_slice-slice.result.now
+    (g.D.Disk.now c.args.disk.now) c.many-laid.result _ c.has_room.result c.self.view_is c.self.invariant
+    (c.requires.holds h0) c.requires.some c.many-laid.ensures (search rules) c.has_room.ensures
+    c.if-not-has_room.false) (c.write_gate.ensures.runs.leaves h)
     _ (ap (λ n. c.self.inside.count + n) c.many-laid.ensures) c.lay_bodies.new.disk
     (c.in_default.ensures.opened h) (c.in_default-lay_bodies.ensures.laid h2) _
     (chained_state c.self.inside.base c.self.inside.slots c.self.inside.first c.self.inside.count c.self.inside.room _
