@@ -8,6 +8,8 @@ use Rattle.im_journal.specs.Holding.{JournalState, IsJournal, with_room, with_ah
 use Rattle.im_checkpoint.specs.declared.checkpoint.TurnDone.{TurnDone}
 use Rattle.im_checkpoint.specs.Step.{CheckpointState}
 use Rattle.im_checkpoint.specs.Turns.{Turned}
+use Rattle.im_checkpoint.specs.Keeping.{Fits}
+use Rattle.im_engine.specs.State.{journal_of}
 use Rattle.im_groups.specs.Commands.{places, commands_at, takes_at, contents_after_all}
 use Rattle.im_groups.proofs.CommandLemmas.{at-after}
 use Rattle.im_engine.specs.Chain.{AreTold, IsAhead}
@@ -92,3 +94,23 @@ turned_alone c d j k answer t = record {
   in_force = λ count is. let row = t.in_force count is in
       (row.0, row.1, ap (λ (x : JournalState). with_ahead [] x) row.2);
 }
+
+-- the journal of an engine is that behind its header, whatever is ahead
+pub alone_is : (c : CheckpointState) (m : Contents) (j : JournalState) → Fits c m j
+    → journal_of c.header j.count j.room ≡ with_ahead [] j
+alone_is c m j it = (λ i. record {
+  ring = (sym it.ring) i;
+  first = (sym it.first) i;
+  count = j.count;
+  room = j.room;
+  ahead = [];
+})
+
+-- so the table of turns holds of the journals of engines
+pub turned_here : (c d : CheckpointState) (m n : Contents) (j k : JournalState) (answer : TurnDone) → Fits c m j
+    → Fits d n k → Turned c j answer d k
+    → Turned c (journal_of c.header j.count j.room) answer d (journal_of d.header k.count k.room)
+turned_here c d m n j k answer fits_j fits_k t =
+    subst (λ (x : JournalState). Turned c x answer d (journal_of d.header k.count k.room)) (sym (alone_is c m j fits_j))
+    (subst (λ (y : JournalState). Turned c (with_ahead [] j) answer d y) (sym (alone_is d n k fits_k))
+    (turned_alone c d j k answer t))

@@ -20,7 +20,7 @@ use Rattle.im_journal.specs.Holding.{JournalState, journal_state, IsJournal, Hol
 use Rattle.im_journal.specs.Holding.{longer, longer_tail, KeepsBoundaries, IsPut, MayAppend, Adds, IsFullBy}
 use Rattle.im_journal.proofs.Slots.{slot_inside, same_body, opened_gate, no_gate_behind, away_after}
 use Rattle.im_journal.proofs.Rings.{other_number}
-use Rattle.im_journal.proofs.Groups.{same_bodies, beside_group}
+use Rattle.im_journal.proofs.Groups.{same_bodies, none_there, beside_group}
 use Rattle.im_journal.proofs.Tails.{Parts, parts_of, next_closed, tail_kept, tail_added, boundaries_kept}
 use Rattle.im_journal.proofs.Tails.{boundaries_added}
 
@@ -146,8 +146,7 @@ module _ {j : JournalState} {commands : List Command} {m0 : Moment} (next : IsNe
           count = omega (arith, held.count, length-append held.commands commands);
           enough = less_room (j.count + g == LAST) held.enough;
           behind = still_behind;
-          laid = subst (λ (l : List Command). HasBodies j.ring (length l) (j.count + g) l c)
-              (sym (none_ahead g j.ahead next.some)) tt;
+          laid = none_there j.ring (j.count + g) (ahead_after g j.ahead) c (none_ahead g j.ahead next.some);
         }
           where
             less_room : (b : Bool) → j.room ≤ held.there

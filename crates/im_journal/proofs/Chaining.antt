@@ -14,7 +14,8 @@ use Rattle.im_disk.specs.Since.{SameBut, LeavesOnly, LeavesNow}
 use Rattle.im_disk.proofs.SinceLemmas.{left_now, left_settled, leaves_then, only_weaker}
 use Rattle.im_journal.specs.Gates.{MayTouch, IsOpened}
 use Rattle.im_journal.specs.Groups.{HasBodies, SameButBodies, SameButGroup, MayWriteBodies, AreLaid}
-use Rattle.im_journal.specs.Holding.{JournalState, journal_state, IsJournal, Holds, AllHold, room_after, longer}
+use Rattle.im_journal.specs.Holding.{JournalState, journal_state, IsJournal, AreThere, Holds, AllHold, room_after}
+use Rattle.im_journal.specs.Holding.{longer}
 use Rattle.im_journal.specs.Holding.{longer_tail, with_ahead, slots_ahead, KeepsBoundaries, IsPut, MayPut, Puts}
 use Rattle.im_journal.proofs.Slots.{slot_inside, opened_gate, no_gate_behind}
 use Rattle.im_journal.proofs.Rings.{other_number}
@@ -147,10 +148,10 @@ module _ {j : JournalState} {next : List Command} {m0 : Moment} (chain : IsChain
       opened_c = opened_gate j.ring j.count c opened
 
       bodies_e : HasBodies j.ring g j.count j.ahead e
-      bodies_e = bodies_stay j.ring j.count d e j.ahead gate held.laid
+      bodies_e = bodies_stay j.ring j.count d e j.ahead gate held.laid.bodies
 
       longer_e : Holds k e
-      longer_e = longer_held as_next d held e group_same chain.known.ahead.fits opened_e bodies_e
+      longer_e = longer_held as_next d held e group_same held.laid.fits opened_e bodies_e
 
       pub bodies_c : HasBodies j.ring g j.count j.ahead c
       bodies_c = same_bodies j.ring e c g j.count j.ahead
@@ -159,14 +160,14 @@ module _ {j : JournalState} {next : List Command} {m0 : Moment} (chain : IsChain
 
       pub tail_open : tail j.ring j.first c ≡ option_map (longer_tail j.count j.ahead) (tail j.ring j.first d)
       tail_open = tail_laid k some_slots h room_next e c longer_e but
-          ∙ added_to as_next d held e group_same chain.known.ahead.fits opened_e bodies_e
+          ∙ added_to as_next d held e group_same held.laid.fits opened_e bodies_e
 
       pub boundaries_open : KeepsBoundaries j.ring j.first d c
       boundaries_open m b = boundaries_laid k some_slots h room_next e c longer_e but m
-          (added_boundaries as_next d held e group_same chain.known.ahead.fits opened_e bodies_e m b)
+          (added_boundaries as_next d held e group_same held.laid.fits opened_e bodies_e m b)
 
-      pub holds_open : HasBodies j.ring h (j.count + g) next c → Holds (with_ahead next k) c
-      holds_open bodies = holds_laid k some_slots h room_next e c longer_e but next bodies
+      pub holds_open : AreThere j.ring (j.count + g) next c → Holds (with_ahead next k) c
+      holds_open there = holds_laid k some_slots h room_next e c longer_e but next there
 
     pub may_put : Left m0 d → MayPut (g + h) j j.ahead m0 c
     may_put left = by_gate (cases_eq (get_or c at 0) open_gate)
@@ -224,7 +225,8 @@ module _ {j : JournalState} {next : List Command} {m0 : Moment} (chain : IsChain
             is_put;
         holds = λ c left. subst (λ (f : List ℕ). Holds l f) (sym (left_settled m2 c w.calm left))
             (subst (λ (x : JournalState). Holds x m2.bytes) (sym l_is)
-            (holds_open m0.bytes held_now m1.bytes o.kept m2.bytes w.kept gate_now w.bodies));
+            (holds_open m0.bytes held_now m1.bytes o.kept m2.bytes w.kept gate_now
+            (record { bodies = w.bodies; fits = w.fits })));
         kept = both_same m0.bytes held_now m1.bytes o.kept m2.bytes w.kept;
         calm = w.calm;
       }

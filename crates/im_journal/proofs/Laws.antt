@@ -9,7 +9,7 @@ use Rattle.im_disk.specs.Since.{SameBut}
 use Rattle.im_disk.proofs.SinceLemmas.{left_torn, left_sync, left_synced}
 use Rattle.im_journal.specs.Holding.{JournalState, IsJournal, Holds, AllHold, AreClosed}
 use Rattle.im_journal.proofs.Slots.{slot_inside, same_slot}
-use Rattle.im_journal.proofs.Groups.{same_bodies}
+use Rattle.im_journal.proofs.Groups.{same_there}
 use Rattle.im_journal.proofs.Tails.{tail_elsewhere}
 
 -- a range before the ring, or behind it
@@ -48,7 +48,7 @@ module _ (j : JournalState) (known : IsJournal j) where
     enough = held.enough;
     behind = λ low k from to. subst (λ (l : List ℕ). sequence_of l < j.first)
         (sym (slot_elsewhere at n d c beside same (j.count + k))) (held.behind low k from to);
-    laid = same_bodies j.ring d c (length j.ahead) j.count j.ahead
+    laid = same_there j.ring d c j.count j.ahead
         (λ k less. ap (λ (l : List ℕ). drop 1 l) (slot_elsewhere at n d c beside same (j.count + k))) held.laid;
   }
 

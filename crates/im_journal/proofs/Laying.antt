@@ -12,11 +12,12 @@ use Rattle.im_types.specs.Journal.{Ring, slot_offset, slot, IsBoundary, Tail, ta
 use Rattle.im_disk.specs.Moment.{Moment}
 use Rattle.im_disk.specs.Since.{SameBut, LeavesOnly}
 use Rattle.im_disk.proofs.SinceLemmas.{left_now, left_settled, only_weaker}
-use Rattle.im_journal.specs.Groups.{HasBodies, SameButBodies, SameButGroup, MayWriteBodies, AreLaid}
-use Rattle.im_journal.specs.Holding.{JournalState, IsJournal, Holds, AllHold, with_ahead, KeepsBoundaries, SameRun}
+use Rattle.im_journal.specs.Groups.{SameButBodies, SameButGroup, MayWriteBodies, AreLaid}
+use Rattle.im_journal.specs.Holding.{JournalState, IsJournal, AreThere, Holds, AllHold, with_ahead}
+use Rattle.im_journal.specs.Holding.{KeepsBoundaries, SameRun}
 use Rattle.im_journal.specs.Holding.{MayLay, Lays}
 use Rattle.im_journal.proofs.Slots.{slot_inside, no_gate_behind, away, away_after}
-use Rattle.im_journal.proofs.Groups.{beside_group, none_laid}
+use Rattle.im_journal.proofs.Groups.{beside_group, none_there}
 use Rattle.im_journal.proofs.Tails.{Parts, parts_of, next_closed, tail_kept, boundaries_kept}
 
 -- h bodies, for which there is room; the file d holds the journal
@@ -83,9 +84,8 @@ module _ (j : JournalState) (some : 0 < j.ring.slots) (h : ℕ) (room : h ≤ j.
       (cases_lt 0 h)
 
   -- the journal with these commands ahead
-  pub holds_laid : (commands : List Command) → HasBodies j.ring (length commands) j.count commands c
-      → Holds (with_ahead commands j) c
-  holds_laid commands bodies = record {
+  pub holds_laid : (commands : List Command) → AreThere j.ring j.count commands c → Holds (with_ahead commands j) c
+  holds_laid commands stands = record {
     size = subst (λ (n : ℕ). j.ring.base + 64 * j.ring.slots ≤ n) (sym same.size) held.size;
     commands = held.commands;
     there = held.there;
@@ -94,7 +94,7 @@ module _ (j : JournalState) (some : 0 < j.ring.slots) (h : ℕ) (room : h ≤ j.
     enough = held.enough;
     behind = λ low k from to. subst (λ (l : List ℕ). sequence_of l < j.first) (sym (behind_laid k from to))
         (held.behind low k from to);
-    laid = bodies;
+    laid = stands;
   }
 
   only_ring : SameBut j.ring.base (64 * j.ring.slots) d c
@@ -117,7 +117,7 @@ module _ (j : JournalState) (some : 0 < j.ring.slots) (h : ℕ) (room : h ≤ j.
     found = held.there;
     after = tail_laid ∙ held.reads;
     enough = held.enough;
-    holds = holds_laid j.ahead (none_laid j.ring j.count j.ahead c none);
+    holds = holds_laid j.ahead (none_there j.ring j.count j.ahead c none);
     boundaries = boundaries_laid;
   }
 
@@ -168,7 +168,8 @@ module _ {s j : JournalState} {l next : List Command} {m0 : Moment} (f : IsFirst
   lays m w k k_is = subst (λ (x : JournalState). Lays x k m0 m) f.is (record {
     holds = λ c left. subst (λ (file : List ℕ). Holds k file) (sym (left_settled m c w.calm left))
         (subst (λ (x : JournalState). Holds x m.bytes) (sym k_is)
-        (holds_laid s some_slots (length l) f.room m0.bytes m.bytes (f.all m0.bytes (left_now m0)) w.kept l w.bodies));
+        (holds_laid s some_slots (length l) f.room m0.bytes m.bytes (f.all m0.bytes (left_now m0)) w.kept l
+        (record { bodies = w.bodies; fits = w.fits })));
     run = run_laid s some_slots (length l) f.room m0.bytes m.bytes (f.all m0.bytes (left_now m0)) w.kept f.none;
     calm = w.calm;
   })

@@ -14,6 +14,7 @@ pub mod Appending
 pub mod Touching
 pub mod Laying
 pub mod Chaining
+pub mod Fitting
 pub mod Reading
 pub mod Laws
 mod Counterexamples

@@ -17,7 +17,7 @@ use Rattle.im_journal.specs.Holding.{JournalState, IsJournal, Holds, AllHold, to
 use Rattle.im_journal.specs.Holding.{SameRun, MaySweep, Sweeps}
 use Rattle.im_journal.specs.Gates.{closed_gate as shut_gate, SameButGates, MayClose, HasClosed, AreShut}
 use Rattle.im_journal.proofs.Slots.{slot_inside, away, same_slot, same_body, no_gate_behind, closed_gate}
-use Rattle.im_journal.proofs.Groups.{same_bodies}
+use Rattle.im_journal.proofs.Groups.{same_there}
 use Rattle.im_journal.proofs.Tails.{Parts, parts_of}
 use Rattle.im_journal.proofs.Rings.{other_number, closed_at}
 use Rattle.im_journal.proofs.Sweeps.{tail_swept, boundaries_swept, no_less}
@@ -177,7 +177,7 @@ module _ (j : JournalState) (known : IsJournal j) (n : ℕ) (low : j.count < LAS
         enough = found_enough;
         behind = λ lower k from to. subst (λ (m : ℕ). m < j.first) (sym (sequences_stay (j.count + k)))
             (held.behind low k (omega (arith, from)) to);
-        laid = same_bodies j.ring c d (length j.ahead) j.count j.ahead (λ k less. body_stays (j.count + k)) held.laid;
+        laid = same_there j.ring c d j.count j.ahead (λ k less. body_stays (j.count + k)) held.laid;
       }
 
     none_closed : HasClosed j.ring next 0 d

@@ -57,7 +57,6 @@ pub record FitAhead (count room : ℕ) (commands : List Command) : Type 0 where
   pub few : length commands ≤ MAX_GROUP
   pub room : length commands ≤ room
   pub last : count + length commands ≤ LAST
-  pub fits : AllFit commands
 
 -- the run and the room go once round the ring at most, and no further than the last count
 pub record IsJournal (j : JournalState) : Type 0 where
@@ -69,6 +68,11 @@ pub record IsJournal (j : JournalState) : Type 0 where
   pub to_last : j.count ≤ LAST
   pub full_at_last : j.count ≡ LAST → j.room ≡ 0
   pub ahead : FitAhead j.count j.room j.ahead
+
+-- these commands stand behind the gates of the slots from this sequence number on, as one group
+pub record AreThere (ring : Ring) (s : ℕ) (commands : List Command) (file : List ℕ) : Type 0 where
+  pub bodies : HasBodies ring (length commands) s commands file
+  pub fits : AllFit commands
 
 -- The journal is the tail of the file. A read of the file may find more room than the journal knows of. Each slot
 -- behind the known room is of a command before the run, whatever its gate is. The bodies of the commands ahead stand in
@@ -82,7 +86,7 @@ pub record Holds (j : JournalState) (file : List ℕ) : Type 0 where
   pub enough : j.room ≤ there
   pub behind : j.count < LAST → (k : ℕ) → j.room ≤ k → k < j.ring.slots - (j.count - j.first)
       → sequence_of (slot j.ring (j.count + k) file) < j.first
-  pub laid : HasBodies j.ring (length j.ahead) j.count j.ahead file
+  pub laid : AreThere j.ring j.count j.ahead file
 
 -- the journal is the tail of each file that a crash at this moment may leave
 abbrev pub AllHold : JournalState → Moment → Type 0
