@@ -43,7 +43,7 @@ impl<'a> CommandsAhead<'a> {
     pub fn is_empty(&self) -> bool
         ensures { result ≡ (length self.now == 0) }
     {
-        self.group.is_empty() && self.members.is_empty()
+        self.group.len() + self.members.len() == 0
     }
 
     /// The bounds of an element's window after them.
@@ -59,7 +59,8 @@ impl<'a> CommandsAhead<'a> {
     pub(crate) fn ask_at_once(&self, element: u16, number: u64) -> bool
         ensures { result ≡ list_any (asks_at_once (record { element = element; number = number })) self.now }
     {
-        is_asked_at_once(self.group, element, number)
-            || is_asked_at_once(self.members, element, number)
+        let in_group = is_asked_at_once(self.group, element, number);
+        let in_members = is_asked_at_once(self.members, element, number);
+        in_group | in_members
     }
 }
