@@ -6,8 +6,8 @@ use Rattle.im_types.specs.Contents.{Contents}
 use Rattle.im_types.specs.Run.{after}
 use Rattle.im_journal.specs.Holding.{JournalState, IsJournal, with_room, with_ahead, longer, ahead_after}
 use Rattle.im_checkpoint.specs.declared.checkpoint.TurnDone.{TurnDone}
-use Rattle.im_checkpoint.specs.Step.{CheckpointState}
-use Rattle.im_checkpoint.specs.Turns.{Turned}
+use Rattle.im_checkpoint.specs.Step.{Step, NoCheckpoint, PagesLeft, PagesDone, Synced, CheckpointState}
+use Rattle.im_checkpoint.specs.Turns.{Turned, swept_at_once, calls_to_sweep}
 use Rattle.im_checkpoint.specs.Keeping.{Fits}
 use Rattle.im_engine.specs.State.{journal_of}
 use Rattle.im_groups.specs.Commands.{places, commands_at, takes_at, contents_after_all}
@@ -114,3 +114,28 @@ turned_here c d m n j k answer fits_j fits_k t =
     subst (λ (x : JournalState). Turned c x answer d (journal_of d.header k.count k.room)) (sym (alone_is c m j fits_j))
     (subst (λ (y : JournalState). Turned c (with_ahead [] j) answer d y) (sym (alone_is d n k fits_k))
     (turned_alone c d j k answer t))
+
+-- nor does a sweep
+pub swept_alone : (s : Step) (j : JournalState) (most : ℕ) → swept_at_once s (with_ahead [] j) most
+    ≡ swept_at_once s j most
+swept_alone NoCheckpoint j most = refl
+swept_alone (PagesLeft count left) j most = refl
+swept_alone (PagesDone count) j most = refl
+swept_alone (Synced count) j most = refl
+
+pub calls_alone : (s : Step) (j : JournalState) (most : ℕ) → calls_to_sweep s (with_ahead [] j) most
+    ≡ calls_to_sweep s j most
+calls_alone NoCheckpoint j most = refl
+calls_alone (PagesLeft count left) j most = refl
+calls_alone (PagesDone count) j most = refl
+calls_alone (Synced count) j most = refl
+
+pub swept_here : (c : CheckpointState) (m : Contents) (j : JournalState) (most : ℕ) → Fits c m j
+    → swept_at_once c.step j most ≡ swept_at_once c.step (journal_of c.header j.count j.room) most
+swept_here c m j most it = sym (swept_alone c.step j most)
+    ∙ ap (λ (x : JournalState). swept_at_once c.step x most) (sym (alone_is c m j it))
+
+pub calls_here : (c : CheckpointState) (m : Contents) (j : JournalState) (most : ℕ) → Fits c m j
+    → calls_to_sweep c.step j most ≡ calls_to_sweep c.step (journal_of c.header j.count j.room) most
+calls_here c m j most it = sym (calls_alone c.step j most)
+    ∙ ap (λ (x : JournalState). calls_to_sweep c.step x most) (sym (alone_is c m j it))
