@@ -283,3 +283,20 @@ parted_of m left members slice commands taken told_slice same enough few told is
   where
     at : length members ≡ left
     at = sym (ap length same) ∙ sym enough
+
+-- the calls of a run that is done
+pub calls_made : {D T E : Type 0} (past : D → List Moment) (d d2 : D) (n : ℕ) (r : Result T E) (x : T) → r ≡ Ok x
+    → CallsBy past d d2 n r → Calls past d d2 n
+calls_made {D} {T} {E} past d d2 n r x is calls = subst (λ (y : Result T E). CallsBy past d d2 n y) is calls
+
+-- no more calls, whatever comes of the run
+pub calls_few : {D T E : Type 0} (past : D → List Moment) (d d2 : D) (ahead next most : ℕ) (r : Result T E)
+    → next ≤ most → CallsBy past d d2 (calls_to_advance ahead next) r → CallsAtMost past d d2 (most + 2)
+calls_few past d d2 ahead next most (Ok x) le calls = omega (arith, calls, le, few_calls ahead next)
+calls_few past d d2 ahead next most (Err x) le calls = omega (arith, calls, le, few_calls ahead next)
+
+-- the commands of a group ahead are those that an engine puts of it
+pub new_put : (m n : Contents) (j : JournalState) (members commands : List Command) (taken : List Bool)
+    → IsAhead n j members commands taken → commands ≡ commands_at n (places j.count j.room) members
+new_put m n j members commands taken it = it.told.commands
+    ∙ enough-commands n (length members) (places j.count j.room) members (omega arith) it.enough

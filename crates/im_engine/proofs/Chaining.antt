@@ -3,12 +3,13 @@ use Rattle.std.proofs.Common.{◌≡◌, ℕ, ◌+◌, ◌-◌, ◌≤◌, min, 
 use Rattle.im_types.specs.declared.TheConstants.{LAST}
 use Rattle.im_types.specs.declared.commands.Command.{Command}
 use Rattle.im_types.specs.Contents.{Contents}
+use Rattle.im_types.specs.Header.{Header}
 use Rattle.im_types.specs.Run.{after}
 use Rattle.im_journal.specs.Holding.{JournalState, IsJournal, with_room, with_ahead, longer, ahead_after}
 use Rattle.im_checkpoint.specs.declared.checkpoint.TurnDone.{TurnDone}
 use Rattle.im_checkpoint.specs.Step.{Step, NoCheckpoint, PagesLeft, PagesDone, Synced, CheckpointState}
 use Rattle.im_checkpoint.specs.Turns.{Turned, swept_at_once, calls_to_sweep}
-use Rattle.im_checkpoint.specs.Keeping.{Fits}
+use Rattle.im_checkpoint.specs.Keeping.{StepFits, Fits}
 use Rattle.im_engine.specs.State.{journal_of}
 use Rattle.im_groups.specs.Commands.{places, commands_at, takes_at, contents_after_all}
 use Rattle.im_groups.proofs.CommandLemmas.{at-after}
@@ -139,3 +140,21 @@ pub calls_here : (c : CheckpointState) (m : Contents) (j : JournalState) (most :
     → calls_to_sweep c.step j most ≡ calls_to_sweep c.step (journal_of c.header j.count j.room) most
 calls_here c m j most it = sym (calls_alone c.step j most)
     ∙ ap (λ (x : JournalState). calls_to_sweep c.step x most) (sym (alone_is c m j it))
+
+-- a memory and a journal fit a header whatever is ahead
+step_ahead : (h : Header) (j : JournalState) (next : List Command) (s : Step) → StepFits h j s
+    → StepFits h (with_ahead next j) s
+step_ahead h j next NoCheckpoint it = tt
+step_ahead h j next (PagesLeft count left) it = record { from = it.from; to = it.to }
+step_ahead h j next (PagesDone count) it = record { from = it.from; to = it.to }
+step_ahead h j next (Synced count) it = record { from = it.from; to = it.to }
+
+pub fits_ahead : (c : CheckpointState) (m : Contents) (j k : JournalState) (next : List Command)
+    → k ≡ with_ahead next j → Fits c m j → Fits c m k
+fits_ahead c m j k next is it = subst (λ (x : JournalState). Fits c m x) (sym is) (record {
+  cells = it.cells;
+  elements = it.elements;
+  ring = it.ring;
+  first = it.first;
+  step = step_ahead c.header j next c.step it.step;
+})
