@@ -11,7 +11,7 @@ use Rattle.im_pages.specs.PageSets.{pages_from}
 use Rattle.im_checkpoint.specs.declared.checkpoint.TurnDone.{TurnDone}
 use Rattle.im_checkpoint.specs.Step.{Step, NoCheckpoint, PagesLeft, PagesDone, Synced, CheckpointState}
 use Rattle.im_checkpoint.specs.Step.{PagedCheckpoint, IsUnderWay, pages_step, turns_left, changed_in}
-use Rattle.im_checkpoint.specs.Turns.{Turned, Moved, is_due, next_header}
+use Rattle.im_checkpoint.specs.Turns.{Turned, Moved, is_due, next_header, begun_at}
 use Rattle.im_checkpoint.specs.Keeping.{IsBetween, StepFits, Fits, KeepsAhead, ComesTo}
 
 -- where a call is done, what follows from it

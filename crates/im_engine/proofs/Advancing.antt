@@ -1,15 +1,13 @@
 -- A chain of groups: what is judged, what is put, and what the engine is then.
 use Rattle.std.proofs.Common.{◌≡◌, ◌≢◌, ◌⊎◌, inl, inr, ⊎_elim, ℕ, zero, suc, ◌+◌, ◌-◌, ◌<◌, ◌≤◌, ◌==◌, min, Bool, true}
-use Rattle.std.proofs.Common.{false, List, [], ◌∷◌, ◌++◌, length, map, take, None, Some, Result, Ok, Err, refl, sym}
-use Rattle.std.proofs.Common.{◌∙◌, ap, subst, arith, length-take, length-take-le, if◌then◌else◌}
+use Rattle.std.proofs.Common.{false, List, [], ◌∷◌, ◌++◌, length, map, take, Some, Result, Ok, Err, refl, sym}
+use Rattle.std.proofs.Common.{◌∙◌, ap, subst, arith, length-take, if◌then◌else◌}
 use Rattle.std.specs.Prelude.{slice_get}
 use Rattle.std.proofs.lemmas.Bool.{cases_eq}
 use Rattle.std.proofs.lemmas.Bool.Decides.{nat_tests}
-use Rattle.std.proofs.lemmas.List.{take-take}
 use Rattle.im_types.specs.declared.TheConstants.{LAST, MAX_GROUP}
 use Rattle.im_types.specs.declared.commands.Command.{Command}
 use Rattle.im_types.specs.declared.groups.Served.{Served}
-use Rattle.im_types.specs.declared.refusals.Refusal.{Refusal}
 use Rattle.im_types.specs.declared.refusals.Refusal.TheVariants.{Device, Failed}
 use Rattle.im_types.specs.Contents.{Contents}
 use Rattle.im_types.specs.Meaning.{accept_each}
@@ -18,7 +16,7 @@ use Rattle.im_types.specs.Run.{after}
 use Rattle.im_disk.specs.Moment.{Moment}
 use Rattle.im_disk.specs.Since.{CallsAtMost, CallsBy, Calls}
 use Rattle.im_memory.specs.State.{MemoryState}
-use Rattle.im_journal.specs.Holding.{JournalState, IsJournal, room_after, longer, with_ahead, slots_ahead}
+use Rattle.im_journal.specs.Holding.{JournalState, IsJournal, room_after, longer, with_ahead}
 use Rattle.im_journal.proofs.Rings.{other_number}
 use Rattle.im_checkpoint.specs.Step.{PagedCheckpoint, changed_in}
 use Rattle.im_checkpoint.specs.Turns.{AddsAtMost}
@@ -28,8 +26,8 @@ use Rattle.im_groups.proofs.CommandLemmas.{few_at, at-after, at-accepts, at-acce
 use Rattle.im_groups.proofs.EnoughLemmas.{enough-commands, enough-takes, enough-answers, enough-contents, enough-pages}
 use Rattle.im_groups.proofs.EnoughLemmas.{at_most_members, whole-accepted}
 use Rattle.im_engine.specs.State.{EngineState, engine_of}
-use Rattle.im_engine.specs.Commands.{AreWhole, AreParted, each_refused, answers_in_turn}
-use Rattle.im_engine.specs.Chain.{AreTold, IsAhead, Advances, IsComing, TakesNext, FitsBehind, put_ahead, places_left}
+use Rattle.im_engine.specs.Commands.{AreWhole, AreParted, each_refused}
+use Rattle.im_engine.specs.Chain.{AreTold, IsAhead, Advances, IsComing, FitsBehind, put_ahead, places_left}
 use Rattle.im_engine.specs.Chain.{calls_to_advance}
 use Rattle.im_engine.proofs.Members.{longer_none}
 

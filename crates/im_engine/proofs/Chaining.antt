@@ -1,6 +1,5 @@
 -- The group ahead of an engine.
-use Rattle.std.proofs.Common.{◌≡◌, ℕ, ◌+◌, ◌-◌, ◌≤◌, min, Bool, List, [], ◌∷◌, length, refl, sym, ◌∙◌, ap, subst, arith}
-use Rattle.im_types.specs.declared.TheConstants.{LAST}
+use Rattle.std.proofs.Common.{◌≡◌, ℕ, ◌+◌, ◌-◌, ◌≤◌, Bool, List, [], ◌∷◌, length, refl, sym, ◌∙◌, ap, subst, arith}
 use Rattle.im_types.specs.declared.commands.Command.{Command}
 use Rattle.im_types.specs.Contents.{Contents}
 use Rattle.im_types.specs.Header.{Header}
@@ -11,7 +10,7 @@ use Rattle.im_checkpoint.specs.Step.{Step, NoCheckpoint, PagesLeft, PagesDone, S
 use Rattle.im_checkpoint.specs.Turns.{Turned, swept_at_once, calls_to_sweep}
 use Rattle.im_checkpoint.specs.Keeping.{StepFits, Fits}
 use Rattle.im_engine.specs.State.{journal_of}
-use Rattle.im_groups.specs.Commands.{places, commands_at, takes_at, contents_after_all}
+use Rattle.im_groups.specs.Commands.{commands_at, takes_at, contents_after_all}
 use Rattle.im_groups.proofs.CommandLemmas.{at-after}
 use Rattle.im_engine.specs.Chain.{AreTold, IsAhead}
 use Rattle.im_engine.proofs.Members.{longer_none}

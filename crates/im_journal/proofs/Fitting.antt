@@ -1,10 +1,10 @@
 -- A journal with commands more, and with others ahead, is one.
-use Rattle.std.proofs.Common.{◌≡◌, ◌≢◌, ⊎_elim, ℕ, ◌+◌, ◌-◌, ◌<◌, ◌≤◌, ◌==◌, Bool, true, false, List, [], length, sym}
+use Rattle.std.proofs.Common.{◌≡◌, ◌≢◌, ⊎_elim, ℕ, ◌+◌, ◌-◌, ◌<◌, ◌≤◌, ◌==◌, Bool, List, [], length, sym}
 use Rattle.std.proofs.Common.{◌∙◌, ap, subst, arith, eq-eqb, if◌then◌else◌}
 use Rattle.std.proofs.lemmas.Bool.{cases_eq}
 use Rattle.im_types.specs.declared.TheConstants.{LAST, MAX_GROUP}
 use Rattle.im_types.specs.declared.commands.Command.{Command}
-use Rattle.im_journal.specs.Holding.{JournalState, FitAhead, IsJournal, room_after, longer, with_ahead, with_room}
+use Rattle.im_journal.specs.Holding.{JournalState, FitAhead, IsJournal, room_after, longer, with_ahead}
 use Rattle.im_journal.proofs.Rings.{other_number}
 
 -- nothing is ahead
