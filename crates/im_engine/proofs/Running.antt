@@ -186,6 +186,12 @@ device_fails D mid new (Sweep most) (DidSweep a) it f d = ⊎_elim
     (λ fault. ap (λ (s : EngineState D). s.failed) fault.1)
     (it.alive f)
 
+-- a refusal has its cause, whichever reasons there may be
+pub caused_somehow : {T : Type 0} (r : Result T Refusal) (may : Refusal → Type 0) (old now : ℕ)
+    → Faults may r old now → Faults (λ e. Unit {0}) r old now
+caused_somehow (Ok x) may old now same = same
+caused_somehow (Err e) may old now fault = (tt, fault.1, fault.2)
+
 ok_is_no_device : {T : Type 0} (x : T) → IsErrOf {T = T} {E = Refusal} (Ok x) Device → ⊥
 ok_is_no_device x e = absurd (cc)
 

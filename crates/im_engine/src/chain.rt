@@ -25,8 +25,8 @@ use im_memory::Memory;
 use im_types::{Command, MAX_GROUP, Refusal, Served};
 use std::cmp::min;
 
-// Opens the gate of the commands ahead of a journal, and puts the next ones ahead. It makes no call where there are none
-// of both.
+// Opens the gate of the commands ahead of a journal, and puts the next ones ahead. It makes no call where there are
+// none of both.
 fn put_behind<D: Disk>(
     journal: &mut Journal,
     disk: &mut D,
@@ -105,20 +105,20 @@ impl<D: Disk> Engine<D> {
     /// Lets the group ahead act, and puts the next one ahead of it, by one sync for both: so a chain of n groups makes
     /// n + 1 syncs, and not two for each. A group alone makes two: it is put ahead, and then nothing is.
     ///
-    /// The gate of the group ahead is written, if it has commands that take places; then the body of each command of the
-    /// next members; then all is synced. Where there is nothing of both, no call is made. Behind the sync the members of
-    /// the group ahead act, in their order, and their answers go into `served`: those that [`Engine::serve`] would give
-    /// one after another. Nothing of the next members acts or is answered: from now on they are the group ahead. It
-    /// takes no memory.
+    /// The gate of the group ahead is written, if it has commands that take places; then the body of each command of
+    /// the next members; then all is synced. Where there is nothing of both, no call is made. Behind the sync the
+    /// members of the group ahead act, in their order, and their answers go into `served`: those that [`Engine::serve`]
+    /// would give one after another. Nothing of the next members acts or is answered: from now on they are the group
+    /// ahead. It takes no memory.
     ///
     /// It answers how many of the next members are ahead: a beginning of them, judged behind the group ahead. It ends
     /// where there is no place more, and before the first confirmation of which it isn't known, before the group ahead
     /// acts, that each entry that it drops is answered. The rest is untouched, and is put again. (Own.)
     ///
-    /// `Failed` exactly where an earlier call failed on the disk: all stays. `Device` where one fails now: then the memory
-    /// stays, the commands of the group ahead are on the disk all together or not at all, none of the next members' is,
-    /// nothing is ahead any more, the engine has failed, and the image has to be opened again. In both cases each member
-    /// of the group ahead is refused so, and none of the next members was taken.
+    /// `Failed` exactly where an earlier call failed on the disk: all stays. `Device` where one fails now: then the
+    /// memory stays, the commands of the group ahead are on the disk all together or not at all, none of the next
+    /// members' is, nothing is ahead any more, the engine has failed, and the image has to be opened again. In both
+    /// cases each member of the group ahead is refused so, and none of the next members was taken.
     pub fn advance(
         &mut self,
         next: &ArrayVec<Command, MAX_GROUP>,

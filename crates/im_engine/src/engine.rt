@@ -22,8 +22,8 @@ use std::marker::Model;
 ///
 /// Contracts see its disk, the header in force, how far the next checkpoint has come, the pages that changed, the
 /// memory, the count of all accepted commands, the room for more, the members of the group ahead
-/// ([`advance`](Engine::advance)), and whether the disk has failed it. While it hasn't failed, each file that a crash may
-/// leave means this memory and this count: what is ahead has no effect.
+/// ([`advance`](Engine::advance)), and whether the disk has failed it. While it hasn't failed, each file that a crash
+/// may leave means this memory and this count: what is ahead has no effect.
 pub struct Engine<D: Disk> {
     pub(crate) disk: D,
     pub(crate) checkpoint: Checkpoint,
@@ -172,9 +172,9 @@ impl<D: Disk> Engine<D> {
     }
 
     /// Makes one turn of a checkpoint: at most four calls of the disk, and what its answer says. The memory, the count
-    /// and the group ahead stay. Where it answers `Began`, the pages to be written are those that changed since the last checkpoint
-    /// of the area that isn't in force began, in rising order; each turn that answers `Page` writes the first of them,
-    /// and the others are left. It takes no memory.
+    /// and the group ahead stay. Where it answers `Began`, the pages to be written are those that changed since the
+    /// last checkpoint of the area that isn't in force began, in rising order; each turn that answers `Page` writes the
+    /// first of them, and the others are left. It takes no memory.
     ///
     /// `Failed` exactly where an earlier call failed on the disk. `Device` where a call of the disk failed: then the
     /// engine has failed, no command is in doubt, and the image has to be opened again.

@@ -104,9 +104,9 @@ impl<D: Disk> Engine<D> {
     ///
     /// Whenever it is stopped, a crash leaves the memory after the commands of a beginning of the events, and at its
     /// return after all that were acknowledged: where a command or a group was answered `Device`, its commands may be
-    /// there too, all of them or none. Where a group that is put ahead was, that are the commands of the group ahead of
-    /// it: what was only put ahead has no effect. `NoMemory` where `alloc` refused the room for the answers: then nothing was
-    /// done.
+    /// there too, all of them or none. Where a group that is put ahead was, those are the commands of the group ahead
+    /// of it: what was only put ahead has no effect. `NoMemory` where `alloc` refused the room for the answers: then
+    /// nothing was done.
     pub fn run(&mut self, alloc: Global, events: &[Event]) -> Result<Vec<Answer>, Refusal>
         ensures answers { IfOk result (λ v. AnsweredInTurn self.old events.now v.items self.new) }
         ensures leaves { IfOk result (λ v.

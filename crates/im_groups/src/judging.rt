@@ -129,11 +129,12 @@ pub fn judge_whole(memory: &Memory, places: u64, members: &[Command]) -> Option<
 }
 
 /// Judges members behind the commands of a group that is ahead of theirs, before any of both acts. There is a place for
-/// each of them: they are no more than there are places. It puts the commands that are accepted into `commands`, and for
-/// each judged member into `taken` whether it is. It returns the number of judged members. It takes no memory. (Own.)
+/// each of them: they are no more than there are places. It puts the commands that are accepted into `commands`, and
+/// for each judged member into `taken` whether it is. It returns the number of judged members. It takes no memory.
+/// (Own.)
 ///
-/// It stops before the first member whose acceptance isn't known before the others act (`judge_behind`): that may be the
-/// first one if a command is ahead.
+/// It stops before the first member whose acceptance isn't known before the others act (`judge_behind`): that may be
+/// the first one if a command is ahead.
 pub fn judge_next(
     memory: &Memory,
     group: &[Command],

@@ -1,4 +1,5 @@
-//! What is ahead of a member that is judged: the commands of the group before its own, and those of the members before it.
+//! What is ahead of a member that is judged: the commands of the group before its own, and those of the members before
+//! it.
 ghost use Rattle.std.specs.Prelude.{◌≡◌, ◌+◌, ◌≤◌, ◌++◌, ◌==◌, length};
 ghost use Rattle.std.specs.List.{list_any};
 ghost use Rattle.im_types.specs.declared.TheConstants.{LAST, MAX_GROUP};

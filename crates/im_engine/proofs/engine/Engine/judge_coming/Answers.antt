@@ -14,3 +14,18 @@ judge_next-requires-clause-accepted g c =
     subst (λ (l : List Command). AreAccepted e.memory.contents l) (sym c.as_slice-group.ensures.value)
     (accepted e.disk e.checkpoint e.memory e.journal e.ahead.members.items e.ahead.commands.items e.ahead.taken.items
     e.failed c.places_in.ensures.known c.self.invariant.2)
+
+-- what was judged behind the commands of the group ahead, at the memory after them
+pub returns-clause-told : goal.returns-clause-told
+returns-clause-told g c =
+    let e = c.self.inside in
+    let is = c.as_slice-group.ensures.value ∙ put_is e.disk e.checkpoint e.memory e.journal e.ahead.members.items
+    e.ahead.commands.items e.ahead.taken.items e.failed c.places_in.ensures.known c.self.invariant.2 in
+    subst (λ (s : EngineState g.row.D.Denot). AreTold (after s.memory (put_ahead s)) c.copy_members.new.copies.items
+    c.judge_next-many.new.commands.items c.judge_next-many.new.taken.items) c.self.view_is
+    (subst (λ (l : List Command). AreTold (after e.memory.contents l) c.copy_members.new.copies.items
+    c.judge_next-many.new.commands.items c.judge_next-many.new.taken.items) is
+    (told_of (after e.memory.contents c.as_slice-group.result.now) _ c.copy_members.new.copies.items
+    c.judge_next-many.new.commands.items c.judge_next-many.new.taken.items c.judge_next-many.result
+    c.copy_members.ensures c.judge_next-many.ensures.commands c.judge_next-many.ensures.taken
+    c.judge_next-many.ensures.begins.within))
