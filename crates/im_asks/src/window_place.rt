@@ -1,0 +1,12 @@
+//! Where an element's next request stands.
+
+/// Where an element's next request stands in its window, behind all that is asked.
+#[derive(Clone, Copy, Debug, PartialEq, Eq)]
+pub enum WindowPlace {
+    /// It has this number.
+    Next(u64),
+    /// The window is full. The entries below this number are answered, and have to be confirmed first.
+    Confirm(u64),
+    /// The window is full, and its first entry isn't answered yet.
+    Full,
+}
