@@ -134,7 +134,7 @@ impl Asks {
         drop(self.queue.drain(..many));
     }
 
-    /// Returns where an element's next request stands, behind all that is asked. The memory is the one before that acts.
+    /// Returns where an element's next request stands, behind all that is asked of this memory.
     ///
     /// An element's window has 64 entries at most. While there is a place, the next request has the next number, which
     /// may be past the last one of all. A full window is to be confirmed up to its first entry that isn't answered yet,

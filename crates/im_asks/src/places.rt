@@ -18,8 +18,8 @@ fn has_place(base: u64, number: u64) -> bool
     number.saturating_sub(base) < WINDOW
 }
 
-// Returns whether a request is the next one within these bounds, the window has room, and its number isn't past the last
-// number of all.
+// Returns whether a request is the next one within these bounds, the window has room, and its number isn't past the
+// last number of all.
 fn is_next(bounds: (u64, u64), request: &Request) -> bool
     ensures next { result ≡ is_next bounds request.now }
     ensures low { result ≡ true → bounds.1 ≤ LAST }

@@ -30,8 +30,8 @@ impl<D: Disk> Front<D> {
         self.session.turn_kept()
     }
 
-    /// Sweeps at most `most` slots, as [`Session::sweep`] does. Each file that a crash may leave since then has all that
-    /// was put before.
+    /// Sweeps at most `most` slots, as [`Session::sweep`] does. Each file that a crash may leave since then has all
+    /// that was put before.
     pub fn sweep_kept(&mut self, most: u32) -> Result<u32, Refusal>
         ensures answered { SweepAnswered self.old.session.engine most result self.new.session.engine }
         ensures same { FrontRests self.old self.new }
