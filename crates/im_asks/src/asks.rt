@@ -1,12 +1,13 @@
 //! The queue of what is asked. It goes out in groups, from the front, and each answer goes with its ticket.
-ghost use Rattle.std.specs.Prelude.{◌≡◌, ◌⊎◌, ◌++◌, ◌∷◌, [], ◌==◌, ◌<◌, ◌≤◌, drop, length, min, take, IfErr, IfOk};
+ghost use Rattle.std.specs.Prelude.{◌≡◌, ◌++◌, ◌∷◌, [], ◌==◌, ◌<◌, ◌≤◌, drop, length, min, take, Err};
+ghost use Rattle.std.specs.Prelude.{IfErr, IfOk};
 ghost use Rattle.im_types.specs.declared.TheConstants.{MAX_GROUP};
 ghost use Rattle.im_asks.specs.declared.asks.TheConstants.{MOST_ASKED};
 ghost use Rattle.im_asks.specs.Lists.{answers_told, asks_told, commands_asked, with_ticket};
 ghost use Rattle.im_asks.specs.Windows.{IsWindowPlace, asked_bounds};
 
 use crate::asked::{AskedCommand, ToldAnswer};
-use crate::places::{bounds_behind, place_within};
+use crate::places::place_behind;
 use crate::window_place::WindowPlace;
 use arrayvec::ArrayVec;
 use im_memory::Memory;
@@ -113,19 +114,6 @@ impl Asks {
         out
     }
 
-    /// Takes over what is asked in another queue, in its order, behind all that is asked here. What there is no room
-    /// for stays in the other one.
-    pub fn take_from(&mut self, other: &mut Asks)
-        ensures order { self.new ++ other.new ≡ self.old ++ other.old }
-        ensures room { (other.new ≡ []) ⊎ (length self.new ≡ MOST_ASKED) }
-    {
-        let many = min(self.queue.remaining_capacity(), other.queue.len());
-        for i in 0..many {
-            self.queue.push(other.queue[i]);
-        }
-        other.take_out(many);
-    }
-
     // Takes out this many of what is asked, the oldest.
     fn take_out(&mut self, many: usize)
         requires there { many ≤ length self.old }
@@ -134,11 +122,7 @@ impl Asks {
         drop(self.queue.drain(..many));
     }
 
-    /// Returns where an element's next request stands, behind all that is asked of this memory.
-    ///
-    /// An element's window has 64 entries at most. While there is a place, the next request has the next number, which
-    /// may be past the last one of all. A full window is to be confirmed up to its first entry that isn't answered yet,
-    /// and only then. What is asked counts as if each confirmation among it were accepted.
+    /// Returns where an element's next request stands, behind all that is asked here of this memory ([`place_behind`]).
     ///
     /// Refused with `NoElement`.
     pub fn place(&self, memory: &Memory, element: u16) -> Result<WindowPlace, Refusal>
@@ -146,9 +130,6 @@ impl Asks {
         ensures refused { IfErr result
             (λ refusal. asked_bounds memory.now.contents self.now element ≡ Err refusal) }
     {
-        match bounds_behind(memory, self.asked(), element) {
-            Ok(bounds) => Ok(place_within(memory, element, bounds)),
-            Err(refusal) => Err(refusal),
-        }
+        place_behind(memory, self.asked(), element)
     }
 }

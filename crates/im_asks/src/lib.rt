@@ -14,4 +14,5 @@ mod window_place;
 pub use asked::{AskedCommand, ToldAnswer};
 pub use asks::{Asks, MOST_ASKED};
 pub use laws::places_come_true;
+pub use places::place_behind;
 pub use window_place::WindowPlace;

@@ -1,9 +1,9 @@
 //! Where an element's next request stands: by its window in the memory, and by what is asked before.
-ghost use Rattle.std.specs.Prelude.{◌≡◌, ◌+◌, ◌≤◌, true, nat_lt};
+ghost use Rattle.std.specs.Prelude.{◌≡◌, ◌+◌, ◌≤◌, Err, IfErr, IfOk, nat_lt, true};
 ghost use Rattle.im_types.specs.declared.TheConstants.{LAST, WINDOW};
 ghost use Rattle.im_groups.specs.Ahead.{is_next};
 ghost use Rattle.im_asks.specs.Windows.{AreAnsweredUpTo, IsPlaceWithin, asked_bounds, bounds_asked_by, drops_within};
-ghost use Rattle.im_asks.specs.Windows.{is_answered_at};
+ghost use Rattle.im_asks.specs.Windows.{IsWindowPlace, is_answered_at};
 
 use crate::asked::AskedCommand;
 use crate::window_place::WindowPlace;
@@ -58,7 +58,7 @@ fn bounds_asked_by(element: u16, command: &Command, bounds: (u64, u64)) -> (u64,
 }
 
 // Returns the bounds of an element's window behind all that is asked.
-pub(crate) fn bounds_behind(
+fn bounds_behind(
     memory: &Memory,
     asked: &[AskedCommand],
     element: u16,
@@ -99,7 +99,7 @@ fn first_unanswered(memory: &Memory, element: u16, bounds: (u64, u64)) -> u64
 }
 
 // Returns where the next request of an element stands within these bounds.
-pub(crate) fn place_within(memory: &Memory, element: u16, bounds: (u64, u64)) -> WindowPlace
+fn place_within(memory: &Memory, element: u16, bounds: (u64, u64)) -> WindowPlace
     ensures { IsPlaceWithin memory.now.contents element bounds result }
 {
     if bounds.1.saturating_sub(bounds.0) < WINDOW {
@@ -110,4 +110,27 @@ pub(crate) fn place_within(memory: &Memory, element: u16, bounds: (u64, u64)) ->
         return WindowPlace::Full;
     }
     WindowPlace::Confirm(upto)
+}
+
+/// Returns where an element's next request stands, behind all that is asked of this memory.
+///
+/// A window has 64 entries at most. While there is a place in it, the next request has the next number, which may be
+/// past the last one of all. A full window, and no other, is to be confirmed: up to its first entry that isn't answered
+/// yet. What is asked counts as if no entry that a confirmation among it drops waited ([`places_come_true`]).
+///
+/// Refused with `NoElement`.
+///
+/// [`places_come_true`]: crate::places_come_true
+pub fn place_behind(
+    memory: &Memory,
+    asked: &[AskedCommand],
+    element: u16,
+) -> Result<WindowPlace, Refusal>
+    ensures found { IfOk result (λ place. IsWindowPlace memory.now.contents asked.now element place) }
+    ensures refused { IfErr result (λ refusal. asked_bounds memory.now.contents asked.now element ≡ Err refusal) }
+{
+    match bounds_behind(memory, asked, element) {
+        Ok(bounds) => Ok(place_within(memory, element, bounds)),
+        Err(refusal) => Err(refusal),
+    }
 }

@@ -1,5 +1,7 @@
 -- A front: a session, and what is asked of it in order. (Own.)
-use Rattle.std.specs.Prelude.{◌≡◌, ◌<◌, ◌≤◌, List, ◌++◌, length, max}
+use Rattle.std.specs.Prelude.{◌≡◌, ℕ, ◌<◌, ◌≤◌, List, ◌++◌, length, max, min, take}
+use Rattle.im_types.specs.declared.TheConstants.{MAX_GROUP}
+use Rattle.im_types.specs.declared.commands.Command.{Command}
 use Rattle.im_asks.specs.declared.asked.AskedCommand.{AskedCommand}
 use Rattle.im_asks.specs.declared.asked.ToldAnswer.{ToldAnswer}
 use Rattle.im_asks.specs.Lists.{answers_told, asks_told, commands_asked}
@@ -15,6 +17,11 @@ pub record FrontState (D : Type 0) : Type 0 where
 -- a front of these
 abbrev pub front_of : {D : Type 0} → SessionState D → List AskedCommand → FrontState D
 front_of session asked = record { session = session; asked = asked }
+
+-- the commands of the next group, at most so many: the first ones, no more than there is room for, or one
+abbrev pub next_members : {D : Type 0} → ℕ → FrontState D → List Command
+next_members most s =
+    take (min (min most (max 1 s.session.engine.room)) (min MAX_GROUP (length s.asked))) (commands_asked s.asked)
 
 -- nothing was put, and nothing was told
 pub record FrontRests {D : Type 0} (old new : FrontState D) : Type 0 where

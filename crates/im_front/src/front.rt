@@ -1,10 +1,9 @@
 //! A session with its queue: who asks, and what is looked at.
-ghost use Rattle.std.specs.Prelude.{◌≡◌, ◌⊎◌, ◌++◌, ◌∷◌, [], ◌<◌, ◌≤◌, ◌==◌, length, min, IfErr, IfOk};
+ghost use Rattle.std.specs.Prelude.{◌≡◌, ◌++◌, ◌∷◌, [], ◌<◌, ◌≤◌, ◌==◌, length, min, Err, IfErr, IfOk};
 ghost use Rattle.im_types.specs.declared.TheConstants.{MAX_GROUP};
 ghost use Rattle.im_asks.specs.declared.asks.TheConstants.{MOST_ASKED};
 ghost use Rattle.im_asks.specs.Lists.{with_ticket};
 ghost use Rattle.im_asks.specs.Windows.{IsWindowPlace, asked_bounds};
-ghost use Rattle.im_session.specs.Kept.{Kept};
 ghost use Rattle.im_front.specs.State.{front_of};
 
 use arrayvec::ArrayVec;
@@ -80,16 +79,6 @@ impl<D: Disk> Front<D> {
             ≡ front_of self.old.session (self.old.asked ++ with_ticket ticket command.now ∷ []) }
     {
         self.asks.submit(ticket, command);
-    }
-
-    /// Takes over what is asked elsewhere, in its order, behind all that is asked here. What there is no room for stays
-    /// there.
-    pub fn take_from(&mut self, mail: &mut Asks)
-        ensures session { self.new.session ≡ self.old.session }
-        ensures order { self.new.asked ++ mail.new ≡ self.old.asked ++ mail.old }
-        ensures room { (mail.new ≡ []) ⊎ (length self.new.asked ≡ MOST_ASKED) }
-    {
-        self.asks.take_from(mail);
     }
 
     /// Takes out the first commands that are asked, at most `most` and a group of them, and returns them. They aren't
