@@ -1,6 +1,6 @@
 -- Where an element's window goes behind what is asked.
 use Rattle.std.proofs.Common.{◌≡◌, ◌≢◌, ℕ, ◌+◌, ◌-◌, ◌<◌, ◌≤◌, List, [], ◌∷◌, take, drop, Bool, true, false, refl}
-use Rattle.std.proofs.Common.{sym, ◌∙◌, ap, arith, Some, None}
+use Rattle.std.proofs.Common.{sym, ◌∙◌, ap, arith, Option, Some, None, ◌⊎◌, inl, inr}
 use Rattle.std.specs.Prelude.{◌==◌, ◌&&◌, not, nat_lt, max, Result, Ok, Err, slice_get, slice_index_or, if◌then◌else◌}
 use Rattle.std.specs.List.{list_any}
 use Rattle.std.proofs.lemmas.Bool.Decides.{nat_tests}
@@ -9,22 +9,28 @@ use Rattle.im_types.specs.declared.commands.Request.{Request}
 use Rattle.im_types.specs.declared.commands.Command.{Command}
 use Rattle.im_types.specs.declared.commands.Command.TheVariants.{Request as Requests, Confirm as Confirms}
 use Rattle.im_types.specs.declared.refusals.Refusal.{Refusal}
-use Rattle.im_types.specs.declared.refusals.Refusal.TheVariants.{Gap, NotAnswered}
-use Rattle.im_types.specs.Contents.{Contents, Window, new_window}
+use Rattle.im_types.specs.declared.refusals.Refusal.TheVariants.{Forgotten, Gap, NotAnswered}
+use Rattle.im_types.specs.declared.operations.Entry.{Entry}
+use Rattle.im_types.specs.declared.operations.Kept.{Kept}
+use Rattle.im_types.specs.declared.operations.Waiter.{Waiter}
+use Rattle.im_types.specs.Agreement.{WaitingAgrees}
+use Rattle.im_types.specs.Contents.{Contents, Window, kept_for, new_window}
 use Rattle.im_types.specs.Window.{bounds, confirm_window, is_waiting, next_number}
 use Rattle.im_types.specs.Step.{step, step_confirm, is_accepted, moves_base}
 use Rattle.im_types.specs.Run.{after}
-use Rattle.im_laws.specs.Windows.{MovesBase}
-use Rattle.im_laws.proofs.Tests.{eq_by_test, true_false}
+use Rattle.im_laws.specs.Windows.{IsForgotten, MovesBase}
+use Rattle.im_laws.proofs.Tests.{eq_by_test, some_same, true_false}
+use Rattle.im_laws.proofs.EntryLemmas.{answered-lasts, ask-kept}
+use Rattle.im_laws.proofs.ForgetLemmas.{ask-forgotten}
 use Rattle.im_laws.proofs.AcceptLemmas.{accepted-moves_base, same_bounds, unaccepted-leaves}
 use Rattle.im_laws.proofs.MemoryLemmas.{bounds-window}
 use Rattle.im_laws.proofs.WindowLemmas.{window_at}
-use Rattle.im_groups.specs.Ahead.{bounds_behind, is_next, moved_by}
-use Rattle.im_groups.proofs.AheadLemmas.{bounds-moved, request-judged}
+use Rattle.im_groups.specs.Ahead.{bounds_behind, is_answered_or, is_next, moved_by}
+use Rattle.im_groups.proofs.AheadLemmas.{DoesNotWait, bounds-moved, confirm-accepted, request-judged}
 use Rattle.im_asks.specs.declared.asked.AskedCommand.{AskedCommand}
 use Rattle.im_asks.specs.Lists.{commands_asked}
-use Rattle.im_asks.specs.Windows.{NoneUnanswered, asked_bounds, asked_from, bounds_asked_by, bounds_asked_by_all}
-use Rattle.im_asks.specs.Windows.{drops_within}
+use Rattle.im_asks.specs.Windows.{IsDue, NoneUnanswered, asked_bounds, asked_from, bounds_asked_by}
+use Rattle.im_asks.specs.Windows.{bounds_asked_by_all, drops_within}
 
 pub within_window : (base number : ℕ) → nat_lt (number - base) WINDOW ≡ nat_lt number (base + WINDOW)
 within_window base number = grind (arith, nat_tests)
@@ -172,3 +178,36 @@ comes_true m asked e sure = by_bounds (bounds m.windows e) refl
         → bounds (after m (commands_asked asked)).windows e ≡ asked_from e asked r
     by_bounds (Ok b) are = some_steps m asked e b are sure
     by_bounds (Err x) are = no_steps m asked e x are
+
+-- ---- a confirmation that is due
+
+-- an answered entry is answered, or forgotten, behind any commands
+stays_answered : (m : Contents) (cs : List Command) (who : Waiter) → WaitingAgrees m
+    → is_answered_or false (kept_for m.windows who) ≡ true → DoesNotWait (after m cs) who
+stays_answered m cs who agrees answered = by_kept (kept_for m.windows who) refl answered
+  where
+    not_waiting : (b : Bool) → (if b then false else true) ≡ true → b ≡ false
+    not_waiting true e = absurd (true_false (sym e))
+    not_waiting false e = refl
+
+    lasts : (k : Kept) → is_waiting k ≡ false
+        → IsForgotten (after m cs).windows who ⊎ (kept_for (after m cs).windows who ≡ Some k)
+        → DoesNotWait (after m cs) who
+    lasts k e (inl forgotten) = λ j at.
+        let told : ◌≡◌ {A = Result Entry Refusal} (Err Forgotten) (Ok j.entry)
+        = sym (ask-forgotten (after m cs).windows who forgotten) ∙ ask-kept (after m cs).windows who j at in absurd (cc)
+    lasts k e (inr is) = λ j at. ap is_waiting (some_same j k (sym at ∙ is)) ∙ e
+
+    by_kept : (o : Option Kept) → kept_for m.windows who ≡ o → is_answered_or false o ≡ true
+        → DoesNotWait (after m cs) who
+    by_kept None is e = absurd (true_false (sym e))
+    by_kept (Some k) is e = lasts k (not_waiting (is_waiting k) e)
+        (answered-lasts m cs agrees who k is (not_waiting (is_waiting k) e))
+
+pub due_accepted : (m : Contents) (asked : List AskedCommand) (e upto : ℕ) → WaitingAgrees m
+    → NoneUnanswered m (commands_asked asked) → IsDue m asked e upto
+    → is_accepted (after m (commands_asked asked)) (Confirms e upto) ≡ true
+due_accepted m asked e upto agrees sure (base, (b, (are, (is, (full, (above, upto_is)))))) =
+    confirm-accepted (after m (commands_asked asked)) e upto b.0 b.1 (comes_true m asked e sure ∙ are) above
+    upto_is.within (λ number from below. stays_answered m (commands_asked asked)
+    (record { element = e; number = number }) agrees (upto_is.answered number from below))

@@ -50,19 +50,25 @@ is_answered_at m element number =
 -- The entries are answered from the base on up to this number. Its own isn't, or it is the next one.
 pub record AreAnsweredUpTo (m : Contents) (element : ℕ) (b : ℕ × ℕ) (upto : ℕ) : Type 0 where
   pub from : b.0 ≤ upto
+  pub within : upto ≤ b.1
   pub answered : (number : ℕ) → b.0 ≤ number → number < upto → is_answered_at m element number ≡ true
   pub ends : (upto ≡ b.1) ⊎ (is_answered_at m element upto ≡ false)
 
 -- where the next request stands, given the bounds behind all that is asked
 abbrev pub IsPlaceWithin : Contents → ℕ → ℕ × ℕ → WindowPlace → Type 0
 IsPlaceWithin m element b (Next number) = (number ≡ b.1) × (b.1 < b.0 + WINDOW)
-IsPlaceWithin m element b (Confirm upto) = (b.0 + WINDOW ≤ b.1) × (b.0 < upto) × AreAnsweredUpTo m element b upto
+IsPlaceWithin m element b (Confirm base upto) =
+    (base ≡ b.0) × (b.0 + WINDOW ≤ b.1) × (b.0 < upto) × AreAnsweredUpTo m element b upto
 IsPlaceWithin m element b Full = (b.0 + WINDOW ≤ b.1) × AreAnsweredUpTo m element b b.0
 
 -- where an element's next request stands, behind all that is asked
 abbrev pub IsWindowPlace : Contents → List AskedCommand → ℕ → WindowPlace → Type 0
 IsWindowPlace m asked element place =
     (b : ℕ × ℕ) × (asked_bounds m asked element ≡ Ok b) × IsPlaceWithin m element b place
+
+-- the window is full behind all that is asked, and is to be confirmed up to this number: its entries are answered
+abbrev pub IsDue : Contents → List AskedCommand → ℕ → ℕ → Type 0
+IsDue m asked element upto = (base : ℕ) × IsWindowPlace m asked element (Confirm base upto)
 
 -- ---- what comes of it
 

@@ -13,6 +13,6 @@ mod window_place;
 
 pub use asked::{AskedCommand, ToldAnswer};
 pub use asks::{Asks, MOST_ASKED};
-pub use laws::places_come_true;
+pub use laws::{due_is_accepted, places_come_true};
 pub use places::place_behind;
 pub use window_place::WindowPlace;

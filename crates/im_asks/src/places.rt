@@ -109,7 +109,10 @@ fn place_within(memory: &Memory, element: u16, bounds: (u64, u64)) -> WindowPlac
     if upto == bounds.0 {
         return WindowPlace::Full;
     }
-    WindowPlace::Confirm(upto)
+    WindowPlace::Confirm {
+        base: bounds.0,
+        upto,
+    }
 }
 
 /// Returns where an element's next request stands, behind all that is asked of this memory.

@@ -5,8 +5,9 @@
 pub enum WindowPlace {
     /// It has this number.
     Next(u64),
-    /// The window is full. The entries below this number are answered, and have to be confirmed first.
-    Confirm(u64),
+    /// The window is full. The entries from its base on are answered up to the second number, and have to be confirmed
+    /// first: they are dropped then.
+    Confirm { base: u64, upto: u64 },
     /// The window is full, and its first entry isn't answered yet.
     Full,
 }
