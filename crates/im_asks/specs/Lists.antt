@@ -17,6 +17,10 @@ commands_asked asked = map (λ (a : AskedCommand). a.command) asked
 abbrev pub asks_told : List ToldAnswer → List AskedCommand
 asks_told told = map (λ (t : ToldAnswer). t.asked) told
 
+-- the commands of these answers
+abbrev pub commands_told : List ToldAnswer → List Command
+commands_told told = commands_asked (asks_told told)
+
 -- the answers alone
 abbrev pub answers_told : List ToldAnswer → List Served
 answers_told told = map (λ (t : ToldAnswer). t.served) told

@@ -8,9 +8,12 @@ use Rattle.im_types.specs.declared.refusals.Refusal.{Refusal}
 use Rattle.im_types.specs.declared.refusals.Refusal.TheVariants.{NotAnswered}
 use Rattle.im_types.specs.Contents.{Contents, kept_for}
 use Rattle.im_types.specs.Window.{bounds}
-use Rattle.im_types.specs.Step.{step}
+use Rattle.im_types.specs.Agreement.{WaitingAgrees}
+use Rattle.im_types.specs.Run.{after}
+use Rattle.im_types.specs.Step.{step, is_accepted}
 use Rattle.im_groups.specs.Ahead.{is_answered_or, is_next}
 use Rattle.im_asks.specs.declared.asked.AskedCommand.{AskedCommand}
+use Rattle.im_asks.specs.Lists.{commands_asked}
 use Rattle.im_asks.specs.declared.window_place.WindowPlace.{WindowPlace}
 use Rattle.im_asks.specs.declared.window_place.WindowPlace.TheVariants.{Next, Confirm, Full}
 
@@ -77,3 +80,8 @@ abbrev pub NoneUnanswered : Contents → List Command → Type 0
 NoneUnanswered m [] = Unit {0}
 NoneUnanswered m (command ∷ commands) =
     ((step m command).answer ≢ Err NotAnswered) × NoneUnanswered (step m command).contents commands
+
+-- a confirmation that is due behind all that is asked is accepted once that has acted
+abbrev pub AcceptsDue : Contents → List AskedCommand → ℕ → ℕ → Type 0
+AcceptsDue m asked element upto = WaitingAgrees m → NoneUnanswered m (commands_asked asked) → IsDue m asked element upto
+    → is_accepted (after m (commands_asked asked)) (Confirms element upto) ≡ true

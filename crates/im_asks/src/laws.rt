@@ -1,14 +1,11 @@
 //! What comes of a place that was told. The functions do nothing, and their contracts are laws.
-ghost use Rattle.std.specs.Prelude.{◌≡◌, ℕ, List, true};
-ghost use Rattle.im_types.specs.declared.commands.Command.TheVariants.{Confirm};
+ghost use Rattle.std.specs.Prelude.{◌≡◌, ℕ, List};
 ghost use Rattle.im_types.specs.Contents.{Contents};
-ghost use Rattle.im_types.specs.Agreement.{WaitingAgrees};
 ghost use Rattle.im_types.specs.Run.{after};
-ghost use Rattle.im_types.specs.Step.{is_accepted};
 ghost use Rattle.im_types.specs.Window.{bounds};
 ghost use Rattle.im_asks.specs.declared.asked.AskedCommand.{AskedCommand};
 ghost use Rattle.im_asks.specs.Lists.{commands_asked};
-ghost use Rattle.im_asks.specs.Windows.{IsDue, NoneUnanswered, asked_bounds};
+ghost use Rattle.im_asks.specs.Windows.{AcceptsDue, NoneUnanswered, asked_bounds};
 
 /// The window by which an element's place is told is the one that it has once all that is asked has acted, unless a
 /// confirmation is refused then because an entry that it drops waits.
@@ -19,7 +16,5 @@ pub fn places_come_true()
 
 /// A confirmation that is due behind all that is asked is accepted once that has acted, with the same exception.
 pub fn due_is_accepted()
-    ensures { (m : Contents) (asked : List AskedCommand) (element upto : ℕ) → WaitingAgrees m
-        → NoneUnanswered m (commands_asked asked) → IsDue m asked element upto
-        → is_accepted (after m (commands_asked asked)) (Confirm element upto) ≡ true }
+    ensures { (m : Contents) (asked : List AskedCommand) (element upto : ℕ) → AcceptsDue m asked element upto }
 {}

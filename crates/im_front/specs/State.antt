@@ -4,8 +4,9 @@ use Rattle.im_types.specs.declared.TheConstants.{MAX_GROUP}
 use Rattle.im_types.specs.declared.commands.Command.{Command}
 use Rattle.im_asks.specs.declared.asked.AskedCommand.{AskedCommand}
 use Rattle.im_asks.specs.declared.asked.ToldAnswer.{ToldAnswer}
-use Rattle.im_asks.specs.Lists.{answers_told, asks_told, commands_asked}
-use Rattle.im_engine.specs.Commands.{CommandsAnswered}
+use Rattle.im_asks.specs.Lists.{answers_told, asks_told, commands_asked, commands_told}
+use Rattle.im_groups.specs.Ahead.{ServesPrefix}
+use Rattle.im_engine.specs.Commands.{CommandsAnswered, commands_put}
 use Rattle.im_session.specs.Kept.{SessionState}
 use Rattle.im_session.specs.Serving.{Rests, served_together}
 
@@ -33,11 +34,15 @@ pub record Advanced {D : Type 0} (old : FrontState D) (told : List ToldAnswer) (
   -- what was asked first is told first, and the others are still asked
   pub order : old.asked ≡ asks_told told ++ new.asked
   -- each answer is that of its command, behind those before it
-  pub answered : CommandsAnswered old.session.engine (commands_asked (asks_told told)) (answers_told told)
-      new.session.engine
+  pub answered : CommandsAnswered old.session.engine (commands_told told) (answers_told told) new.session.engine
   -- exactly those commands were put, as far as they change the memory
-  pub put : new.session ≡ served_together old.session (commands_asked (asks_told told)) new.session.engine
+  pub put : new.session ≡ served_together old.session (commands_told told) new.session.engine
   -- they are no more than there was room for, or one
   pub room : length told ≤ max 1 old.session.engine.room
   -- if something is asked, something is told
   pub some : 0 < length old.asked → 0 < length told
+
+-- these are the first of the next group, up to one of which it isn't known before they act whether it is accepted
+abbrev pub BeginsGroup : {D : Type 0} → ℕ → FrontState D → List ToldAnswer → Type 0
+BeginsGroup most old told = ServesPrefix old.session.engine.memory
+    (commands_put old.session.engine (commands_told told)) (next_members most old) (length told)

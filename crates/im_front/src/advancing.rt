@@ -1,12 +1,10 @@
 //! What is asked is served: as a group, from the front of the queue.
 ghost use Rattle.std.specs.Prelude.{◌≡◌, [], ◌<◌, ◌≤◌, length};
-ghost use Rattle.im_asks.specs.Lists.{asks_told, commands_asked};
-ghost use Rattle.im_groups.specs.Ahead.{ServesPrefix};
-ghost use Rattle.im_engine.specs.Commands.{commands_put};
+ghost use Rattle.im_asks.specs.Lists.{commands_told};
 ghost use Rattle.im_engine.specs.Run.{Answered};
 ghost use Rattle.im_session.specs.Keeping.{KeepsPut, MakesFewCalls};
 ghost use Rattle.im_session.specs.Serving.{served_one};
-ghost use Rattle.im_front.specs.State.{Advanced, front_of, next_members};
+ghost use Rattle.im_front.specs.State.{Advanced, BeginsGroup, front_of};
 
 use crate::front::Front;
 use arrayvec::ArrayVec;
@@ -41,12 +39,9 @@ impl<D: Disk> Front<D> {
         ensures advanced { Advanced self.old told.new.items self.new }
         ensures few { length told.new.items ≤ most }
         // How many of the next group are told, and where it ends.
-        ensures begins { let commands = commands_asked (asks_told told.new.items) in
-            ServesPrefix self.old.session.engine.memory (commands_put self.old.session.engine commands)
-            (next_members most self.old) (length told.new.items) }
+        ensures begins { BeginsGroup most self.old told.new.items }
         ensures keeps { KeepsPut D.Disk self.old.session self.new.session }
-        ensures calls { MakesFewCalls D.Disk self.old.session
-            (commands_asked (asks_told told.new.items)) self.new.session }
+        ensures calls { MakesFewCalls D.Disk self.old.session (commands_told told.new.items) self.new.session }
     {
         let room = self.session.engine().room() as usize;
         let members = self.asks.group(min(most, max(1, room)));
