@@ -145,10 +145,12 @@ one_step : (m : Contents) (c : Command) (e : ℕ) (b : ℕ × ℕ) → bounds m.
 one_step m c e b are sure = by_test (is_accepted m c) refl
   where
     by_test : (t : Bool) → is_accepted m c ≡ t → bounds (step m c).contents.windows e ≡ Ok (bounds_asked_by e c b)
-    by_test true yes = accepted_moves m c e yes ∙ ap (moved_by e (c ∷ [])) are
-        ∙ ap (λ (x : ℕ × ℕ). Ok {E = Refusal} x) (accepted_as_asked m c e b are yes)
-    by_test false no = ap (λ (n : Contents). bounds n.windows e) (unaccepted-leaves m c no) ∙ are
-        ∙ ap (λ (x : ℕ × ℕ). Ok {E = Refusal} x) (refused_as_asked m c e b are no sure)
+    by_test true yes =
+        let same = accepted_as_asked m c e b are yes in
+        accepted_moves m c e yes ∙ ap (moved_by e (c ∷ [])) are ∙ (λ i. Ok (same i))
+    by_test false no =
+        let same = refused_as_asked m c e b are no sure in
+        ap (λ (n : Contents). bounds n.windows e) (unaccepted-leaves m c no) ∙ are ∙ (λ i. Ok (same i))
 
 no_step : (m : Contents) (c : Command) (e : ℕ) (x : Refusal) → bounds m.windows e ≡ Err x
     → bounds (step m c).contents.windows e ≡ Err x

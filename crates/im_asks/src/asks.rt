@@ -75,8 +75,9 @@ impl Asks {
         ensures first { result.items ≡ take (length result.items) (commands_asked self.now) }
         ensures count { length result.items ≡ min most (min MAX_GROUP (length self.now)) }
     {
+        let many = min(most, min(MAX_GROUP, self.queue.len()));
         let mut members = ArrayVec::new();
-        for i in 0..min(most, min(MAX_GROUP, self.queue.len())) {
+        for i in 0..many {
             members.push(self.queue[i].command);
         }
         members

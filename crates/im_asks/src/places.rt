@@ -24,7 +24,7 @@ fn is_next(bounds: (u64, u64), request: &Request) -> bool
     ensures next { result ≡ is_next bounds request.now }
     ensures low { result ≡ true → bounds.1 ≤ LAST }
 {
-    request.number == bounds.1 && has_place(bounds.0, request.number) && request.number < LAST + 1
+    request.number == bounds.1 && (has_place(bounds.0, request.number) && request.number < LAST + 1)
 }
 
 // Returns whether a confirmation up to this number drops entries within these bounds.

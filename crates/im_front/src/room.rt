@@ -3,7 +3,7 @@ ghost use Rattle.std.specs.Prelude.{◌≡◌, true, length, min, IfErr, IfOk, O
 ghost use Rattle.im_types.specs.declared.TheConstants.{MAX_GROUP};
 ghost use Rattle.im_turning.specs.Turning.{point_of};
 ghost use Rattle.im_session.specs.Serving.{IsBroken, Rests};
-ghost use Rattle.im_front.specs.Room.{MakesRoom};
+ghost use Rattle.im_front.specs.Room.{MakesRoom, room_at};
 ghost use Rattle.im_front.specs.State.{FrontRests};
 
 use crate::front::Front;
@@ -38,14 +38,14 @@ impl<D: Disk> Front<D> {
     }
 }
 
-// Returns what came of as many turns as may be taken.
-fn room_at<D: Disk>(session: &Session<D>, least: u32) -> RoomMade
-    ensures { result ≡ room_at least session.now.engine.room }
+// Returns what came of as many turns as may be taken, given the room.
+fn room_at(least: u32, room: u32) -> RoomMade
+    ensures { result ≡ room_at least room }
 {
-    if session.engine().room() >= least {
-        RoomMade::Enough
-    } else {
+    if room < least {
         RoomMade::Later
+    } else {
+        RoomMade::Enough
     }
 }
 
@@ -75,5 +75,5 @@ fn turn_until<D: Disk, O: Observer<TurnDone>>(
             return Ok(RoomMade::Spent);
         }
     }
-    Ok(room_at(session, least))
+    Ok(room_at(least, session.engine().room()))
 }
