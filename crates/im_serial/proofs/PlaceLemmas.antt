@@ -1,11 +1,11 @@
 -- The place of a script's next request: nothing else is asked.
-use Rattle.std.proofs.Common.{◌≡◌, ◌∙◌, ℕ, ◌≤◌, List, [], sym, arith}
+use Rattle.std.proofs.Common.{◌≡◌, ◌∙◌, ℕ, ◌≤◌, List, [], refl, sym, arith}
 use Rattle.std.specs.Prelude.{Result, Ok, Err}
+use Rattle.im_types.specs.declared.refusals.Refusal.{Refusal}
 use Rattle.im_types.specs.Contents.{Contents}
 use Rattle.im_types.specs.Window.{bounds}
 use Rattle.im_asks.specs.declared.window_place.WindowPlace.TheVariants.{Next, Confirm}
-use Rattle.im_asks.specs.Windows.{IsWindowPlace}
-use Rattle.im_asks.proofs.WindowLemmas.{asked_none}
+use Rattle.im_asks.specs.Windows.{IsWindowPlace, asked_from}
 use Rattle.im_session.specs.Kept.{SessionStart, SessionState}
 use Rattle.im_text.specs.declared.replies.Waited.{Waited}
 use Rattle.im_serial.specs.declared.waits.Mark.{Mark}
@@ -13,6 +13,11 @@ use Rattle.im_serial.specs.Asked.{Standing}
 use Rattle.im_serial.specs.Noted.{notes}
 use Rattle.im_serial.specs.Serving.{IsServing, MakesPlace}
 use Rattle.im_serial.proofs.ScriptedLemmas.{over_here}
+
+-- behind nothing the bounds are those of the memory
+asked_none : (element : ℕ) (r : Result (ℕ × ℕ) Refusal) → asked_from element [] r ≡ r
+asked_none element (Ok b) = refl
+asked_none element (Err x) = refl
 
 -- the window of a request that has a number
 pub next_bounds : (m : Contents) (element number : ℕ) → IsWindowPlace m [] element (Next number)
@@ -35,9 +40,9 @@ due_bounds m element base upto (b, (are, (is, (full, (above, answered))))) = rec
 }
 
 -- nothing has to be done for a place
-pub placed : {D T E : Type 0} (x : T) (s : SessionState D) (waited : List Waited) (marks : List Mark)
+pub placed : {D T : Type 0} (E : Type 0) (x : T) (s : SessionState D) (waited : List Waited) (marks : List Mark)
     → MakesPlace {E = E} (Ok x) s waited marks s waited marks
-placed x s waited marks = λ start at text was. was
+placed E x s waited marks = λ start at text was. was
 
 -- a number is looked up behind a place that was made
 pub place_then : {D T E : Type 0} (r : Result T E) (old new : SessionState D) (waited learned : List Waited)
