@@ -152,9 +152,7 @@ abbrev pub is_usable : List AccountedCall → Bool
 is_usable [] = true
 is_usable (e ∷ earlier) = (e.ok || not (e.call == 4)) && is_usable earlier
 
--- The length was asked for and answered, with fewer than so many syncs since.
-abbrev pub is_measured : ℕ → List AccountedCall → Bool
-is_measured zero events = false
-is_measured (suc n) [] = false
-is_measured (suc n) (e ∷ earlier) =
-    (e.call == 1 && e.ok) || is_measured (if e.call == 4 then n else suc n) earlier
+-- The length was asked for and answered since the last sync, and so before any later write.
+abbrev pub is_measured : List AccountedCall → Bool
+is_measured [] = false
+is_measured (e ∷ earlier) = (e.call == 1 && e.ok) || (not (e.call == 4) && is_measured earlier)

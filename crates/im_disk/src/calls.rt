@@ -28,10 +28,10 @@ pub(crate) fn note(ledger: &mut Ledger, numbers: &[u64], bytes: &[u8])
     ledger.note(numbers, bytes);
 }
 
-// Notes a write. The clause allows one only if the length was checked with at most one sync since.
+// Notes a write. The clause allows one only if the length was checked since the last sync.
 pub(crate) fn note_written(ledger: &mut Ledger, numbers: &[u64], bytes: &[u8])
     requires usable { IsTrue (is_usable ledger.old.events) }
-    requires measured { IsTrue (is_measured 2 ledger.old.events) }
+    requires measured { IsTrue (is_measured ledger.old.events) }
     ensures { ledger.new.events ≡ accounted_call numbers.now bytes.now ∷ ledger.old.events }
 {
     note(ledger, numbers, bytes);

@@ -32,15 +32,12 @@ pub struct FileDisk<S: Start> {
     len: u64,
     /// No sync has failed, and each length read was `len`. Otherwise each call fails without asking the file.
     usable: bool,
-    /// The length was checked, with at most one sync since. Otherwise nothing is written.
+    /// The length was checked since the last sync. Otherwise nothing is written.
     measured: bool,
-    /// The length was checked, with no sync since.
-    just_measured: bool,
     failing: Failing,
     ledger: Ledger,
     start: PhantomData<S>,
-    ghost looked: { IsTrue measured → IsTrue (is_measured 2 ledger.events) },
-    ghost just_looked: { IsTrue just_measured → IsTrue (is_measured 1 ledger.events) },
+    ghost looked: { IsTrue measured → IsTrue (is_measured ledger.events) },
     ghost held: { IsTrue usable → IsTrue (is_usable ledger.events) },
     ghost told: { is_of_sync failing.first ≡ not (is_usable ledger.events) },
 }
@@ -142,7 +139,7 @@ impl<S: Start> FileDisk<S> {
     fn look(&mut self) -> Result<(), DeviceFault>
         ensures len { IfOk result (λ _. IsHonest (account_of S.Start self.new)
             → self.new.len ≡ length (account_of S.Start self.old).now.bytes) }
-        ensures measured { IsOk result → IsTrue (is_measured 2 self.new.ledger.events) }
+        ensures measured { IsOk result → IsTrue (is_measured self.new.ledger.events) }
         ensures same { IsAsBefore S.Start self.old self.new }
         ensures failures { Counts result self.old.failing.failures self.new.failing.failures }
     {
@@ -156,8 +153,6 @@ impl<S: Start> FileDisk<S> {
                     self.usable = false;
                     return Err(self.failing.fail(Failure::Length));
                 }
-                self.measured = true;
-                self.just_measured = true;
                 Ok(())
             }
             Err(_) => {
@@ -167,20 +162,26 @@ impl<S: Start> FileDisk<S> {
         }
     }
 
-    // Checks the length, unless that was done with at most one sync since: so nothing is written past a cut file's end.
+    // Checks the length unless done since the last sync, so that nothing is written past the end of a cut file.
     fn measure(&mut self) -> Result<(), DeviceFault>
-        ensures measured { IsOk result → IsTrue (is_measured 2 self.new.ledger.events) }
+        ensures measured { IsOk result → IsTrue (is_measured self.new.ledger.events) }
         ensures same { IsAsBefore S.Start self.old self.new }
         ensures failures { Counts result self.old.failing.failures self.new.failing.failures }
     {
         if self.measured {
             return Ok(());
         }
-        self.look()
+        match self.look() {
+            Ok(()) => {
+                self.measured = true;
+                Ok(())
+            }
+            Err(fault) => Err(fault),
+        }
     }
 
     fn put(&mut self, at: usize, bytes: &[u8]) -> Result<(), DeviceFault>
-        requires measured { IsTrue (is_measured 2 self.old.ledger.events) }
+        requires measured { IsTrue (is_measured self.old.ledger.events) }
         requires inside { IsHonest (account_of S.Start self.old)
             → at + length bytes.now ≤ length (account_of S.Start self.old).now.bytes }
         ensures tick { OnOk result (HasWritten S.Start at bytes.now self.old self.new) }
@@ -221,7 +222,6 @@ fn over<S: Start>(file: File, len: u64, path: &str, _start: S) -> FileDisk<S>
         len,
         usable: true,
         measured: false,
-        just_measured: false,
         failing: Failing::new(),
         ledger,
         start: PhantomData,
@@ -251,8 +251,10 @@ impl<S: Start> Disk for FileDisk<S> {
     ghost honest = { λ f. IsHonest (account_of S.Start f) };
 
     fn len(&mut self) -> Result<usize, DeviceFault> {
-        self.look()?;
-        Ok(self.len as usize)
+        match self.look() {
+            Ok(()) => Ok(self.len as usize),
+            Err(fault) => Err(fault),
+        }
     }
 
     fn read(&mut self, at: usize, buf: &mut [u8]) -> Result<(), DeviceFault> {
@@ -279,11 +281,10 @@ impl<S: Start> Disk for FileDisk<S> {
     }
 
     fn sync(&mut self) -> Result<(), DeviceFault> {
+        self.measured = false;
         if !self.usable {
             return Err(self.failing.fail(Failure::Length));
         }
-        self.measured = self.just_measured;
-        self.just_measured = false;
         match self.file.sync_data() {
             Ok(()) => {
                 note(&mut self.ledger, &[SYNCED, 0, 1], &[]);
