@@ -4,7 +4,8 @@ use Rattle.std.proofs.Crossing.{crosses}
 use Rattle.im_memory.specs.contracts.memory.Memory as Memory
 use Rattle.im_checkpoint.specs.contracts.checkpoint.Checkpoint as Checkpoint
 use Rattle.im_listed.specs.contracts.listed.Listed as Listed
-use Rattle.im_listed.proofs.account.StepLedger.TheSendSync.{the_send as ledger_send}
+use Rattle.core.proofs.snapshot.Sent.{snapshot_send}
+use Rattle.im_noted.proofs.NoteList.TheLaws.TheKnot as noted
 use Rattle.im_listed.specs.contracts.image.Image as Image
 
 Memory-send : IsSend Memory.the_field.row
@@ -17,7 +18,7 @@ Checkpoint-send : IsSend Checkpoint.the_field.row
 Checkpoint-send = search (sendable, crosses) depth 40
 
 Listed-send : IsSend Listed.the_field.row
-Listed-send = search (sendable, crosses, ledger_send) depth 40 fits 30000
+Listed-send = search (sendable, crosses, snapshot_send, noted.crosses) depth 40 fits 30000
 
 Image-send : IsSend Image.the_field.row
 Image-send =

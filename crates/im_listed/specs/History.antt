@@ -1,6 +1,8 @@
 -- What a crash may leave of a file, from the calls of the disk over its bytes.
-use Rattle.std.specs.Prelude.{ℕ, zero, suc, List, [], ◌∷◌, length, slice_index}
+use Rattle.std.specs.Prelude.{ℕ, List, [], ◌∷◌, length}
 use Rattle.im_disk.specs.Moment.{Moment, written, synced}
+use Rattle.im_listed.specs.declared.calls.ListedCall.{ListedCall}
+use Rattle.im_listed.specs.declared.calls.ListedCall.TheVariants.{Emptied, Given, Read, Written, Synced}
 
 -- the file now, the moments before it since the list was last emptied, newest first, and the moment of that emptying
 pub record CallHistory : Type 0 where
@@ -20,25 +22,15 @@ history_from m = record { now = m; past = []; begun = m }
 abbrev pub later : Moment → CallHistory → CallHistory
 later m h = record { now = m; past = h.now ∷ h.past; begun = h.begun }
 
--- A call: its number, an offset, and the bytes.
-pub record ListedCall : Type 0 where
-  pub call : ℕ
-  pub at : ℕ
-  pub bytes : List ℕ
-
--- the call with these numbers
-abbrev pub listed_call : List ℕ → List ℕ → ListedCall
-listed_call numbers bytes = record { call = slice_index numbers 0; at = slice_index numbers 1; bytes = bytes }
-
--- After a call, by its number: the list was emptied, the file was handed in, read, written or synced.
-abbrev pub history_after : ℕ → ℕ → List ℕ → CallHistory → CallHistory
-history_after zero at bytes h = history_from h.now
-history_after (suc zero) at bytes h = history_from (given bytes)
-history_after (suc (suc zero)) at bytes h = later h.now h
-history_after (suc (suc (suc zero))) at bytes h = later (written at bytes h.now) h
-history_after (suc (suc (suc (suc more)))) at bytes h = later (synced h.now) h
+-- what a call makes of it
+abbrev pub history_after : ListedCall → CallHistory → CallHistory
+history_after Emptied h = history_from h.now
+history_after (Given bytes) h = history_from (given bytes.value.items)
+history_after Read h = later h.now h
+history_after (Written at bytes) h = later (written at bytes.value.items h.now) h
+history_after Synced h = later (synced h.now) h
 
 -- after these calls, newest first
 abbrev pub history_of : List ListedCall → CallHistory
 history_of [] = history_from (given [])
-history_of (e ∷ earlier) = history_after e.call e.at e.bytes (history_of earlier)
+history_of (call ∷ earlier) = history_after call (history_of earlier)

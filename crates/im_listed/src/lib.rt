@@ -2,8 +2,8 @@
 //! the writes and syncs of the file in their order.
 #![tactic(auto)]
 
-mod account;
 mod again;
+mod calls;
 mod image;
 mod listed;
 mod settling;

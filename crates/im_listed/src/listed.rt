@@ -1,28 +1,19 @@
 //! A disk over a caller's bytes. It lists what the caller has to do to its file.
 ghost use Rattle.std.specs.Prelude.{◌≡◌, ◌+◌, ◌≤◌, ◌∷◌, ◌++◌, [], false, true, map, length, take, drop, Ok, OnOk};
-ghost use Rattle.std.specs.Prelude.{OnErr};
+ghost use Rattle.std.specs.Prelude.{IfOk, OnErr};
 ghost use Rattle.im_disk.specs.Moment.{Counts, written, synced};
 ghost use Rattle.im_listed.specs.Listing.{Puts, task_of, over, with_no_steps, later_with, settled, is_calm, ListsStep};
 ghost use Rattle.im_listed.specs.Listing.{Accounts};
 ghost use Rattle.im_listed.specs.Numbers.{told_number};
 
-use crate::account::StepLedger;
+use crate::calls::ListedCall;
 use crate::step::Step;
 use im_disk::{DeviceFault, Disk};
 use im_engine::Empties;
+use im_noted::NoteList;
 use std::alloc::AllocError;
 use std::marker::Model;
-
-// The numbers under which calls are noted.
-const EMPTIED: u64 = 0;
-
-const GIVEN: u64 = 1;
-
-const READ: u64 = 2;
-
-const WRITTEN: u64 = 3;
-
-const SYNCED: u64 = 4;
+use std::snapshot::Snapshot;
 
 /// A disk over a caller's bytes, which are a copy of its file. It lists its writes and syncs, and makes them on the
 /// copy at once. The caller carries them out on the file, in their order. The list is emptied between calls
@@ -36,7 +27,7 @@ pub struct Listed {
     steps: Vec<Step>,
     calm: bool,
     failed: bool,
-    ledger: StepLedger,
+    calls: NoteList<ListedCall>,
 }
 
 impl Model for Listed {
@@ -45,9 +36,9 @@ impl Model for Listed {
 
     ghost Value = { Listing };
 
-    ghost view = { λ d. listing_of (history_of d.ledger.events) d.steps.items d.failed };
+    ghost view = { λ d. listing_of (history_of d.calls) d.steps.items d.failed };
 
-    ghost invariant = { λ d. Agrees d.bytes.items d.steps.items d.calm (history_of d.ledger.events) };
+    ghost invariant = { λ d. Agrees d.bytes.items d.steps.items d.calm (history_of d.calls) };
 }
 
 // Adds a step to the list, if it can grow.
@@ -61,13 +52,20 @@ fn add(steps: &mut Vec<Step>, step: Step) -> Result<(), AllocError>
     }
 }
 
-// Adds a write to the list, if it can grow.
-fn add_write(steps: &mut Vec<Step>, place: usize, bytes: &[u8]) -> Result<(), AllocError>
+// Adds a write to the list, if it can grow. Returns its bytes.
+fn add_write(
+    steps: &mut Vec<Step>,
+    place: usize,
+    bytes: &[u8],
+) -> Result<Snapshot<Vec<u8>>, AllocError>
     ensures ok { OnOk result (map task_of steps.new.items ≡ map task_of steps.old.items ++ Puts place bytes.now ∷ []) }
+    ensures bytes { IfOk result (λ copy. copy.value.items ≡ bytes.now) }
     ensures err { OnErr result (steps.new.items ≡ steps.old.items) }
 {
     let copy = bytes.to_vec(*steps.allocator())?;
-    add(steps, Step::Write(place, copy))
+    let seen = Snapshot::of(&copy);
+    add(steps, Step::Write(place, copy))?;
+    Ok(seen)
 }
 
 // Adds a sync to the list, if it can grow. It does nothing if all was synced (`calm`).
@@ -96,14 +94,14 @@ impl Listed {
         ensures honest { ⟦<Listed as Disk>⟧.honest result }
     {
         let alloc = *bytes.allocator();
-        let mut ledger = StepLedger::new();
-        ledger.note(&[GIVEN, 0], &bytes);
+        let mut calls = NoteList::new();
+        calls.note(&ListedCall::Given(Snapshot::of(&bytes)));
         Listed {
             bytes,
             steps: Vec::new(alloc),
             calm: false,
             failed: false,
-            ledger,
+            calls,
         }
     }
 
@@ -121,7 +119,7 @@ impl Empties for Listed {
     ghost emptied = { with_no_steps };
 
     fn empty(&mut self) {
-        self.ledger.note(&[EMPTIED, 0], &[]);
+        self.calls.note(&ListedCall::Emptied);
         self.steps.clear();
     }
 }
@@ -152,7 +150,7 @@ impl Disk for Listed {
         ensures honest { ⟦<Listed as Disk>⟧.honest self.new }
     {
         buf.copy_from_slice(&self.bytes[at..at + buf.len()]);
-        self.ledger.note(&[READ, at as u64], &[]);
+        self.calls.note(&ListedCall::Read);
         Ok(())
     }
 
@@ -165,13 +163,13 @@ impl Disk for Listed {
             (told_number self.old.failed self.old.begun) (told_number self.new.failed self.new.begun) }
         ensures honest { ⟦<Listed as Disk>⟧.honest self.new }
     {
-        if let Err(_) = add_write(&mut self.steps, at, bytes) {
+        let Ok(seen) = add_write(&mut self.steps, at, bytes) else {
             self.failed = true;
             return Err(DeviceFault);
-        }
+        };
         put(&mut self.bytes, at, bytes);
         self.calm = false;
-        self.ledger.note(&[WRITTEN, at as u64], bytes);
+        self.calls.note(&ListedCall::Written(at, seen));
         Ok(())
     }
 
@@ -188,7 +186,7 @@ impl Disk for Listed {
             return Err(DeviceFault);
         }
         self.calm = true;
-        self.ledger.note(&[SYNCED, 0], &[]);
+        self.calls.note(&ListedCall::Synced);
         Ok(())
     }
 }

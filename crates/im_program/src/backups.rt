@@ -9,7 +9,7 @@ ghost use Rattle.im_program.specs.Places.{IsOpenAt};
 
 use crate::descriptors::Descriptors;
 use crate::opening::{format_reason, give_up, reason_of};
-use crate::shelf::Shelf;
+use crate::shelf::{KeptBackup, shelve};
 use im_damage::Damage;
 use im_dialogue::{BackupFault, BackupName, Backups};
 use im_disk::{Disk, FileDisk, Start, Unknown};
@@ -17,6 +17,7 @@ use im_files::make_image;
 use im_image::image_length;
 use im_memory::Memory;
 use im_migration::{Original, put_memory};
+use im_noted::NoteList;
 use im_text::{PathFault, Reason};
 use im_types::{LAST, Limits, Refusal, Unobserved};
 use std::alloc::{AllocError, Global};
@@ -120,18 +121,18 @@ fn make_backup<R: Files<File = File> + AllocGlobal, S: Start>(
 fn keep_in<R: Files<File = File> + AllocGlobal>(
     rt: &R,
     folder: &str,
-    shelf: &mut Shelf,
+    shelf: &mut NoteList<KeptBackup>,
     original: &Original,
     name: BackupName,
 ) -> Result<(), Reason>
     requires sizes { HasSizes (sizes_of original.now.limits) original.now.memory.now.contents }
     requires last { original.now.count ≤ LAST }
-    ensures kept { OnOk result (shelf.new.backups ≡ record {
+    ensures kept { OnOk result (shelf.new ≡ record {
       name = bytes_of name;
       memory = original.now.memory.now.contents;
       count = original.now.count;
-    } ∷ shelf.old.backups) }
-    ensures same { OnErr result (shelf.new.backups ≡ shelf.old.backups) }
+    } ∷ shelf.old) }
+    ensures same { OnErr result (shelf.new ≡ shelf.old) }
 {
     let path = match path_in(rt.alloc(), folder, name) {
         Ok(path) => path,
@@ -139,7 +140,7 @@ fn keep_in<R: Files<File = File> + AllocGlobal>(
     };
     match make_backup(rt, path.as_str(), original, Unknown) {
         Ok(disk) => {
-            shelf.keep(disk, original, name);
+            shelve(shelf, disk, original, name);
             Ok(())
         }
         Err(reason) => Err(reason),
@@ -155,25 +156,25 @@ pub(crate) struct Folder<'a, 'p, R> {
     // What takes the numbers of the standard streams while files are made.
     _held: &'a Descriptors,
     path: Option<&'p str>,
-    shelf: Shelf,
+    shelf: NoteList<KeptBackup>,
 }
 
 impl<'a, 'p, R> Folder<'a, 'p, R> {
     /// Returns the folder at a path. Nothing is kept in it yet. Without a path, each name is refused.
     pub(crate) fn new(rt: &'a R, held: &'a Descriptors, path: Option<&'p str>) -> Folder<'a, 'p, R>
-        ensures { result.shelf.backups ≡ [] }
+        ensures { result.shelf ≡ [] }
     {
         Folder {
             rt,
             _held: held,
             path,
-            shelf: Shelf::new(),
+            shelf: NoteList::new(),
         }
     }
 }
 
 impl<'a, 'p, R: Files<File = File> + AllocGlobal> Backups for Folder<'a, 'p, R> {
-    ghost kept = { λ folder. folder.shelf.backups };
+    ghost kept = { λ folder. folder.shelf };
 
     fn keep(
         &mut self,

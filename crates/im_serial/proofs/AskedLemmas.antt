@@ -1,5 +1,5 @@
 -- A script's requests, one after another. (Own.)
-use Rattle.std.proofs.Common.{◌≡◌, ◌∙◌, inl, inr, ℕ, List, [], ◌∷◌, ◌++◌, refl, sym, ap, subst}
+use Rattle.std.proofs.Common.{◌≡◌, ◌∙◌, inl, inr, ℕ, List, [], ◌∷◌, ◌++◌, refl, sym, ap, ap₂, subst}
 use Rattle.std.proofs.Common.{append_assoc, append-nil}
 use Rattle.std.specs.Prelude.{Option, Some, None, Ok, slice_get}
 use Rattle.std.specs.Option.{option_map, option_and_then, option_map_or}
@@ -8,7 +8,7 @@ use Rattle.im_types.specs.declared.commands.Command.TheVariants.{Request as Asks
 use Rattle.im_types.specs.declared.commands.Request.{Request}
 use Rattle.im_types.specs.declared.operations.Op.{Op}
 use Rattle.im_types.specs.Contents.{Contents, Window}
-use Rattle.im_types.specs.Window.{bounds, bounds_of, next_number}
+use Rattle.im_types.specs.Window.{bounds, next_number}
 use Rattle.im_types.specs.Step.{step}
 use Rattle.im_types.specs.Run.{after}
 use Rattle.im_laws.proofs.RunLemmas.{after-append}
@@ -17,31 +17,23 @@ use Rattle.im_script.specs.Places.{action_op}
 use Rattle.im_script.specs.Script.{Draft}
 use Rattle.im_text.proofs.WindowLemmas.{bounds_found}
 use Rattle.im_serial.specs.Asked.{Course, HasNamed, HasReached, Leads, LeadsIf, NamesIf, Standing, Wanted}
-use Rattle.im_serial.specs.Asked.{bases_after, bases_by, number_next}
-use Rattle.im_serial.specs.Asked.{request_in, said_at, standing, wanted_by, wanted_in}
+use Rattle.im_serial.specs.Asked.{bases_after, bases_by, request_in, said_at, standing, wanted_by, wanted_in}
 
 -- ---- one request
-
-number_is : (found : Option Window) (base next : ℕ) → bounds_of found ≡ Ok (base, next) → option_map next_number found
-    ≡ Some next
-number_is found base next is =
-    let it = bounds_found found base next is in
-    ap (option_map next_number) it.found_is ∙ ap Some (sym it.next_is)
 
 -- a request with its element's next number is the one that its line asks for
 pub request_is : (m : Contents) (bases : List ℕ) (w : Wanted) (r : Request) (base : ℕ) → w.element ≡ r.element
     → action_op
     bases w.action ≡ Some r.op → bounds m.windows r.element ≡ Ok (base, r.number) → request_in m bases w ≡ Some r
 request_is m bases w r base element op found =
-    ap (option_and_then (λ (number : ℕ). option_map (λ (op : Op). record {
+    let it = bounds_found (slice_get m.windows r.element) base r.number found in
+    ap (option_and_then (λ (window : Window). option_map (λ (op : Op). record {
       element = w.element;
-      number = number;
-      op =
-          op;
-    }) (action_op bases w.action)))
-    (ap (number_next m) element ∙ number_is (slice_get m.windows r.element) base r.number found)
-    ∙ ap (option_map (λ (op : Op). record { element = w.element; number = r.number; op = op })) op
-    ∙ ap (λ (e : ℕ). Some (record { element = e; number = r.number; op = r.op })) element
+      number = next_number window;
+      op = op;
+    }) (action_op bases w.action))) (ap (slice_get m.windows) element ∙ it.found_is)
+    ∙ ap (option_map (λ (op : Op). record { element = w.element; number = next_number it.window; op = op })) op
+    ∙ ap₂ (λ (e n : ℕ). Some (record { element = e; number = n; op = r.op })) element (sym it.next_is)
 
 -- ---- where the script stands
 

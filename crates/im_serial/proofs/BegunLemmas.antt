@@ -41,7 +41,7 @@ use Rattle.im_laws.proofs.Tests.{some_none, some_same}
 use Rattle.im_laws.proofs.WindowLemmas.{kept_for-note}
 use Rattle.im_script.specs.declared.places.Action.{Action}
 use Rattle.im_script.specs.Places.{action_op}
-use Rattle.im_serial.specs.Asked.{HasReached, IsAsked, Leads, Wanted, base_told, bases_after, bases_by, number_next}
+use Rattle.im_serial.specs.Asked.{HasReached, IsAsked, Leads, Wanted, base_told, bases_after, bases_by}
 use Rattle.im_serial.specs.Asked.{request_in}
 use Rattle.im_serial.specs.Asked.{standing, whole_course}
 use Rattle.im_serial.specs.Had.{end_with, left_of, length_asked, met, next_had, numbers_had, sums_of}
@@ -234,17 +234,17 @@ is_memory limits put = after-memory limits.cells limits.elements (new_memory lim
 
 module _ (m : Contents) (bases : List ℕ) (w : Wanted) (r : Request) (is : request_in m bases w ≡ Some r) where
   pub asked_by : (w.element ≡ r.element) × (action_op bases w.action ≡ Some r.op)
-  asked_by = by_both (number_next m w.element) (action_op bases w.action) is
+  asked_by = by_both (slice_get m.windows w.element) (action_op bases w.action) is
     where
-      by_both : (n : Option ℕ) (o : Option Op) → option_and_then (λ number. option_map (λ op. record {
+      by_both : (n : Option Window) (o : Option Op) → option_and_then (λ window. option_map (λ op. record {
         element = w.element;
-        number = number;
+        number = next_number window;
         op = op;
       }) o) n ≡ Some r → (w.element ≡ r.element) × (o ≡ Some r.op)
       by_both None o e = absurd (cc)
       by_both (Some n) None e = absurd (cc)
       by_both (Some n) (Some op) e =
-          let same = some_same (record { element = w.element; number = n; op = op }) r e in
+          let same = some_same (record { element = w.element; number = next_number n; op = op }) r e in
           (ap (λ (q : Request). q.element) same, ap (λ (q : Request). Some q.op) same)
 
   pub block_asked : (b : IsBlock w) → r.op ≡ op.Alloc b.kind b.length

@@ -59,18 +59,13 @@ wanted_of text = wanted_in new_draft (lines_of text)
 
 -- ---- which commands these requests are
 
--- the number of an element's next request
-abbrev pub number_next : Contents → ℕ → Option ℕ
-number_next m element = option_map next_number (slice_get m.windows element)
-
 -- the request in this memory: it has its element's next number, and the bases stand for the names
 abbrev pub request_in : Contents → List ℕ → Wanted → Option Request
-request_in m bases w = option_and_then (λ number. option_map (λ op. record {
+request_in m bases w = option_and_then (λ window. option_map (λ op. record {
   element = w.element;
-  number = number;
-  op =
-      op;
-}) (action_op bases w.action)) (number_next m w.element)
+  number = next_number window;
+  op = op;
+}) (action_op bases w.action)) (slice_get m.windows w.element)
 
 -- the base in an answer
 abbrev pub base_told : Result Outcome Refusal → Option (List ℕ)

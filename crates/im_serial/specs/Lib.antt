@@ -5,3 +5,4 @@ pub mod Begun
 pub mod Had
 pub mod Fitting
 pub mod Once
+pub mod Forms

@@ -5,6 +5,7 @@ mod asking;
 mod comparing;
 mod hearing;
 mod meeting;
+mod notes;
 mod once;
 mod past;
 mod room;
@@ -13,6 +14,7 @@ mod server;
 mod stops;
 mod waits;
 
+pub use notes::WaitNote;
 pub use past::{Past, first_open};
 pub use serial::{both, serial_on, serial_once_on};
 pub use server::{Desk, Paper, Server};

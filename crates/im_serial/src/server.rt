@@ -13,6 +13,7 @@ ghost use Rattle.im_serial.specs.Noted.{AreKnown, AreLast, NotesMore, noted_if, 
 ghost use Rattle.im_serial.specs.Once.{done_line};
 ghost use Rattle.im_serial.specs.Serving.{ServedBy};
 
+use crate::notes::WaitNote;
 use crate::past::make_done;
 use crate::room::ServerProgress;
 use crate::waits::{Places, learn_all, note, tell_earlier, waited_at};
@@ -65,7 +66,7 @@ pub struct Server<D: Disk> {
     /// The base of each block of the setup.
     pub bases: Vec<u32>,
     /// The requests that had to wait, in order.
-    pub waited: Vec<Waited>,
+    pub waited: Vec<WaitNote>,
     /// The lines that are printed.
     pub lines: Lines,
     // The place of each request that had to wait, while it is kept.
@@ -225,7 +226,7 @@ impl<D: Disk> Server<D> {
 
 // Prints what became of the requests that had to wait.
 fn print_nows<W: Write>(
-    waited: &[Waited],
+    waited: &[WaitNote],
     line: &mut String,
     lines: &mut Lines,
     out: &mut W,

@@ -12,6 +12,7 @@ ghost use Rattle.im_serial.specs.declared.waits.Mark.TheVariants.{Here};
 ghost use Rattle.im_serial.specs.Noted.{AreKnown, AreLast, IsLearnt, Learns, entered, noted_if, mark_place, noted_by};
 ghost use Rattle.im_serial.specs.Noted.{with_entry};
 
+use crate::notes::WaitNote;
 use im_memory::Memory;
 use im_text::{News, Waited};
 use im_types::{Entry, MAX_ELEMENTS, Observer, WINDOW};
@@ -121,13 +122,14 @@ fn with_entry(waited: Waited, who: (u16, u64), entry: Entry) -> Waited
 }
 
 // Keeps another entry for a request that waited, if it is the one at this index.
-fn set_entry(waited: &mut [Waited], at: usize, who: (u16, u64), entry: Entry)
+fn set_entry(waited: &mut [WaitNote], at: usize, who: (u16, u64), entry: Entry)
     ensures names { map who_of waited.new ≡ map who_of waited.old }
     ensures sets { let who : Waiter = record { element = who.0; number = who.1 } in
         (i : ℕ) → slice_get waited.new i ≡ entered at who entry i (slice_get waited.old i) }
 {
     if at < waited.len() {
-        waited[at] = with_entry(waited[at], who, entry);
+        let kept = with_entry(waited[at].read(), who, entry);
+        waited[at] = WaitNote::new((kept.element, kept.number), kept.entry);
     }
 }
 
@@ -142,7 +144,7 @@ fn answered(who: (u16, u64), entry: Entry) -> News {
 
 // Keeps the answer of a request that waited here. Tells the observer the answer of one that waited before.
 fn settle<N: Observer<News>>(
-    waited: &mut [Waited],
+    waited: &mut [WaitNote],
     mark: Mark,
     who: (u16, u64),
     entry: Entry,
@@ -161,7 +163,7 @@ fn settle<N: Observer<News>>(
 
 // Learns the answer under a number, before it is confirmed.
 fn learn_one<N: Observer<News>>(
-    waited: &mut [Waited],
+    waited: &mut [WaitNote],
     places: &mut Places,
     memory: &Memory,
     who: (u16, u64),
@@ -183,7 +185,7 @@ fn learn_one<N: Observer<News>>(
 /// Learns the answers under an element's numbers, before they are confirmed. `numbers` are the element, the first of
 /// them, and the one behind the last.
 pub fn learn<N: Observer<News>>(
-    waited: &mut [Waited],
+    waited: &mut [WaitNote],
     places: &mut Places,
     memory: &Memory,
     numbers: (u16, u64, u64),
@@ -200,7 +202,7 @@ pub fn learn<N: Observer<News>>(
 }
 
 // Learns what is kept at the end for the request at this index.
-fn learn_last(waited: &mut [Waited], at: usize, memory: &Memory)
+fn learn_last(waited: &mut [WaitNote], at: usize, memory: &Memory)
     ensures names { map who_of waited.new ≡ map who_of waited.old }
     ensures learnt { (m : Contents) (put : List Command) → memory.now.contents ≡ after m put
         → IsLearnt m put at waited.old → IsLearnt m put (at + 1) waited.new }
@@ -215,7 +217,7 @@ fn learn_last(waited: &mut [Waited], at: usize, memory: &Memory)
 }
 
 /// Learns what is kept at the end for all requests that had to wait.
-pub fn learn_all(waited: &mut [Waited], memory: &Memory)
+pub fn learn_all(waited: &mut [WaitNote], memory: &Memory)
     ensures names { map who_of waited.new ≡ map who_of waited.old }
     ensures last { (m : Contents) (put : List Command) → memory.now.contents ≡ after m put
         → AreKnown m put waited.old → AreLast m put waited.new }
@@ -255,7 +257,7 @@ pub fn tell_earlier<N: Observer<News>>(places: &mut Places, memory: &Memory, obs
 
 /// Notes a request that was served, if it has to wait.
 pub fn note(
-    waited: &mut Vec<Waited>,
+    waited: &mut Vec<WaitNote>,
     places: &mut Places,
     who: (u16, u64),
     entry: Entry,
@@ -274,12 +276,7 @@ pub fn note(
             if !places.set(who.0, who.1, Mark::Here(waited.len())) {
                 return Err(AllocError); // No image has such an element.
             }
-            let last = Waited {
-                element: who.0,
-                number: who.1,
-                entry,
-            };
-            match waited.push(last) {
+            match waited.push(WaitNote::new(who, entry)) {
                 Ok(()) => Ok(()),
                 Err(_) => Err(AllocError),
             }
@@ -288,8 +285,11 @@ pub fn note(
 }
 
 /// Returns the request at this index among those that had to wait.
-pub fn waited_at(waited: &[Waited], at: usize) -> Option<Waited>
+pub fn waited_at(waited: &[WaitNote], at: usize) -> Option<Waited>
     ensures { result ≡ slice_get waited.now at }
 {
-    waited.get(at).copied()
+    match waited.get(at) {
+        Some(note) => Some(note.read()),
+        None => None,
+    }
 }

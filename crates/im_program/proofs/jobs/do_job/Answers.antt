@@ -9,7 +9,7 @@ returns-in-Serial-clause-done g c = rw c.in-Serial.is c.serve_file.ensures.serve
 
 pub returns-in-Serve-clause-done : goal.returns-in-Serve-clause-done
 returns-in-Serve-clause-done g c = rw c.in-Serve.is (ok_then _ _ c.talk_file.result (λ r talked honest. (
-  c.talk_file.new.backups.shelf.backups,
+  c.talk_file.new.backups.shelf,
   rw c.new-folder.ensures at talked honest,
 )) c.talk_file.ensures.talked)
 
