@@ -163,7 +163,7 @@ inline wait_past_work() {
      :: atomic { !work_rung -> work_parked = true }; !work_parked
   od
 }
-/* of im_controller::who_sleeps a81b6dfec630
+/* of im_controller::who_sleeps 4d1456810ef0
    of im_controller::wake_keeper 4f718459f48f
    of im_queue::Servers::answered 843e04db3eb9
    of im_queue::Servers::awaited 0e9cdfabcf73
@@ -216,7 +216,7 @@ inline see_all_wait(e) {
   i = 0;
   do :: i < N -> assert(i == e || does[i] == Done || (does[i] == Waits && entry[i] != Told)); i++ :: else -> break od
 }
-/* of im_controller::begin_wait 3c7540d49b4e
+/* of im_controller::begin_wait 450b0c14b603
    of im_controller::ask_once 26e6b4354352 */
 inline ask_once(e) {
   if :: failed -> change(e, Active); got = Failed
@@ -246,7 +246,7 @@ inline turn() {
      :: else -> did = false fi
 }
 /* of im_controller::make_room 5c10b5aa6256
-   of im_controller::is_pressed a592e5b6f217
+   of im_controller::is_pressed 05ce7a7b3d83
    of im_controller::enough_for 220409385c58
    of im_controller::is_room_nearer bc732fad2a64: a fault in it is one of the call behind it. */
 inline make_room() {
@@ -255,7 +255,7 @@ inline make_room() {
      :: else -> break od;
   did = false
 }
-/* of im_controller::lend_group 30704dd5b1e5
+/* of im_controller::lend_group 0eee93976627
    of im_engine::Engine::serve_commands b7eb8decfe98: the fault may fall before each member, which begins a group then. */
 inline serve_member(m) {
   may_fail();
@@ -271,7 +271,7 @@ inline serve_member(m) {
 }
 /* of im_controller::hold 44a87d44aac3
    of im_controller::claim 2b1067bb12ec
-   of im_controller::serve_asked 9d0732c5dba0
+   of im_controller::serve_asked 4f1532716bd3
    of im_queue::Inbox::next_group 3fd542d6b6aa
    of im_queue::Inbox::gather 6f9a915f7dc6
    of im_trace::Log::claim f63c5cb84308 */
@@ -309,7 +309,7 @@ inline submit(e, op) {
      :: else -> break od
 }
 /* of im_controller::Port::help 0e90bbc25526
-   of im_controller::lend_turn f3e3e6a7cab4
+   of im_controller::lend_turn 46a7a4022ac0
    of im_controller::told_turn ef17c1018823
    of im_serving::help 4b93685dd560: got is Go where it is worth to ask again. */
 inline help(e) {
@@ -328,7 +328,7 @@ inline confirm(e) {
 }
 /* of im_controller::Port::collect f2ef03b29c5d
    of im_controller::find 22f41e2bec52
-   of im_controller::look 49884123aa8e */
+   of im_controller::look b8ea019503ca */
 inline collect(e) {
   wait_turn(e);
   got = (failed -> Failed : Told);

@@ -17,6 +17,7 @@ use crate::errands::{Load, kind_of};
 use crate::readings::Reading;
 use im_disk::{Disk, FileDisk, Start, Unknown};
 use im_engine::Engine;
+use im_session::Session;
 use im_types::{Command, Kind, Op, Refusal, Request};
 use std::alloc::Global;
 use std::env::{self, Env};
@@ -107,7 +108,10 @@ fn on_engine<D: Disk + Drop + Send, R: Threads + Wait + Sync>(
         return Ok(None);
     };
     make_block(&mut engine, kind_of(load));
-    ports::ask(rt, alloc, engine, load, count).map(Some)
+    if engine.failed() {
+        return Err(Refusal::Failed);
+    }
+    ports::ask(rt, alloc, Session::of(engine), load, count).map(Some)
 }
 
 // Opens the image at a path, and does a workload on it. Returns `None` if no workload has this name.

@@ -7,7 +7,7 @@ use crate::joining::join_all;
 use crate::stores::{confirms, number};
 use im_controller::{Controller, Name, Opening, Port, finish, start, start_unrecorded};
 use im_disk::Disk;
-use im_engine::Engine;
+use im_session::Session;
 use im_types::{Op, Refusal};
 use std::alloc::Global;
 use std::marker::Brand;
@@ -201,13 +201,13 @@ fn ask_named<D: Disk + Drop + Send, K: Name + Send + Sync, R: Threads + Wait + S
 fn start_for<D: Disk + Drop, R: Wait>(
     rt: &R,
     alloc: Global,
-    engine: Engine<D>,
+    session: Session<D>,
     load: Load,
     count: u32,
-) -> Result<Opening<D>, (Refusal, Engine<D>)> {
+) -> Result<Opening<D>, (Refusal, Session<D>)> {
     match load {
-        Load::Port | Load::Ports => start(rt, alloc, engine, trace_room(count)),
-        Load::Endless => start_unrecorded(rt, alloc, engine),
+        Load::Port | Load::Ports => start(rt, alloc, session, trace_room(count)),
+        Load::Endless => start_unrecorded(rt, alloc, session),
     }
 }
 
@@ -216,7 +216,7 @@ fn start_for<D: Disk + Drop, R: Wait>(
 pub fn ask<D: Disk + Drop + Send, R: Threads + Wait + Sync>(
     rt: &R,
     alloc: Global,
-    engine: Engine<D>,
+    session: Session<D>,
     load: Load,
     count: u32,
 ) -> Result<u64, Refusal> {
@@ -225,7 +225,7 @@ pub fn ask<D: Disk + Drop + Send, R: Threads + Wait + Sync>(
         count,
         load,
     };
-    match start_for(rt, alloc, engine, load, count) {
+    match start_for(rt, alloc, session, load, count) {
         Ok(opening) => Ok(ask_named::<D, Brand, R>(rt, alloc, opening, errand)),
         Err((refusal, _)) => Err(refusal),
     }

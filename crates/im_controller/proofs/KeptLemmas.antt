@@ -1,11 +1,11 @@
--- What a crash leaves, with a command, a group or a turn more.
+-- What a session has put of a trace, and since when the lines are kept, with a command, a group or a turn more.
 use Rattle.std.proofs.Common.{◌≡◌, ◌⊎◌, inl, inr, ⊎_elim, ℕ, zero, suc, ◌+◌, ◌≤◌, ◌<◌, Bool, true, false, ◌&&◌, List}
 use Rattle.std.proofs.Common.{[], ◌∷◌, ◌++◌, length, length-append, append_assoc, map, refl, sym, ap}
 use Rattle.std.proofs.Common.{◌∙◌, subst, arith}
 use Rattle.std.proofs.Common.{if◌then◌else◌, Result, Ok, Err, take, drop}
-use Rattle.std.specs.Prelude.{Option, Some, nat_lt, ◌==◌, IfErr}
+use Rattle.std.specs.Prelude.{Option, nat_lt, not, ◌==◌, IfErr}
 use Rattle.std.proofs.lemmas.Bool.Decides.{nat_tests}
-use Rattle.std.proofs.lemmas.List.{append-nil, length-map, length-take-le, take_all, take-append-le, take-append-drop}
+use Rattle.std.proofs.lemmas.List.{append-nil, length-map, length-take-le, take-append-drop}
 use Rattle.im_types.specs.declared.commands.Command.{Command}
 use Rattle.im_types.specs.declared.commands.Outcome.{Outcome}
 use Rattle.im_types.specs.declared.commands.Call.TheVariants.{Command as Commands, Collect}
@@ -15,40 +15,38 @@ use Rattle.im_types.specs.declared.groups.Served.{Served}
 use Rattle.im_types.specs.declared.refusals.Refusal.{Refusal}
 use Rattle.im_types.specs.declared.refusals.Refusal.TheVariants.{JournalFull, Device, Failed, TraceFull}
 use Rattle.im_types.specs.Contents.{Contents}
-use Rattle.im_types.specs.Meaning.{Means, accept_each}
 use Rattle.im_types.specs.Run.{after, accepted}
 use Rattle.im_types.specs.Step.{step, is_accepted}
 use Rattle.im_types.specs.Trace.{end_of}
 use Rattle.im_laws.specs.Traces.{commands_of_call, commands_of}
 use Rattle.im_laws.proofs.Tests.{true_false, true_or_false, below_or_from}
 use Rattle.im_laws.proofs.AcceptLemmas.{accepted-ok}
-use Rattle.im_laws.proofs.RunLemmas.{after-append, accepted-append, after-accepted}
+use Rattle.im_laws.proofs.RunLemmas.{accepted-append, after-accepted}
 use Rattle.im_laws.proofs.TraceLemmas.{end_of-commands}
 use Rattle.im_disk.specs.declared.disk.Disk.{Ghosts}
-use Rattle.im_disk.specs.Moment.{Moment, Left, LeftSince, Rises, Faults}
-use Rattle.im_disk.specs.Since.{Leaves, LeavesNow}
-use Rattle.im_disk.proofs.SinceLemmas.{leaves_start, leaves_then, leaves_weaker, only_now}
 use Rattle.im_glass.proofs.PrefixLemmas.{prefix_shorter}
 use mathlib.Core.List.{IsPrefix}
 use Rattle.im_checkpoint.specs.declared.checkpoint.TurnDone.{TurnDone}
 use Rattle.im_checkpoint.specs.declared.checkpoint.TurnDone.TheVariants.{Idle, Began, Page, Synced, InForce, Swept}
 use Rattle.im_checkpoint.proofs.Fitting.{none_or_some}
-use Rattle.im_engine.specs.State.{EngineState, MeansState, MeansEither, with_command}
-use Rattle.im_engine.specs.Run.{Answered, TurnAnswered, SweepAnswered}
-use Rattle.im_engine.specs.Groups.{GroupFaults}
-use Rattle.im_engine.specs.Commands.{commands_put, after_commands, answers_in_turn, each_refused, CommandsAnswered}
-use Rattle.im_engine.specs.Commands.{MeansCommands}
+use Rattle.im_engine.specs.State.{EngineState}
+use Rattle.im_engine.specs.Run.{Answered, TurnAnswered, is_device}
+use Rattle.im_engine.specs.Commands.{commands_put, answers_in_turn, each_refused, CommandsAnswered}
+use Rattle.im_engine.proofs.Accepting.{accepted_answers}
 use Rattle.im_groups.specs.Commands.{places, answer_with, contents_with, places_behind, command_at, answers_with}
 use Rattle.im_groups.specs.Commands.{commands_at, takes_place}
-use Rattle.im_groups.proofs.CommandLemmas.{at-after, at-accepted}
-use Rattle.im_engine.proofs.Keeping.{accept_both, accept_one}
-use Rattle.im_engine.proofs.Running.{Failures, failures_more, failures_turned}
+use Rattle.im_session.specs.Put.{sure_by, doubted_by, sure_of, doubted_of}
+use Rattle.im_session.specs.Kept.{Kept, SessionStart, SessionState}
+use Rattle.im_session.specs.Keeping.{KeepsPut, KeptFrom}
+use Rattle.im_session.specs.Serving.{Rests, served_one, served_together}
+use Rattle.im_session.proofs.ServedLemmas.{unsure}
+use Rattle.im_session.proofs.KeepingLemmas.{now_kept, still_kept}
 use Rattle.im_trace.specs.Lines.{leaves_line, line_of, left_lines, time_at, times_of, NeverGoBack}
 use Rattle.im_trace.specs.Log.{TimedLog, GoesOnAt}
 use Rattle.im_trace.proofs.TimeLemmas.{time-later, time-new, none-back, more-back}
-use Rattle.im_controller.specs.Groups.{served_answer, MembersAnswered}
+use Rattle.im_controller.specs.Groups.{served_answer, MembersAnswered, MembersPut}
 use Rattle.im_controller.specs.Lends.{IsTurnFault, told_turn}
-use Rattle.im_controller.specs.Kept.{Begun, begun_by, accepted_in, MeansSome, MeansEach, MeansFrom, HasKept}
+use Rattle.im_controller.specs.Kept.{begun_by, accepted_in, IsSessionOf}
 use Rattle.im_controller.specs.Kept.{IsLeftAt, KeepsSince, IsOriginOf}
 use Rattle.im_controller.specs.State.{OpeningState}
 use Rattle.im_trace.specs.Origin.{Origin}
@@ -62,64 +60,11 @@ pub origin-by : {D : Type 0} (disk : Ghosts D) (o p : OpeningState D) (k : Origi
     → IsOriginOf disk o k
 origin-by {D} disk o p k same is = subst (λ (x : OpeningState D). IsOriginOf disk x k) (sym same) is
 
--- ---- what leaves the memory: a turn and a sweep
-
--- an engine that had failed stays as it was, and any other one has the same memory and count, and has failed where a
--- call of the disk did
-pub record IsQuiet {D : Type 0} (failures : D → ℕ) (e f : EngineState D) : Type 0 where
-  pub dead : e.failed ≡ true → f ≡ e
-  pub stays : (f.memory ≡ e.memory) × (f.count ≡ e.count)
-  pub counts : e.failed ≡ false → Failures failures e f
-
 -- no engine that has failed works again
-pub quiet_alive : {D : Type 0} (failures : D → ℕ) (e f : EngineState D) → IsQuiet failures e f → f.failed ≡ false
-    → e.failed ≡ false
-quiet_alive {D} failures e f quiet living = ⊎_elim
-    (λ dead. sym (ap (λ (x : EngineState D). x.failed) (quiet.dead dead)) ∙ living) (λ alive. alive)
+pub worked_before : {D : Type 0} (e f : EngineState D) → (e.failed ≡ true → f ≡ e) → f.failed ≡ false → e.failed ≡ false
+worked_before {D} e f dead works = ⊎_elim
+    (λ failed. sym (ap (λ (x : EngineState D). x.failed) (dead failed)) ∙ works) (λ alive. alive)
     (true_or_false e.failed)
-
-same_both : {D : Type 0} (e f : EngineState D) → f ≡ e → (f.memory ≡ e.memory) × (f.count ≡ e.count)
-same_both {D} e f is = (ap (λ (x : EngineState D). x.memory) is, ap (λ (x : EngineState D). x.count) is)
-
-module _ {D : Type 0} (failures : D → ℕ) (e f : EngineState D) where
-  none_failed : e.failed ≡ false → Failures failures e e
-  none_failed alive = record { rose = λ dead. absurd (true_false (sym dead ∙ alive)); stayed = λ _. refl }
-
-  pub turn_quiet : (a : Result TurnDone Refusal) → TurnAnswered e a f
-      → Faults (λ r. Unit {0}) a (failures e.disk) (failures f.disk) → IsQuiet failures e f
-  turn_quiet a answered cause = record {
-    dead = λ dead. (answered.dead dead).1;
-    stays = ⊎_elim
-        (λ dead. same_both e f (answered.dead dead).1)
-        (λ alive. ⊎_elim (λ done. (done.2.memory, done.2.count))
-        (λ doubt. (ap (λ (x : EngineState D). x.memory) doubt.1, ap (λ (x : EngineState D). x.count) doubt.1))
-        (answered.alive alive))
-        (true_or_false e.failed);
-    counts = λ alive. failures_turned failures e e f a answered cause (none_failed alive);
-  }
-
-  pub sweep_quiet : (most : ℕ) (a : Result ℕ Refusal) → SweepAnswered e most a f
-      → Faults (λ r. Unit {0}) a (failures e.disk) (failures f.disk) → IsQuiet failures e f
-  sweep_quiet most a answered cause = record {
-    dead = λ dead. (answered.dead dead).1;
-    stays = ⊎_elim
-        (λ dead. same_both e f (answered.dead dead).1)
-        (λ alive. ⊎_elim (λ done.
-        (ap (λ (x : EngineState D). x.memory) done.1, ap (λ (x : EngineState D). x.count) done.1))
-        (λ doubt. (ap (λ (x : EngineState D). x.memory) doubt.1, ap (λ (x : EngineState D). x.count) doubt.1))
-        (answered.alive alive))
-        (true_or_false e.failed);
-    counts = λ alive. ⊎_elim
-        (λ done. let living : f.failed ≡ false = ap (λ (x : EngineState D). x.failed) done.1 ∙ alive in
-        record { rose = λ dead. absurd (true_false (sym dead ∙ living)); stayed = λ _. subst Caused done.0 cause })
-        (λ doubt. let dead : f.failed ≡ true = ap (λ (x : EngineState D). x.failed) doubt.1 in
-        let fault : Caused (Err Device) = subst Caused doubt.0 cause in
-        record { rose = λ _. (fault.1 refl).0; stayed = λ living. absurd (true_false (sym dead ∙ living)) })
-        (answered.alive alive);
-  }
-    where
-      Caused : Result ℕ Refusal → Type 0
-      Caused r = Faults (λ r. Unit {0}) r (failures e.disk) (failures f.disk)
 
 -- ---- the accepted commands of a trace
 
@@ -199,408 +144,195 @@ put_on_plan plan (r ∷ rs) m left on = by_test (takes_place m left r)
     by_test true rest = (on.0, rest)
     by_test false rest = rest
 
--- ---- what a file means
+-- ---- what is put of an answer, and of a group's
 
-meant : {D : Type 0} (e : EngineState D) (file : List ℕ) → MeansState e file → Means e.memory e.count 0 file
-meant e file it = (it.0, omega arith, it.2)
+-- a command: its line, if it leaves one, is accepted just if it is put
+line_put : {D : Type 0} (e f : EngineState D) (c : Command) (a : Result Outcome Refusal) → Answered e c a f
+    → e.failed ≡ false → accepted_in e.memory (left_lines (Commands c) a) ≡ sure_by e.memory c a
+line_put e f c a answered alive = ⊎_elim
+    (λ is. ⊎_elim
+    (λ none. refused JournalFull refl (answered.full alive is none).0)
+    (λ some. ⊎_elim
+    (λ done.
+    let ok = accepted_answers e.memory c is in
+    let told : a ≡ Ok ok.0 = done.0 ∙ ok.1 in
+    lined e.memory c a (ap leaves_line told) is
+    ∙ sym (ap (sure_by e.memory c) told ∙ ap (λ b. if b then c ∷ [] else []) is))
+    (λ doubt. refused Device refl doubt.0)
+    (answered.put alive is some))
+    (none_or_some e.room))
+    (λ un. unaccepted e.memory c a un ∙ sym (unsure e.memory c a un))
+    (true_or_false (is_accepted e.memory c))
+  where
+    refused : (r : Refusal) → leaves_line (Err r) ≡ false → a ≡ Err r
+        → accepted_in e.memory (left_lines (Commands c) a) ≡ sure_by e.memory c a
+    refused r none is = lineless e.memory c a (ap leaves_line is ∙ none) ∙ sym (ap (sure_by e.memory c) is)
 
-longer : (m : Contents) (count : ℕ) (told more : List Command) (file : List ℕ) → MeansSome m count told file
-    → MeansSome m count (told ++ more) file
-longer m count told more file means =
-    let within : means.0 ≤ length told = means.1 in (
-      means.0,
-      omega (arith, length-append told more),
-      subst (λ (k : List Command). Means (after m k) (count + means.0) 0 file)
-          (sym (take-append-le means.0 told more within)) means.2,
-    )
+-- a group: the lines of its answers are accepted just if they are put
+module _ {D : Type 0} (e f : EngineState D) (rs : List Command) (ss : List Served) where
+  abbrev put_in : List Command
+  put_in = accepted_in e.memory (lines_all rs (map served_answer ss))
 
--- the file means what the engine is before these commands, or after all of them
-abbrev pub MeansBoth : {D : Type 0} → EngineState D → List Command → List ℕ → Type 0
-MeansBoth e cs file = Means e.memory e.count 0 file ⊎ Means (after e.memory cs) (e.count + length cs) 0 file
+  none_put : (r : Refusal) → leaves_line (Err r) ≡ false → ss ≡ each_refused r rs → put_in ≡ []
+  none_put r none is = ap (λ xs. accepted_in e.memory (lines_all rs (map served_answer xs))) is
+      ∙ ap (accepted_in e.memory) (refused-lines r none rs)
 
-module _ (m : Contents) (count : ℕ) (told : List Command) where
-  all_told : (n : Contents) (c : ℕ) (file : List ℕ) → n ≡ after m told → c ≡ count + length told → Means n c 0 file
-      → MeansEach m count told file
-  all_told n c file same counted means =
-      subst (λ (k : List Command). Means (after m k) (count + length told) 0 file)
-      (sym (take_all (length told) told (omega arith)))
-      (subst (λ (x : Contents). Means x (count + length told) 0 file) same
-      (subst (λ (k : ℕ). Means n k 0 file) counted means))
+  all_done : ss ≡ answers_in_turn e rs → put_in ≡ commands_put e rs
+  all_done is =
+      ap (λ xs. accepted_in e.memory (lines_all rs (map served_answer xs))) is
+      ∙ ap (λ xs. accepted_in e.memory (lines_all rs xs))
+      (answers_served (answers_with e.memory (places e.count e.room) rs))
+      ∙ all_put e.memory (places e.count e.room) rs
 
-  some_told : (file : List ℕ) → MeansEach m count told file → MeansSome m count told file
-  some_told file means = (length told, omega arith, means)
+  working : put_in ≡ commands_put e rs → f.failed ≡ false → put_in ≡ sure_of f.failed (commands_put e rs)
+  working is works = is ∙ sym (ap (λ b. sure_of b (commands_put e rs)) works)
 
-module _ (m : Contents) (count : ℕ) where
-  all_from : (commands : List Command) (least : ℕ) (file : List ℕ) → least ≤ length commands
-      → MeansEach m count commands file → MeansFrom m count commands least file
-  all_from commands least file few means = (length commands, few, omega arith, means)
+  by_commands : CommandsAnswered e rs ss f → e.failed ≡ false → (puts : List Command) → commands_put e rs ≡ puts
+      → put_in ≡ sure_of f.failed (commands_put e rs)
+  by_commands answered alive [] none =
+      let is = answered.none alive none in
+      working (all_done is.0) (ap (λ (x : EngineState D). x.failed) is.1 ∙ alive)
+  by_commands answered alive (c ∷ cs) some = ⊎_elim
+      (λ done. working (all_done done.0) (ap (λ (x : EngineState D). x.failed) done.1 ∙ alive))
+      (λ doubt. none_put Device refl doubt.0
+      ∙ sym (ap (λ b. sure_of b (commands_put e rs)) (ap (λ (x : EngineState D). x.failed) doubt.1)))
+      (answered.put alive (omega (arith, ap length some)))
 
-  longer_from : (told more : List Command) (least : ℕ) (file : List ℕ) → MeansFrom m count told least file
-      → MeansFrom m count (told ++ more) least file
-  longer_from told more least file means =
-      let within : means.0 ≤ length told = means.2 in (
-        means.0,
-        means.1,
-        omega (arith, length-append told more, within),
-        subst (λ (l : List Command). Means (after m l) (count + means.0) 0 file)
-            (sym (take-append-le means.0 told more within)) means.3,
-      )
+  group_put : CommandsAnswered e rs ss f → e.failed ≡ false → put_in ≡ sure_of f.failed (commands_put e rs)
+  group_put answered alive = by_commands answered alive (commands_put e rs) refl
 
--- the same as `HasKept`, and since which times each file has how many of the commands
-pub record HasSince {D : Type 0} (disk : Ghosts D) (b : Begun) (m : Contents) (plan : Option (List Request))
-    (held : ℕ → ℕ → Type 0) (told : List Command) (engine : EngineState D) : Type 0 where
-  pub kept : HasKept disk.now disk.past disk.failures b m plan told engine
-  pub few : (many time : ℕ) → held many time → many ≤ length told
-  pub by : (many time : ℕ) → held many time → time ≤ length (disk.past engine.disk)
-  pub since : (many time : ℕ) → held many time → (file : List ℕ)
-      → LeftSince (disk.now engine.disk ∷ disk.past engine.disk) time file
-      → MeansFrom m b.count (told ++ kept.doubt) many file
+-- ---- what is in doubt is on the plan
 
-module _ {D : Type 0} (disk : Ghosts D) (b : Begun) (m : Contents) (plan : Option (List Request))
-    (held : ℕ → ℕ → Type 0) where
-  abbrev now : D → Moment
-  now d = disk.now d
+on_both : (plan : Option (List Request)) (cs ds : List Command) → AreOnPlan plan cs → AreOnPlan plan ds
+    → AreOnPlan plan (cs ++ ds)
+on_both plan [] ds on more = more
+on_both plan (c ∷ cs) ds on more = (on.0, on_both plan cs ds on.1 more)
 
-  abbrev past : D → List Moment
-  past d = disk.past d
+-- some of them
+on_if : (plan : Option (List Request)) (b : Bool) (cs : List Command) → AreOnPlan plan cs
+    → AreOnPlan plan (if b then cs else [])
+on_if plan true cs on = on
+on_if plan false cs on = tt
 
-  abbrev failures : D → ℕ
-  failures d = disk.failures d
+one_doubted : (plan : Option (List Request)) (m : Contents) (c : Command) (a : Result Outcome Refusal)
+    → IsOnPlan plan (Commands c) → AreOnPlan plan (doubted_by m c a)
+one_doubted plan m c (Ok outcome) on = tt
+one_doubted plan m c (Err refusal) on = on_if plan (is_accepted m c && is_device refusal) (c ∷ []) (on, tt)
 
-  abbrev Has : List Command → EngineState D → Type 0
-  Has told e = HasSince disk b m plan held told e
+-- ---- the session of a trace
 
-  -- nothing was done
-  pub kept_same : (told told' : List Command) (e f : EngineState D) → f ≡ e → told' ≡ told → Has told e → Has told' f
-  kept_same told told' e f same lines it = subst (λ (x : EngineState D). Has told' x) (sym same)
-      (subst (λ (l : List Command). Has l e) (sym lines) it)
+module _ {D : Type 0} (disk : Ghosts D) (k : Origin) where
+  -- lines more, of which no command is accepted
+  pub session_same : (trace trace' : List Line) (s : SessionState D)
+      → accepted_in k.memory trace' ≡ accepted_in k.memory trace → IsSessionOf disk k trace s
+      → IsSessionOf disk k trace' s
+  session_same trace trace' s same was = record {
+    begun = was.begun;
+    memory = was.memory;
+    put = was.put ∙ ap (λ l. k.first ++ l) (sym same);
+    on_plan = was.on_plan;
+    honest = was.honest;
+  }
 
-  module _ (told cs : List Command) (e f : EngineState D) (it : Has told e) (alive : e.failed ≡ false)
-      (ends : e.memory ≡ after m told) (takes : accept_each e.memory cs ≡ Some (after e.memory cs))
-      (leaves : Leaves (now e.disk) (now f.disk) (past e.disk) (past f.disk) (MeansBoth e cs))
-      (last : LeavesNow (now f.disk) (MeansBoth e cs))
-      (far : f.failed ≡ false → (f.memory ≡ after e.memory cs) × (f.count ≡ e.count + length cs))
-      (means : f.failed ≡ false → LeavesNow (now f.disk) (MeansState f))
-      (rose : f.failed ≡ true → Rises (failures e.disk) (failures f.disk))
-      (stayed : f.failed ≡ false → failures f.disk ≡ failures e.disk) (on : AreOnPlan plan cs) where
-    no_doubt : told ++ it.kept.doubt ≡ told
-    no_doubt = ap (λ l. told ++ l) (it.kept.sure alive) ∙ append-nil told
-
-    all : List Command
-    all = told ++ cs
-
-    takes_all : accept_each m (told ++ cs) ≡ Some (after m (told ++ cs))
-    takes_all =
-        accept_both m e.memory (after e.memory cs) told cs
-        (subst (λ (l : List Command). accept_each m l ≡ Some (after m l)) no_doubt it.kept.accepts
-        ∙ ap Some (sym ends)) takes
-        ∙ ap Some (ap (λ n. after n cs) ends ∙ sym (after-append m told cs))
-
-    counted : e.count ≡ b.count + length told
-    counted = it.kept.count alive
-
-    both : (file : List ℕ) → MeansBoth e cs file → MeansEach m b.count told file ⊎ MeansEach m b.count (told ++ cs) file
-    both file (inl image) = inl (all_told m b.count told e.memory e.count file ends counted image)
-    both file (inr image) = inr
-        (all_told m b.count (told ++ cs) (after e.memory cs) (e.count + length cs) file
-        (ap (λ n. after n cs) ends ∙ sym (after-append m told cs))
-        (omega (arith, counted, length-append told cs)) image)
-
-    some_both : (file : List ℕ) → MeansBoth e cs file → MeansSome m b.count (told ++ cs) file
-    some_both file image = ⊎_elim (λ old. longer m b.count told cs file (some_told m b.count told file old))
-        (λ new. some_told m b.count (told ++ cs) file new) (both file image)
-
-    leaves_all : Leaves b.now (now f.disk) b.past (past f.disk) (MeansSome m b.count (told ++ cs))
-    leaves_all =
-        leaves_then b.now (now e.disk) (now f.disk) b.past (past e.disk) (past f.disk) (MeansSome m b.count told)
-        (MeansBoth e cs) (MeansSome m b.count (told ++ cs))
-        (subst (λ (l : List Command). Leaves b.now (now e.disk) b.past (past e.disk)
-        (MeansSome m b.count l)) no_doubt it.kept.leaves) leaves (longer m b.count told cs) some_both
-
-    few_all : (many time : ℕ) → held many time → many ≤ length (told ++ cs)
-    few_all many time h = omega (arith, it.few many time h, length-append told cs)
-
-    by_all : (many time : ℕ) → held many time → time ≤ length (past f.disk)
-    by_all many time h = omega (arith, it.by many time h, leaves.later)
-
-    since_all : (many time : ℕ) → held many time → (file : List ℕ)
-        → LeftSince (now f.disk ∷ past f.disk) time file → MeansFrom m b.count (told ++ cs) many file
-    since_all many time h file left = ⊎_elim
-        (λ old. longer_from m b.count told cs many file
-        (subst (λ (l : List Command). MeansFrom m b.count l many file) no_doubt (it.since many time h file old)))
-        (λ image. ⊎_elim
-        (λ old. longer_from m b.count told cs many file
-        (all_from m b.count told many file (it.few many time h) old))
-        (λ new. all_from m b.count (told ++ cs) many file (few_all many time h) new)
-        (both file image))
-        (leaves.each time file (it.by many time h) left)
-
-    by_failed : (dead : Bool) → f.failed ≡ dead → Has (told ++ (if dead then [] else cs)) f
-    by_failed true is = subst (λ (l : List Command). Has l f) (sym (append-nil told)) (record {
-      kept = record {
-        doubt = cs;
-        sure = λ living. absurd (true_false (sym is ∙ living));
-        on_plan = on;
-        accepts = takes_all;
-        count = λ living. absurd (true_false (sym is ∙ living));
-        leaves = leaves_all;
-        last = λ file left. both file (last file left);
-        rose = λ dead. subst (λ (n : ℕ). Rises n (failures f.disk)) (it.kept.stayed alive) (rose dead);
-        stayed = λ living. absurd (true_false (sym is ∙ living));
-      };
-      few = it.few;
-      by = by_all;
-      since = since_all;
-    })
-    by_failed false is = record {
-      kept = record {
-        doubt = [];
-        sure = λ _. refl;
-        on_plan = tt;
-        accepts = subst (λ (l : List Command). accept_each m l ≡ Some (after m l))
-            (sym (append-nil (told ++ cs))) takes_all;
-        count = λ living. omega (arith, (far living).1, counted, length-append told cs);
-        leaves = subst (λ (l : List Command). Leaves b.now (now f.disk) b.past (past f.disk) (MeansSome m b.count l))
-            (sym (append-nil (told ++ cs))) leaves_all;
-        last = λ file left. inl
-            (all_told m b.count (told ++ cs) f.memory f.count file
-            ((far is).0 ∙ ap (λ n. after n cs) ends ∙ sym (after-append m told cs))
-            (omega (arith, (far is).1, counted, length-append told cs))
-            (meant f file (means is file left)));
-        rose = λ dead. absurd (true_false (sym dead ∙ is));
-        stayed = λ living. stayed living ∙ it.kept.stayed alive;
-      };
-      few = few_all;
-      by = by_all;
-      since = λ many time h file left. subst (λ (l : List Command). MeansFrom m b.count l many file)
-          (sym (append-nil (told ++ cs))) (since_all many time h file left);
+  module _ (trace : List Line) (old new : SessionState D) (was : IsSessionOf disk k trace old)
+      (on : KeepsPut disk old new) where
+    -- it goes on, and puts these commands, and leaves these in doubt
+    session_more : (trace' : List Line) (sure more : List Command) → new.put ≡ old.put ++ sure
+        → new.doubt ≡ old.doubt ++ more → accepted_in k.memory trace' ≡ accepted_in k.memory trace ++ sure
+        → AreOnPlan k.plan more → IsSessionOf disk k trace' new
+    session_more trace' sure more put doubt lines planned = record {
+      begun = ap (begun_by disk) on.start ∙ was.begun;
+      memory = was.memory ∙ ap (λ (s : SessionStart D). after s.memory k.first) (sym on.start);
+      put = put ∙ ap (λ l. l ++ sure) was.put ∙ append_assoc k.first (accepted_in k.memory trace) sure
+          ∙ ap (λ l. k.first ++ l) (sym lines);
+      on_plan = λ worked. subst (λ (l : List Command). AreOnPlan k.plan l) (sym doubt)
+          (on_both k.plan old.doubt more (was.on_plan worked) planned);
+      honest = λ honest. was.honest (on.honest honest);
     }
 
-    -- these commands more, which are in doubt where the engine has failed
-    pub kept_more : Has (told ++ (if f.failed then [] else cs)) f
-    kept_more = by_failed f.failed refl
+    -- it rests
+    pub session_rests : Rests old new → IsSessionOf disk k trace new
+    session_rests rests = session_more trace [] []
+        (ap (λ (s : SessionState D). s.put) rests.same ∙ sym (append-nil old.put))
+        (ap (λ (s : SessionState D). s.doubt) rests.same ∙ sym (append-nil old.doubt))
+        (sym (append-nil (accepted_in k.memory trace))) tt
 
-  -- where nothing was acknowledged yet
-  pub kept_start : (e : EngineState D) → begun_by disk.now disk.past disk.failures e ≡ b → e.memory ≡ m
-      → e.failed ≡ false
-      → LeavesNow (now e.disk) (MeansState e) → ((many time : ℕ) → held many time → ⊥) → Has [] e
-  kept_start e is same alive means none =
-      subst (λ (x : Begun). HasSince disk x m plan held [] e) is (record {
-        kept = record {
-          doubt = [];
-          sure = λ _. refl;
-          on_plan = tt;
-          accepts = refl;
-          count = λ _. omega arith;
-          leaves = leaves_start (now e.disk) (past e.disk) (MeansSome m e.count []);
-          last = λ file left. inl
-              (all_told m e.count [] e.memory e.count file same (omega arith) (meant e file (means file left)));
-          rose = λ dead. absurd (true_false (sym dead ∙ alive));
-          stayed = λ _. refl;
-        };
-        few = λ many time h. absurd (none many time h);
-        by = λ many time h. absurd (none many time h);
-        since = λ many time h. absurd (none many time h);
-      })
+    -- a command is served, and leaves its line
+    pub session_lent : (trace' : List Line) (c : Command) (a : Result Outcome Refusal)
+        → Answered old.engine c a new.engine → old.engine.failed ≡ false → new ≡ served_one old c a new.engine
+        → end_of k.memory trace ≡ old.engine.memory → trace' ≡ trace ++ left_lines (Commands c) a
+        → IsOnPlan k.plan (Commands c) → IsSessionOf disk k trace' new
+    session_lent trace' c a answered alive put ends lines planned =
+        let m = old.engine.memory in
+        session_more trace' (sure_by m c a) (doubted_by m c a)
+        (ap (λ (s : SessionState D). s.put) put) (ap (λ (s : SessionState D). s.doubt) put)
+        (ap (accepted_in k.memory) lines ∙ accepted-more k.memory m trace (left_lines (Commands c) a) ends
+        ∙ ap (λ l. accepted_in k.memory trace ++ l) (line_put old.engine new.engine c a answered alive))
+        (one_doubted k.plan m c a planned)
 
-  -- ---- a command, a turn, a group
+    -- a group is served, and leaves its lines
+    module _ (trace' : List Line) (rs : List Command) (ss : List Served)
+        (ends : end_of k.memory trace ≡ old.engine.memory)
+        (lines : trace' ≡ trace ++ lines_all rs (map served_answer ss)) where
+      group_by : (sure more : List Command) → new.put ≡ old.put ++ sure → new.doubt ≡ old.doubt ++ more
+          → put_in old.engine new.engine rs ss ≡ sure → AreOnPlan k.plan more → IsSessionOf disk k trace' new
+      group_by sure more put doubt is planned = session_more trace' sure more put doubt
+          (ap (accepted_in k.memory) lines
+          ∙ accepted-more k.memory old.engine.memory trace (lines_all rs (map served_answer ss)) ends
+          ∙ ap (λ l. accepted_in k.memory trace ++ l) is)
+          planned
 
-  module _ (e f : EngineState D) (alive : e.failed ≡ false) where
-    none_yet : Failures failures e e
-    none_yet = record { rose = λ dead. absurd (true_false (sym dead ∙ alive)); stayed = λ _. refl }
+      group_none : (r : Refusal) → leaves_line (Err r) ≡ false → ss ≡ each_refused r rs → new ≡ old
+          → IsSessionOf disk k trace' new
+      group_none r none is same = group_by [] []
+          (ap (λ (s : SessionState D). s.put) same ∙ sym (append-nil old.put))
+          (ap (λ (s : SessionState D). s.doubt) same ∙ sym (append-nil old.doubt))
+          (none_put old.engine new.engine rs ss r none is) tt
 
-    either : (c : Command) (file : List ℕ) → MeansEither e c file → MeansBoth e (c ∷ []) file
-    either c file (inl image) = inl (meant e file image)
-    either c file (inr image) = inr (meant (with_command e c) file image)
+      group_served : CommandsAnswered old.engine rs ss new.engine → old.engine.failed ≡ false
+          → new ≡ served_together old rs new.engine → AreOnPlan k.plan rs → IsSessionOf disk k trace' new
+      group_served answered alive put planned =
+          let cs = commands_put old.engine rs in
+          group_by (sure_of new.engine.failed cs) (doubted_of old.engine.failed new.engine.failed cs)
+          (ap (λ (s : SessionState D). s.put) put) (ap (λ (s : SessionState D). s.doubt) put)
+          (group_put old.engine new.engine rs ss answered alive)
+          (on_if k.plan (new.engine.failed && not old.engine.failed) cs
+          (put_on_plan k.plan rs old.engine.memory (places old.engine.count old.engine.room) planned))
 
-    module _ (told : List Command) (it : Has told e) (ends : e.memory ≡ after m told) where
-      module _ (c : Command) (a : Result Outcome Refusal) (answered : Answered e c a f)
-          (cause : Faults (λ r. Unit {0}) a (failures e.disk) (failures f.disk))
-          (leaves : Leaves (now e.disk) (now f.disk) (past e.disk) (past f.disk) (MeansEither e c))
-          (last : LeavesNow (now f.disk) (MeansEither e c))
-          (means : f.failed ≡ false → LeavesNow (now f.disk) (MeansState f)) (on : IsOnPlan plan (Commands c)) where
-        abbrev Next : Type 0
-        Next = Has (told ++ accepted_in e.memory (left_lines (Commands c) a)) f
+      by_room : (dead : Bool) (room n : ℕ) → old.engine.failed ≡ dead → room ≡ n
+          → MembersAnswered old.engine room rs ss new.engine → MembersPut old room rs new
+          → (old.engine.failed ≡ false → 0 < room → AreOnPlan k.plan rs) → IsSessionOf disk k trace' new
+      by_room true room n dead is a put planned = group_none Failed refl ((a.dead dead).dead dead).0 (put.dead dead)
+      by_room false room zero alive is a put planned = group_none TraceFull refl (a.full alive is).0
+          (put.full alive is)
+      by_room false room (suc n) alive is a put planned = group_served (a.served (omega (arith, is))) alive
+          (put.put (omega (arith, is))) (planned alive (omega (arith, is)))
 
-        stays : f ≡ e → accepted_in e.memory (left_lines (Commands c) a) ≡ [] → Next
-        stays same none = kept_same told _ e f same (ap (λ l. told ++ l) none ∙ append-nil told) it
+      pub session_group : (room : ℕ) → MembersAnswered old.engine room rs ss new.engine → MembersPut old room rs new
+          → (old.engine.failed ≡ false → 0 < room → AreOnPlan k.plan rs) → IsSessionOf disk k trace' new
+      session_group room a put planned = by_room old.engine.failed room room refl refl a put planned
 
-        counts : Failures failures e f
-        counts = failures_more failures e e f c a answered cause none_yet
+-- a question puts nothing
+pub looked-same : (m : Contents) (trace trace' : List Line) (element number : ℕ) (a : Result Outcome Refusal)
+    → trace' ≡ trace ++ left_lines (Collect element number) a → accepted_in m trace' ≡ accepted_in m trace
+looked-same m trace trace' element number a is =
+    ap (accepted_in m) is ∙ accepted-more m (end_of m trace) trace _ refl
+    ∙ ap (λ l. accepted_in m trace ++ l) (by_line (leaves_line a)) ∙ append-nil (accepted_in m trace)
+  where
+    by_line : (b : Bool) → accepted_in (end_of m trace) (if b then line_of (Collect element number) a ∷ [] else []) ≡ []
+    by_line true = refl
+    by_line false = refl
 
-        goes : is_accepted e.memory c ≡ true
-            → (f.failed ≡ false → (f.memory ≡ (step e.memory c).contents) × (f.count ≡ e.count + 1))
-            → accepted_in e.memory (left_lines (Commands c) a) ≡ (if f.failed then [] else c ∷ []) → Next
-        goes is far lines =
-            subst (λ (l : List Command). Has (told ++ l) f) (sym lines)
-            (kept_more told (c ∷ []) e f it alive ends (accept_one e.memory c is)
-            (leaves_weaker (now e.disk) (now f.disk) (past e.disk) (past f.disk) (MeansEither e c)
-            (MeansBoth e (c ∷ [])) leaves (either c))
-            (λ file left. either c file (last file left)) far means counts.rose counts.stayed (on, tt))
-
-        put : is_accepted e.memory c ≡ true
-            → ((a ≡ (step e.memory c).answer) × (f ≡ record (with_command e c) { disk = f.disk; pages = f.pages }))
-            ⊎ ((a ≡ Err Device) × (f ≡ record e { disk = f.disk; failed = true })) → Next
-        put is (inl done) =
-            let living : f.failed ≡ false = ap (λ (x : EngineState D). x.failed) done.1 ∙ alive in
-            goes is (λ _. (ap (λ (x : EngineState D). x.memory) done.1, ap (λ (x : EngineState D). x.count) done.1))
-            (lined e.memory c a
-            (ap leaves_line done.0 ∙ ok-leaves (step e.memory c).answer (accepted-ok e.memory c is)) is
-            ∙ sym (ap (λ x. if x then [] else c ∷ []) living))
-        put is (inr doubt) =
-            let dead : f.failed ≡ true = ap (λ (x : EngineState D). x.failed) doubt.1 in
-            goes is (λ living. absurd (true_false (sym dead ∙ living)))
-            (lineless e.memory c a (ap leaves_line doubt.0) ∙ sym (ap (λ x. if x then [] else c ∷ []) dead))
-
-        -- a command was lent
-        pub kept_lent : Next
-        kept_lent = ⊎_elim
-            (λ is. ⊎_elim
-            (λ none. let full = answered.full alive is none in stays full.1
-            (lineless e.memory c a (ap leaves_line full.0)))
-            (λ some. put is (answered.put alive is some))
-            (none_or_some e.room))
-            (λ un. stays (answered.unaccepted alive un).1 (unaccepted e.memory c a un))
-            (true_or_false (is_accepted e.memory c))
-
-      -- what leaves the memory was done
-      kept_alive : (f.memory ≡ e.memory) × (f.count ≡ e.count) → Failures failures e f
-          → Leaves (now e.disk) (now f.disk) (past e.disk) (past f.disk) (MeansState e)
-          → LeavesNow (now f.disk) (MeansState e) → (f.failed ≡ false → LeavesNow (now f.disk) (MeansState f))
-          → Has told f
-      kept_alive stays counts leaves last means =
-          subst (λ (l : List Command). Has l f) (none_by f.failed)
-          (kept_more told [] e f it alive ends refl
-          (leaves_weaker (now e.disk) (now f.disk) (past e.disk) (past f.disk) (MeansState e) (MeansBoth e []) leaves
-          (λ file image. inl (meant e file image)))
-          (λ file left. inl (meant e file (last file left)))
-          (λ _. (stays.0, omega (arith, stays.1))) means counts.rose counts.stayed tt)
-        where
-          none_by : (dead : Bool) → told ++ (if dead then [] else []) ≡ told
-          none_by true = append-nil told
-          none_by false = append-nil told
-
-      module _ (rs : List Command) (ss : List Served) (answered : CommandsAnswered e rs ss f)
-          (cause : GroupFaults e.failed f.failed (failures e.disk) (failures f.disk))
-          (leaves : Leaves (now e.disk) (now f.disk) (past e.disk) (past f.disk) (MeansCommands e rs))
-          (last : LeavesNow (now f.disk) (MeansCommands e rs))
-          (means : f.failed ≡ false → LeavesNow (now f.disk) (MeansState f)) (on : AreOnPlan plan rs) where
-        abbrev puts : List Command
-        puts = commands_put e rs
-
-        abbrev NextAll : Type 0
-        NextAll = Has (told ++ accepted_in e.memory (lines_all rs (map served_answer ss))) f
-
-        group_after : (after_commands e rs).memory ≡ after e.memory puts
-        group_after = sym (at-after e.memory (places e.count e.room) rs)
-
-        group_count : (after_commands e rs).count ≡ e.count + length puts
-        group_count = refl
-
-        group_either : (file : List ℕ) → MeansCommands e rs file → MeansBoth e puts file
-        group_either file (inl image) = inl (meant e file image)
-        group_either file (inr image) =
-            inr (subst (λ (x : Contents). Means x (e.count + length puts) 0 file) group_after
-            (subst (λ (n : ℕ). Means (after_commands e rs).memory n 0 file) group_count
-            (meant (after_commands e rs) file image)))
-
-        lines_done : ss ≡ answers_in_turn e rs → accepted_in e.memory (lines_all rs (map served_answer ss)) ≡ puts
-        lines_done is =
-            ap (λ xs. accepted_in e.memory (lines_all rs (map served_answer xs))) is
-            ∙ ap (λ xs. accepted_in e.memory (lines_all rs xs))
-            (answers_served (answers_with e.memory (places e.count e.room) rs))
-            ∙ all_put e.memory (places e.count e.room) rs
-
-        group_goes : (f.failed ≡ false → (f.memory ≡ (after_commands e rs).memory)
-            × (f.count ≡ (after_commands e rs).count)) → accepted_in e.memory (lines_all rs (map served_answer ss))
-            ≡ (if f.failed then [] else puts) → NextAll
-        group_goes far lines =
-            subst (λ (l : List Command). Has (told ++ l) f) (sym lines)
-            (kept_more told puts e f it alive ends (at-accepted e.memory (places e.count e.room) rs)
-            (leaves_weaker (now e.disk) (now f.disk) (past e.disk) (past f.disk) (MeansCommands e rs)
-            (MeansBoth e puts) leaves group_either)
-            (λ file left. group_either file (last file left))
-            (λ living. ((far living).0 ∙ group_after, (far living).1 ∙ group_count)) means
-            (λ dead. (cause.failed alive dead).0) (λ living. cause.steady (living ∙ sym alive))
-            (put_on_plan plan rs e.memory (places e.count e.room) on))
-
-        group_by : (cs : List Command) → puts ≡ cs → NextAll
-        group_by [] none =
-            let is = answered.none alive none in kept_same told _ e f is.1
-            (ap (λ l. told ++ l) (lines_done is.0 ∙ none) ∙ append-nil told) it
-        group_by (c ∷ cs) some = ⊎_elim
-            (λ done. let living : f.failed ≡ false = ap (λ (x : EngineState D). x.failed) done.1 ∙ alive in
-            group_goes (λ _.
-            (ap (λ (x : EngineState D). x.memory) done.1, ap (λ (x : EngineState D). x.count) done.1))
-            (lines_done done.0 ∙ sym (ap (λ x. if x then [] else puts) living)))
-            (λ doubt. let dead : f.failed ≡ true = ap (λ (x : EngineState D). x.failed) doubt.1 in
-            group_goes (λ living. absurd (true_false (sym dead ∙ living)))
-            (ap (λ xs. accepted_in e.memory (lines_all rs (map served_answer xs))) doubt.0
-            ∙ ap (accepted_in e.memory) (refused-lines Device refl rs)
-            ∙ sym (ap (λ x. if x then [] else puts) dead)))
-            (answered.put alive (omega (arith, ap length some)))
-
-        -- a group was lent
-        pub kept_group : NextAll
-        kept_group = group_by puts refl
-
-  -- whichever way its members were answered
-  module _ (e f : EngineState D) (told : List Command) (it : Has told e) (ends : e.memory ≡ after m told)
-      (rs : List Command) (ss : List Served) (cause : GroupFaults e.failed f.failed (failures e.disk) (failures f.disk))
-      (leaves : e.failed ≡ false → Leaves (now e.disk) (now f.disk) (past e.disk) (past f.disk) (MeansCommands e rs))
-      (last : e.failed ≡ false → LeavesNow (now f.disk) (MeansCommands e rs))
-      (means : f.failed ≡ false → LeavesNow (now f.disk) (MeansState f)) where
-    refused : (r : Refusal) → leaves_line (Err r) ≡ false → ss ≡ each_refused r rs → f ≡ e
-        → Has (told ++ accepted_in e.memory (lines_all rs (map served_answer ss))) f
-    refused r none is same =
-        kept_same told _ e f same
-        (ap (λ l. told ++ l)
-        (ap (λ xs. accepted_in e.memory (lines_all rs (map served_answer xs))) is
-        ∙ ap (accepted_in e.memory) (refused-lines r none rs)) ∙ append-nil told) it
-
-    by_room : (dead : Bool) (room n : ℕ) → e.failed ≡ dead → room ≡ n → MembersAnswered e room rs ss f
-        → (e.failed ≡ false → 0 < room → AreOnPlan plan rs)
-        → Has (told ++ accepted_in e.memory (lines_all rs (map served_answer ss))) f
-    by_room true room n dead is a on = let it = (a.dead dead).dead dead in refused Failed refl it.0 it.1
-    by_room false room zero alive is a on = let full = a.full alive is in refused TraceFull refl full.0 full.1
-    by_room false room (suc n) alive is a on = kept_group e f alive told it ends rs ss
-        (a.served (omega (arith, is))) cause (leaves alive) (last alive) means (on alive (omega (arith, is)))
-
-    pub kept_members : (room : ℕ) → MembersAnswered e room rs ss f
-        → (e.failed ≡ false → 0 < room → AreOnPlan plan rs)
-        → Has (told ++ accepted_in e.memory (lines_all rs (map served_answer ss))) f
-    kept_members room a on = by_room e.failed room room refl refl a on
-
-  -- the lines of a trace more
-  pub kept_on : (e f : EngineState D) (trace trace' more : List Line) → trace' ≡ trace ++ more → end_of m trace
-      ≡ e.memory → Has (accepted_in m trace ++ accepted_in e.memory more) f → Has (accepted_in m trace') f
-  kept_on e f trace trace' more is ends it = subst (λ (l : List Command). Has l f)
-      (sym (ap (accepted_in m) is ∙ accepted-more m e.memory trace more ends)) it
-
-  -- a line of a collect more
-  pub kept_looked : (e : EngineState D) (trace trace' : List Line) (element number : ℕ) (a : Result Outcome Refusal)
-      → trace' ≡ trace ++ left_lines (Collect element number) a → Has (accepted_in m trace) e
-      → Has (accepted_in m trace') e
-  kept_looked e trace trace' element number a is it =
-      subst (λ (l : List Command). Has l e)
-      (sym (ap (accepted_in m) is ∙ accepted-more m (end_of m trace) trace _ refl
-      ∙ ap (λ l. accepted_in m trace ++ l) (by_line (leaves_line a)) ∙ append-nil (accepted_in m trace))) it
-    where
-      by_line : (b : Bool) → accepted_in (end_of m trace) (if b then line_of (Collect element number) a ∷ [] else [])
-          ≡ []
-      by_line true = refl
-      by_line false = refl
-
-  -- what leaves the memory, whether the engine had failed or not
-  pub kept_quiet : (e f : EngineState D) (told : List Command) → Has told e → e.memory ≡ after m told
-      → IsQuiet failures e f
-      → (e.failed ≡ false → Leaves (now e.disk) (now f.disk) (past e.disk) (past f.disk) (MeansState e))
-      → (e.failed ≡ false → LeavesNow (now f.disk) (MeansState e))
-      → (f.failed ≡ false → LeavesNow (now f.disk) (MeansState f)) → Has told f
-  kept_quiet e f told it ends quiet leaves last means = ⊎_elim
-      (λ dead. kept_same told told e f (quiet.dead dead) refl it)
-      (λ alive. kept_alive e f alive told it ends quiet.stays (quiet.counts alive) (leaves alive) (last alive) means)
-      (true_or_false e.failed)
+-- where a trace begins
+pub session_first : {D : Type 0} (disk : Ghosts D) (k : Origin) (trace : List Line) (opening : OpeningState D)
+    → trace ≡ [] → IsOriginOf disk opening k → Kept disk opening.session → IsSessionOf disk k trace opening.session
+session_first disk k trace opening none from kept = let s = opening.session in record {
+  begun = from.begun;
+  memory = sym from.memory ∙ kept.memory ∙ ap (after s.start.memory) from.first;
+  put = from.first ∙ sym (append-nil k.first) ∙ ap (λ ls. k.first ++ accepted_in k.memory ls) (sym none);
+  on_plan = λ worked. subst (λ (l : List Command). AreOnPlan k.plan l) (sym (kept.sure (from.failed ∙ worked))) tt;
+  honest = from.honest;
+}
 
 -- ---- the times of lines
 
@@ -611,11 +343,6 @@ accepted-few m history trace p =
     let more = accepted-more m (end_of m history) history p.0 refl in
     let long = length-append (accepted_in m history) (accepted_in (end_of m history) p.0) in
     omega (arith, long, ap length more, ap (λ (l : List Line). length (accepted_in m l)) p.1)
-
--- how many accepted commands a line of the trace has up to it, and its time
-abbrev pub held_of : Contents → List Line → List ℕ → ℕ → ℕ → Type 0
-held_of m trace times many time =
-    (history : List Line) × IsLeftAt trace times history time × (many ≡ length (accepted_in m history))
 
 -- a line of a longer trace is one of before, or it was left now
 module _ (trace trace' more : List Line) (times times' : List ℕ) (time : ℕ) (whole : length times ≡ length trace)
@@ -647,89 +374,91 @@ module _ (trace trace' more : List Line) (times times' : List ℕ) (time : ℕ) 
 from_zero : (n : ℕ) → 0 ≤ n
 from_zero n = omega arith
 
-module _ {D : Type 0} (disk : Ghosts D) (b : Begun) (m : Contents) (plan : Option (List Request)) where
-  pub since_of : (trace : List Line) (times : List ℕ) (e : EngineState D)
-      → KeepsSince disk b m plan trace times e
-      → HasSince disk b m plan (held_of m trace times) (accepted_in m trace) e
-  since_of trace times e k = record {
-    kept = k.kept;
-    few = λ many time h. omega (arith, h.2, accepted-few m h.0 trace h.1.begins);
-    by = λ many time h. k.by h.0 time h.1;
-    since = λ many time h file left. subst
-        (λ (n : ℕ). MeansFrom m b.count (accepted_in m trace ++ k.kept.doubt) n file) (sym h.2)
-        (k.since h.0 time h.1 file left);
-  }
+-- a session has put what it had put before, and the accepted commands of each beginning of its trace
+few_put : {D : Type 0} (disk : Ghosts D) (k : Origin) (history trace : List Line) (s : SessionState D)
+    → IsPrefix history trace → IsSessionOf disk k trace s
+    → length k.first + length (accepted_in k.memory history) ≤ length s.put
+few_put disk k history trace s begins it =
+    let few = accepted-few k.memory history trace begins in
+    omega (arith, few, ap length it.put, length-append k.first (accepted_in k.memory trace))
 
-  -- lines more are left now
-  module _ (trace trace' more : List Line) (times times' : List ℕ) (f : EngineState D)
-      (whole : length times ≡ length trace) (order : NeverGoBack times) (lines : trace' ≡ trace ++ more)
-      (timed : times' ≡ times ++ times_of (length (disk.past f.disk)) more)
-      (it : HasSince disk b m plan (held_of m trace times) (accepted_in m trace') f) where
+module _ {D : Type 0} (disk : Ghosts D) (k : Origin) where
+  -- the session goes on, and no line is left
+  pub times_on : (trace : List Line) (times : List ℕ) (old new : SessionState D) → IsSessionOf disk k trace old
+      → KeepsPut disk old new → disk.honest new.engine.disk → KeepsSince disk k trace times old
+      → KeepsSince disk k trace times new
+  times_on trace times old new it on honest was =
+      let later = (on.leaves honest).later in record {
+        began = omega (arith, was.began, later);
+        first = still_kept disk old new (length k.first) k.time on honest
+            (omega (arith, few_put disk k [] trace old (trace, refl) it)) was.began was.first;
+        whole = was.whole;
+        order = was.order;
+        by = λ history time at. omega (arith, was.by history time at, later);
+        since = λ history time at. still_kept disk old new
+            (length k.first + length (accepted_in k.memory history)) time on honest
+            (few_put disk k history trace old at.begins it) (was.by history time at) (was.since history time at);
+      }
+
+  -- lines more are left now, of commands that were put
+  module _ (trace trace' more : List Line) (times times' : List ℕ) (s : SessionState D)
+      (lines : trace' ≡ trace ++ more) (timed : times' ≡ times ++ times_of (length (disk.past s.engine.disk)) more)
+      (kept : Kept disk s) (it : IsSessionOf disk k trace' s) (honest : disk.honest s.engine.disk)
+      (was : KeepsSince disk k trace times s) where
     -- no line before has a later time
-    until_now : (n : ℕ) → n ≤ length times → time_at times n ≤ length (disk.past f.disk)
-    until_now zero few = from_zero (length (disk.past f.disk))
+    until_now : (n : ℕ) → n ≤ length times → time_at times n ≤ length (disk.past s.engine.disk)
+    until_now zero few = from_zero (length (disk.past s.engine.disk))
     until_now (suc n) few =
         let history = take (suc n) trace in
+        let whole = was.whole in
         let long : length history ≡ suc n = length-take-le (suc n) trace (omega (arith, whole, few)) in
-        let left : IsLeftAt trace times history (time_at times (suc n)) = record {
+        was.by history (time_at times (suc n)) (record {
           begins = (drop (suc n) trace, take-append-drop (suc n) trace);
           some = omega (arith, long);
-          time_is = ap (λ (k : ℕ). time_at times k) (sym long);
-        } in
-        it.by (length (accepted_in m history)) (time_at times (suc n)) (history, left, refl)
+          time_is = ap (λ (j : ℕ). time_at times j) (sym long);
+        })
 
-    pub since_now : (history : List Line) → IsPrefix history trace' → (file : List ℕ) → Left (disk.now f.disk) file
-        → MeansFrom m b.count (accepted_in m trace' ++ it.kept.doubt) (length (accepted_in m history)) file
-    since_now history begins file left =
-        let few = accepted-few m history trace' begins in
-        let told = accepted_in m trace' in ⊎_elim
-        (λ sure. longer_from m b.count told it.kept.doubt (length (accepted_in m history)) file
-        (all_from m b.count told (length (accepted_in m history)) file few sure))
-        (λ doubt. all_from m b.count (told ++ it.kept.doubt) (length (accepted_in m history)) file
-        (omega (arith, few, length-append told it.kept.doubt)) doubt)
-        (it.kept.last file left)
-
-    pub keeps_more : KeepsSince disk b m plan trace' times' f
-    keeps_more = record {
-      kept = it.kept;
-      whole = whole-more trace trace' more times times' (length (disk.past f.disk)) whole lines timed;
+    pub times_more : KeepsSince disk k trace' times' s
+    times_more = record {
+      began = was.began;
+      first = was.first;
+      whole = whole-more trace trace' more times times' (length (disk.past s.engine.disk)) was.whole lines timed;
       order = subst (λ (ts : List ℕ). NeverGoBack ts) (sym timed)
-          (more-back times (length (disk.past f.disk)) more order until_now);
-      by = λ history time at. ⊎_elim
-          (λ old. it.by (length (accepted_in m history)) time (history, old, refl))
-          (λ new. omega (arith, new))
-          (line-of trace trace' more times times' (length (disk.past f.disk)) whole lines timed history time at);
-      since = λ history time at file left. ⊎_elim
-          (λ old. it.since (length (accepted_in m history)) time (history, old, refl) file left)
-          (λ new. since_now history at.begins file
-          (only_now (disk.now f.disk) (disk.past f.disk) file
-          (subst (λ (t : ℕ). LeftSince (disk.now f.disk ∷ disk.past f.disk) t file) new left)))
-          (line-of trace trace' more times times' (length (disk.past f.disk)) whole lines timed history time at);
+          (more-back times (length (disk.past s.engine.disk)) more was.order until_now);
+      by = λ history time at. ⊎_elim (λ old. was.by history time old) (λ new. omega (arith, new))
+          (line-of trace trace' more times times' (length (disk.past s.engine.disk)) was.whole lines timed history time
+          at);
+      since = λ history time at. ⊎_elim (λ old. was.since history time old)
+          (λ new. subst (λ (t : ℕ). KeptFrom disk s (length k.first + length (accepted_in k.memory history)) t)
+          (sym new) (now_kept disk s (length k.first + length (accepted_in k.memory history)) kept honest
+          (few_put disk k history trace' s at.begins it)))
+          (line-of trace trace' more times times' (length (disk.past s.engine.disk)) was.whole lines timed history time
+          at);
     }
 
   -- the same of a log
-  pub keeps_at : (time : ℕ) (old new : TimedLog) (f : EngineState D) → time ≡ length (disk.past f.disk)
-      → length old.times ≡ length old.state.trace → NeverGoBack old.times → GoesOnAt time old new
-      → HasSince disk b m plan (held_of m old.state.trace old.times) (accepted_in m new.state.trace) f
-      → KeepsSince disk b m plan new.state.trace new.times f
-  keeps_at time old new f is whole order goes it = keeps_more old.state.trace new.state.trace goes.more old.times
-      new.times f whole order goes.lines (goes.times ∙ ap (λ t. old.times ++ times_of t goes.more) is) it
-
-  -- no line more
-  pub keeps_still : (trace : List Line) (times : List ℕ) (f : EngineState D) → length times ≡ length trace
-      → NeverGoBack times → HasSince disk b m plan (held_of m trace times) (accepted_in m trace) f
-      → KeepsSince disk b m plan trace times f
-  keeps_still trace times f whole order it = keeps_more trace trace [] times times f whole order
-      (sym (append-nil trace)) (sym (append-nil times)) it
+  pub times_at : (time : ℕ) (old new : TimedLog) (s : SessionState D) → time ≡ length (disk.past s.engine.disk)
+      → GoesOnAt time old new → Kept disk s → IsSessionOf disk k new.state.trace s → disk.honest s.engine.disk
+      → KeepsSince disk k old.state.trace old.times s → KeepsSince disk k new.state.trace new.times s
+  times_at time old new s is goes kept it honest was = times_more old.state.trace new.state.trace goes.more old.times
+      new.times s goes.lines (goes.times ∙ ap (λ t. old.times ++ times_of t goes.more) is) kept it honest was
 
   -- before the first line
-  pub keeps_first : (trace : List Line) (times : List ℕ) (e : EngineState D) → trace ≡ [] → times ≡ []
-      → begun_by disk.now disk.past disk.failures e ≡ b → e.memory ≡ m → e.failed ≡ false
-      → LeavesNow (disk.now e.disk) (MeansState e)
-      → KeepsSince disk b m plan trace times e
-  keeps_first trace times e none no_times is same alive means = rw (none, no_times) (keeps_still [] [] e refl none-back
-      (kept_start disk b m plan (held_of m [] []) e is same alive means
-      (λ many time h. nothing h.0 h.1.begins h.1.some)))
+  pub times_first : (trace : List Line) (times : List ℕ) (opening : OpeningState D) → trace ≡ [] → times ≡ []
+      → IsOriginOf disk opening k → Kept disk opening.session → disk.honest opening.session.engine.disk
+      → KeepsSince disk k trace times opening.session
+  times_first trace times opening none no_times from kept honest =
+      let s = opening.session in
+      let time = from.time in
+      let first = ap length from.first in rw (none, no_times) (record {
+        began = omega (arith, time);
+        first = subst (λ (t : ℕ). KeptFrom disk s (length k.first) t) time
+            (now_kept disk s (length k.first) kept honest (omega (arith, first)));
+        whole = refl;
+        order = none-back;
+        by = λ history at is. absurd (nothing history is.begins is.some);
+        since = λ history at is. absurd (nothing history is.begins is.some);
+      })
     where
       nothing : (history : List Line) → IsPrefix history [] → 0 < length history → ⊥
       nothing [] p some = absurd (omega (arith, some))

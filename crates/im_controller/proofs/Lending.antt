@@ -11,16 +11,16 @@ use Rattle.im_types.specs.Changes.{changes_of, shown_by}
 use Rattle.im_laws.proofs.Tests.{true_false}
 use Rattle.im_disk.specs.declared.disk.Disk.{Ghosts}
 use Rattle.im_engine.specs.State.{EngineState}
-use Rattle.im_engine.specs.Commands.{CommandsAnswered}
+use Rattle.im_session.specs.Keeping.{KeepsPut, MakesFewCalls}
 use Rattle.im_glass.specs.Panes.{PaneView}
 use Rattle.im_trace.specs.Log.{LogState}
 use Rattle.im_controller.specs.State.{SharedState}
 use Rattle.im_queue.specs.Members.{AreOneOfEach, AreSureBehind, IsCut, AreFreeFor}
 use Rattle.im_controller.specs.Admitted.{free_lines, places_with, Admits}
 use Rattle.im_controller.specs.Planned.{AreOnPlan, StartsBy}
-use Rattle.im_controller.specs.Groups.{served_answer, with_all_unclaimed, lines_left, AreAnswersTo, MembersAnswered}
-use Rattle.im_controller.specs.Groups.{changes_put_all, LendsGroup}
-use Rattle.im_controller.specs.Runs.{LendsRuns}
+use Rattle.im_session.specs.Serving.{served_answer}
+use Rattle.im_controller.specs.Groups.{with_all_unclaimed, lines_left, AreAnswersTo, MembersAnswered}
+use Rattle.im_controller.specs.Groups.{changes_put_all, LendsGroup, MembersPut}
 use Rattle.im_controller.proofs.AdmitLemmas.{admit-cut, admit-apart, admit-sure, admit-few, admit-free, admit-trace}
 use Rattle.im_controller.proofs.AdmitLemmas.{admit-limit, admit-planned, admit-all}
 use Rattle.im_controller.proofs.GroupLemmas.{Fits, members-fit, members-room}
@@ -30,37 +30,38 @@ use Rattle.im_controller.proofs.ShownLemmas.{pane-shows, shown-grows}
 -- a group that was lent: what was asked of it, and what became of it
 pub record Group {D : Type 0} (plan : Option (List Request)) (s : SharedState D) (f : EngineState D)
     (refused : LogState) (members lent : List Command) (ss : List Served) (room : ℕ) : Type 0 where
-  pub admits : Admits plan s.engine s.log members lent refused
-  pub answered : MembersAnswered s.engine room lent ss f
+  pub admits : Admits plan s.session.engine s.log members lent refused
+  pub answered : MembersAnswered s.session.engine room lent ss f
   pub room_is : room ≡ free_lines s.log
   pub within : length s.log.trace ≤ s.log.limit
-  pub agrees : WaitingAgrees s.engine.memory
+  pub agrees : WaitingAgrees s.session.engine.memory
   pub cut : IsCut members
   pub apart : AreOneOfEach members
-  pub sure : AreSureBehind s.engine.memory members
+  pub sure : AreSureBehind s.session.engine.memory members
   pub free : AreFreeFor s.log.places members
   pub enough : length s.log.trace < s.log.limit → length s.log.trace + length members ≤ s.log.limit
 
--- from what is called
-pub group-is : {D : Type 0} (plan p : Option (List Request)) (s t : SharedState D) (f : EngineState D)
+-- from what is called, of an engine that was looked at
+pub group-is : {D : Type 0} (plan p : Option (List Request)) (s t : SharedState D) (x f : EngineState D) (n : Contents)
     (refused : LogState) (members slice lent : List Command) (ss : List Served) (room : ℕ) → s ≡ t
-    → Admits p s.engine s.log slice lent refused → p ≡ plan → slice ≡ members
-    → MembersAnswered s.engine room lent ss f → room ≡ free_lines s.log → length s.log.trace ≤ s.log.limit
-    → WaitingAgrees s.engine.memory → IsCut members → AreOneOfEach members → AreSureBehind t.engine.memory members
-    → AreFreeFor t.log.places members
+    → x ≡ s.session.engine → Admits p x s.log slice lent refused → p ≡ plan → slice ≡ members
+    → MembersAnswered s.session.engine room lent ss f → room ≡ free_lines s.log → length s.log.trace ≤ s.log.limit
+    → n ≡ x.memory → WaitingAgrees n → IsCut members → AreOneOfEach members
+    → AreSureBehind t.session.engine.memory members → AreFreeFor t.log.places members
     → (length t.log.trace < t.log.limit → length t.log.trace + length members ≤ t.log.limit)
     → Group plan s f refused members lent ss room
-group-is {D = D} plan p s t f refused members slice lent ss room same admits planned all answered is within agrees cut
-    apart sure free enough = record {
-      admits = subst (λ (q : Option (List Request)). Admits q s.engine s.log members lent refused) planned
-          (subst (λ (rs : List Command). Admits p s.engine s.log rs lent refused) all admits);
+group-is {D = D} plan p s t x f n refused members slice lent ss room same looked admits planned all answered is within
+    memory agrees cut apart sure free enough = record {
+      admits = subst (λ (q : Option (List Request)). Admits q s.session.engine s.log members lent refused) planned
+          (subst (λ (rs : List Command). Admits p s.session.engine s.log rs lent refused) all
+          (subst (λ (y : EngineState D). Admits p y s.log slice lent refused) looked admits));
       answered = answered;
       room_is = is;
       within = within;
-      agrees = agrees;
+      agrees = subst WaitingAgrees (memory ∙ ap (λ (y : EngineState D). y.memory) looked) agrees;
       cut = cut;
       apart = apart;
-      sure = subst (λ (u : SharedState D). AreSureBehind u.engine.memory members) (sym same) sure;
+      sure = subst (λ (u : SharedState D). AreSureBehind u.session.engine.memory members) (sym same) sure;
       free = subst (λ (u : SharedState D). AreFreeFor u.log.places members) (sym same) free;
       enough = subst (λ (u : SharedState D). length u.log.trace < u.log.limit
           → length u.log.trace + length members ≤ u.log.limit) (sym same) enough;
@@ -70,7 +71,7 @@ module _ {D : Type 0} (plan : Option (List Request)) (s : SharedState D) (f : En
     (members lent : List Command) (ss : List Served) (room : ℕ)
     (it : Group plan s f refused members lent ss room) where
   abbrev e : EngineState D
-  e = s.engine
+  e = s.session.engine
 
   pub group-fits : Fits e.memory lent ss f.memory
   group-fits = members-fit e f lent ss room it.answered
@@ -154,28 +155,28 @@ module _ {D : Type 0} (plan : Option (List Request)) (s : SharedState D) (f : En
       }
 
   -- a group, as its clause has it
-  pub lends-group : (disk : Ghosts D) (s' : SharedState D) → s'.engine ≡ f
+  pub lends-group : (disk : Ghosts D) (s' : SharedState D) → s'.session.engine ≡ f
+      → MembersPut s.session room lent s'.session → KeepsPut disk s.session s'.session
+      → MakesFewCalls disk s.session lent s'.session
       → s'.log ≡ with_all_unclaimed refused lent (map served_answer ss) → s'.servers ≡ s.servers
       → (f.failed ≡ false
       → s'.shown ≡ s.shown ++ changes_put_all e.memory (places_with e (free_lines s.log)) lent)
-      → (f.failed ≡ true → s'.shown ≡ s.shown) → LendsRuns disk e f lent
-      → LendsGroup disk plan s members s'
-  lends-group disk s' now log servers shown hidden runs = record {
+      → (f.failed ≡ true → s'.shown ≡ s.shown) → LendsGroup disk plan s members s'
+  lends-group disk s' now put keeps few log servers shown hidden = record {
     lent = lent;
     refused = refused;
     admits = it.admits;
     all = admit-all plan e s.log members lent refused it.admits;
     answers = ss;
-    full = λ alive over. let full = it.answered.full alive (omega (arith, it.room_is, over)) in
-        (full.0, now ∙ full.1);
-    dead = λ dead. subst (λ (x : EngineState D). CommandsAnswered e lent ss x) (sym now) (it.answered.dead dead);
-    served = λ some. subst (λ (x : EngineState D). CommandsAnswered e lent ss x) (sym now)
-        (it.answered.served (omega (arith, it.room_is, some)));
+    answered = subst (λ (x : EngineState D). MembersAnswered e (free_lines s.log) lent ss x) (sym now)
+        (subst (λ (n : ℕ). MembersAnswered e n lent ss f) it.room_is it.answered);
+    put = subst (λ (n : ℕ). MembersPut s.session n lent s'.session) it.room_is put;
     log = log;
     servers = servers;
     shown = λ alive. shown (sym (failed-of now) ∙ alive);
     hidden = λ dead. hidden (sym (failed-of now) ∙ dead);
-    runs = subst (λ (x : EngineState D). LendsRuns disk e x lent) (sym now) runs;
+    keeps = keeps;
+    few = few;
   }
     where
       failed-of : {x y : EngineState D} → x ≡ y → x.failed ≡ y.failed

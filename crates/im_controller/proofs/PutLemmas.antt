@@ -25,7 +25,8 @@ use Rattle.im_engine.specs.Commands.{commands_put, each_refused, answers_in_turn
 use Rattle.im_trace.specs.Lines.{leaves_line, line_of, left_lines}
 use Rattle.im_trace.specs.Log.{LogState, with_unclaimed}
 use Rattle.im_queue.specs.Members.{AreOneOfEach, IsCut, AreSureBehind}
-use Rattle.im_controller.specs.Groups.{served_answer, with_all_unclaimed}
+use Rattle.im_session.specs.Serving.{served_answer}
+use Rattle.im_controller.specs.Groups.{with_all_unclaimed}
 use Rattle.im_controller.specs.Groups.{MembersAnswered}
 use Rattle.im_controller.specs.Groups.{changes_put_all}
 use Rattle.im_controller.specs.Admitted.{places_with}

@@ -30,17 +30,18 @@ module _ {D : Type 0} (marks : Line → Bool) (s s' : SharedState D) (t t' : Lin
   abbrev found : Result Entry Refusal → List Line
   found b = left_lines (Collect e n) (told b)
 
-  looks-alive : s.engine.failed ≡ false → (length s.log.trace < s.log.limit) ⊎ (s.log.limit ≤ length s.log.trace)
+  looks-alive : s.session.engine.failed ≡ false
+      → (length s.log.trace < s.log.limit) ⊎ (s.log.limit ≤ length s.log.trace)
       → s'.log.trace ≡ s.log.trace ++ found a
   looks-alive alive (inl room) = ap (λ (k : LogState). k.trace) (l.found alive room).1.log
   looks-alive alive (inr over) = let is = l.full alive over in same-trace s s' (found a) is.1 (ap found is.0)
 
-  looks-by : (failed : Bool) → s.engine.failed ≡ failed → s'.log.trace ≡ s.log.trace ++ found a
+  looks-by : (failed : Bool) → s.session.engine.failed ≡ failed → s'.log.trace ≡ s.log.trace ++ found a
   looks-by true dead = let is = l.dead dead in same-trace s s' (found a) is.1 (ap found is.0)
   looks-by false alive = looks-alive alive (below_or_from (length s.log.trace) s.log.limit)
 
   pub looks-trace : s'.log.trace ≡ s.log.trace ++ left_lines (Collect e n) (told a)
-  looks-trace = looks-by s.engine.failed refl
+  looks-trace = looks-by s.session.engine.failed refl
 
 -- a port that is refused with no line may see more of the trace
 pub sees-more : (seen seen' : List Line) (e n : ℕ) (refusal : Refusal) → refusal ≡ Stalled → IsPrefix seen seen'

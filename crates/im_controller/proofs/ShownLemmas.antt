@@ -180,24 +180,26 @@ told-all m trace told is = ([], append-nil (shown_by m trace) ∙ sym is)
 module _ {D : Type 0} (disk : Ghosts D) (k : Origin) (s s' : SharedState D) (t t' : LineCounts) (command : Command)
     (a : Result Outcome Refusal) (answer : Result ReceiptState Refusal) where
   abbrev time : ℕ
-  time = length (disk.past s'.engine.disk)
+  time = length (disk.past s'.session.engine.disk)
 
-  pub lends-served : answer ≡ receipt_for s'.log.trace time s'.shown command a → s.engine.failed ≡ false
+  pub lends-served : answer ≡ receipt_for s'.log.trace time s'.shown command a → s.session.engine.failed ≡ false
       → length s.log.trace < s.log.limit → has_command k.plan command ≡ true
-      → Answered s.engine command a s'.engine → s'.log ≡ with_line s.log (Commands command) a → s'.servers ≡ s.servers
+      → Answered s.session.engine command a s'.session.engine
+      → s'.log ≡ with_line s.log (Commands command) a → s'.servers ≡ s.servers
       → t' ≡ counts_after k.marks t (left_lines (Commands command) a) → s'.shown
-      ≡ s.shown ++ shows s.engine.memory command a → Lends disk k s t command answer s' t'
+      ≡ s.shown ++ shows s.session.engine.memory command a → Lends disk k s t command answer s' t'
   lends-served is alive room has answered log servers tally shown =
       let same : a ≡ plain answer = sym (ap plain is ∙ plain-receipt s'.log.trace time s'.shown command a) in record {
         dead = λ dead. absurd (true_false (sym dead ∙ alive));
         full = λ _ over. absurd (omega (arith, over, room));
         off = λ _ _ lacks. absurd (true_false (sym has ∙ lacks));
         served = λ _ _ _. inl (
-          subst (λ (x : Result Outcome Refusal). Answered s.engine command x s'.engine) same answered,
+          subst (λ (x : Result Outcome Refusal). Answered s.session.engine command x s'.session.engine) same
+              answered,
           record { log = log ∙ ap (with_line s.log (Commands command)) same; servers = servers },
         );
         tally = tally ∙ ap (λ x. counts_after k.marks t (left_lines (Commands command) x)) same;
-        shown = shown ∙ ap (λ x. s.shown ++ shows s.engine.memory command x) same;
+        shown = shown ∙ ap (λ x. s.shown ++ shows s.session.engine.memory command x) same;
         receipt = is ∙ ap (receipt_for s'.log.trace time s'.shown command) same;
       }
 

@@ -29,12 +29,12 @@ err-found (Err q) r is = let same : q ≡ r = cc in ap Err same
 module _ {D : Type 0} (marks : Line → Bool) (s s1 s2 : SharedState D) (e n : ℕ) (t t' : LineCounts)
     (f : Result FoundState Refusal) (l : Looks marks s1 t e n (found_entry f) s2 t') where
   abbrev entry : Result Entry Refusal
-  entry = entry_under s.engine.memory e n
+  entry = entry_under s.session.engine.memory e n
 
   abbrev looks : s1 ≡ with_server_at s e Active → Looks marks (with_server_at s e Active) t e n (found_entry f) s2 t'
   looks is = subst (λ (u : SharedState D). Looks marks u t e n (found_entry f) s2 t') is l
 
-  finds-dead : s1 ≡ with_server_at s e Active → s.engine.failed ≡ true → TellsWhy s e n (Some f)
+  finds-dead : s1 ≡ with_server_at s e Active → s.session.engine.failed ≡ true → TellsWhy s e n (Some f)
   finds-dead is dead = record {
     dead = λ _. ap Some (err-found f Failed ((looks is).dead dead).0);
     stalled = λ alive. absurd (true_false (sym dead ∙ alive));
@@ -43,7 +43,8 @@ module _ {D : Type 0} (marks : Line → Bool) (s s1 s2 : SharedState D) (e n : �
     found = λ alive. absurd (true_false (sym dead ∙ alive));
   }
 
-  finds-alive : s1 ≡ with_server_at s e Active → s.engine.failed ≡ false → entry ≢ Ok Waiting → TellsWhy s e n (Some f)
+  finds-alive : s1 ≡ with_server_at s e Active → s.session.engine.failed ≡ false → entry ≢ Ok Waiting
+      → TellsWhy s e n (Some f)
   finds-alive is alive ready = record {
     dead = λ dead. absurd (true_false (sym dead ∙ alive));
     stalled = λ _ waits. absurd (ready waits);
@@ -53,24 +54,24 @@ module _ {D : Type 0} (marks : Line → Bool) (s s1 s2 : SharedState D) (e n : �
   }
 
   module _ (a : Result Ask Refusal) (b : BeginsWait s e n a s1) (goes : a ≢ Ok Wait) (told : a ≢ Err Stalled) where
-    by-stuck : s.engine.failed ≡ false → entry ≡ Ok Waiting → (stuck : Bool)
-        → are_stuck s.engine.memory e 0 s.servers ≡ stuck → TellsWhy s e n (Some f)
+    by-stuck : s.session.engine.failed ≡ false → entry ≡ Ok Waiting → (stuck : Bool)
+        → are_stuck s.session.engine.memory e 0 s.servers ≡ stuck → TellsWhy s e n (Some f)
     by-stuck alive waits true stuck = absurd (told (b.stalled alive waits stuck).0)
     by-stuck alive waits false stuck = absurd (goes (b.waits alive waits stuck).0)
 
-    by-entry : s.engine.failed ≡ false → (x : Result Entry Refusal) → entry ≡ x → TellsWhy s e n (Some f)
+    by-entry : s.session.engine.failed ≡ false → (x : Result Entry Refusal) → entry ≡ x → TellsWhy s e n (Some f)
     by-entry alive (Err r) is = finds-alive (b.refused r alive is).1 alive (λ waits. ok-err Waiting r (sym waits ∙ is))
     by-entry alive (Ok (Answered reply)) is =
         finds-alive (b.ready alive (ap is_answered is)).1 alive
         (λ waits. true_false (sym (ap is_answered is) ∙ ap is_answered waits))
-    by-entry alive (Ok Waiting) is = by-stuck alive is (are_stuck s.engine.memory e 0 s.servers) refl
+    by-entry alive (Ok Waiting) is = by-stuck alive is (are_stuck s.session.engine.memory e 0 s.servers) refl
 
-    by-life : (failed : Bool) → s.engine.failed ≡ failed → TellsWhy s e n (Some f)
+    by-life : (failed : Bool) → s.session.engine.failed ≡ failed → TellsWhy s e n (Some f)
     by-life true dead = finds-dead (b.dead dead).1 dead
     by-life false alive = by-entry alive entry refl
 
     pub finds-told : TellsWhy s e n (Some f)
-    finds-told = by-life s.engine.failed refl
+    finds-told = by-life s.session.engine.failed refl
 
 pub go-waits : ◌≢◌ {A = Result Ask Refusal} (Ok Go) (Ok Wait)
 go-waits e = cc
@@ -102,33 +103,34 @@ full-other e = cc
 
 module _ {D : Type 0} (m : Contents) (seen : List Line) (s1 : SharedState D) (e n : ℕ) where
   -- an entry that is refused isn't answered
-  refused-entry : (s2 : SharedState D) (r : Refusal) → end_of m seen ≡ s2.engine.memory → s2.engine ≡ s1.engine
-      → ◌≡◌ {A = Result Entry Refusal} (Err r) (entry_under s1.engine.memory e n)
+  refused-entry : (s2 : SharedState D) (r : Refusal) → end_of m seen ≡ s2.session.engine.memory
+      → s2.session ≡ s1.session
+      → ◌≡◌ {A = Result Entry Refusal} (Err r) (entry_under s1.session.engine.memory e n)
       → is_answered (entry_under (end_of m seen) e n) ≡ false
   refused-entry s2 r end same is =
-      ap (λ k. is_answered (entry_under k e n)) end ∙ ap (λ k. is_answered (entry_under k.memory e n)) same
+      ap (λ k. is_answered (entry_under k e n)) end ∙ ap (λ k. is_answered (entry_under k.engine.memory e n)) same
       ∙ ap is_answered (sym is)
 
-  module _ (marks : Line → Bool) (s2 : SharedState D) (t t' : LineCounts) (end : end_of m seen ≡ s2.engine.memory)
-    where
-      err-room : (r : Refusal) → Looks marks s1 t e n (Err r) s2 t' → r ≡ Stalled → s1.engine.failed ≡ false
-          → (length s1.log.trace < s1.log.limit) ⊎ (s1.log.limit ≤ length s1.log.trace)
-          → is_answered (entry_under (end_of m seen) e n) ≡ false
-      err-room r l stalled alive (inl room) =
-          let it = l.found alive room in refused-entry s2 r end it.2 it.0
-      err-room r l stalled alive (inr over) = absurd (not-stalled r TraceFull full-other (l.full alive over).0 stalled)
+  module _ (marks : Line → Bool) (s2 : SharedState D) (t t' : LineCounts)
+      (end : end_of m seen ≡ s2.session.engine.memory) where
+    err-room : (r : Refusal) → Looks marks s1 t e n (Err r) s2 t' → r ≡ Stalled → s1.session.engine.failed ≡ false
+        → (length s1.log.trace < s1.log.limit) ⊎ (s1.log.limit ≤ length s1.log.trace)
+        → is_answered (entry_under (end_of m seen) e n) ≡ false
+    err-room r l stalled alive (inl room) =
+        let it = l.found alive room in refused-entry s2 r end it.2 it.0
+    err-room r l stalled alive (inr over) = absurd (not-stalled r TraceFull full-other (l.full alive over).0 stalled)
 
-      err-life : (r : Refusal) → Looks marks s1 t e n (Err r) s2 t' → r ≡ Stalled → (failed : Bool)
-          → s1.engine.failed ≡ failed → is_answered (entry_under (end_of m seen) e n) ≡ false
-      err-life r l stalled true dead = absurd (not-stalled r Failed failed-other (l.dead dead).0 stalled)
-      err-life r l stalled false alive =
-          err-room r l stalled alive (below_or_from (length s1.log.trace) s1.log.limit)
+    err-life : (r : Refusal) → Looks marks s1 t e n (Err r) s2 t' → r ≡ Stalled → (failed : Bool)
+        → s1.session.engine.failed ≡ failed → is_answered (entry_under (end_of m seen) e n) ≡ false
+    err-life r l stalled true dead = absurd (not-stalled r Failed failed-other (l.dead dead).0 stalled)
+    err-life r l stalled false alive =
+        err-room r l stalled alive (below_or_from (length s1.log.trace) s1.log.limit)
 
-      -- a collect is refused otherwise
-      pub looks-stalls : (f : Result FoundState Refusal) → Looks marks s1 t e n (found_entry f) s2 t'
-          → StallsAt m seen e n f
-      looks-stalls (Ok found) l = tt
-      looks-stalls (Err r) l = λ stalled. err-life r l stalled s1.engine.failed refl
+    -- a collect is refused otherwise
+    pub looks-stalls : (f : Result FoundState Refusal) → Looks marks s1 t e n (found_entry f) s2 t'
+        → StallsAt m seen e n f
+    looks-stalls (Ok found) l = tt
+    looks-stalls (Err r) l = λ stalled. err-life r l stalled s1.session.engine.failed refl
 
 stalled-failed : ◌≢◌ {A = Result Ask Refusal} (Err Stalled) (Err Failed)
 stalled-failed e = cc
@@ -138,28 +140,29 @@ stalled-ok a e = cc
 
 module _ {D : Type 0} (s s1 : SharedState D) (e n : ℕ) (b : BeginsWait s e n (Err Stalled) s1) where
   abbrev under : SharedState D → Result Entry Refusal
-  under u = entry_under u.engine.memory e n
+  under u = entry_under u.session.engine.memory e n
 
   same-under : s1 ≡ with_server_at s e Active → is_answered (under s) ≡ false → is_answered (under s1) ≡ false
   same-under is not = ap (λ u. is_answered (under u)) is ∙ not
 
-  stuck-wait : s.engine.failed ≡ false → under s ≡ Ok Waiting → (stuck : Bool)
-      → are_stuck s.engine.memory e 0 s.servers ≡ stuck → is_answered (under s1) ≡ false
+  stuck-wait : s.session.engine.failed ≡ false → under s ≡ Ok Waiting → (stuck : Bool)
+      → are_stuck s.session.engine.memory e 0 s.servers ≡ stuck → is_answered (under s1) ≡ false
   stuck-wait alive waits true stuck = same-under (b.stalled alive waits stuck).1 (ap is_answered waits)
   stuck-wait alive waits false stuck = absurd (stalled-ok Wait (b.waits alive waits stuck).0)
 
-  stuck-entry : s.engine.failed ≡ false → (x : Result Entry Refusal) → under s ≡ x → is_answered (under s1) ≡ false
+  stuck-entry : s.session.engine.failed ≡ false → (x : Result Entry Refusal) → under s ≡ x
+      → is_answered (under s1) ≡ false
   stuck-entry alive (Err r) is = same-under (b.refused r alive is).1 (ap is_answered is)
   stuck-entry alive (Ok (Answered reply)) is = absurd (stalled-ok Go (b.ready alive (ap is_answered is)).0)
-  stuck-entry alive (Ok Waiting) is = stuck-wait alive is (are_stuck s.engine.memory e 0 s.servers) refl
+  stuck-entry alive (Ok Waiting) is = stuck-wait alive is (are_stuck s.session.engine.memory e 0 s.servers) refl
 
-  stuck-life : (failed : Bool) → s.engine.failed ≡ failed → is_answered (under s1) ≡ false
+  stuck-life : (failed : Bool) → s.session.engine.failed ≡ failed → is_answered (under s1) ≡ false
   stuck-life true dead = absurd (stalled-failed (b.dead dead).0)
   stuck-life false alive = stuck-entry alive (under s) refl
 
 -- who is told so may not wait for an answered entry
 pub stall-waits : {D : Type 0} (m : Contents) (seen : List Line) (s s1 : SharedState D) (e n : ℕ) (r : Refusal)
-    → BeginsWait s e n (Err r) s1 → end_of m seen ≡ s1.engine.memory → StallsAt m seen e n (Err r)
+    → BeginsWait s e n (Err r) s1 → end_of m seen ≡ s1.session.engine.memory → StallsAt m seen e n (Err r)
 stall-waits m seen s s1 e n r b end = λ stalled.
     ap (λ k. is_answered (entry_under k e n)) end
-    ∙ stuck-life s s1 e n (subst (λ (q : Refusal). BeginsWait s e n (Err q) s1) stalled b) s.engine.failed refl
+    ∙ stuck-life s s1 e n (subst (λ (q : Refusal). BeginsWait s e n (Err q) s1) stalled b) s.session.engine.failed refl

@@ -1,15 +1,14 @@
 -- Groups of commands under the lock: what lending a group does. (Own.)
 use Rattle.std.specs.Prelude.{◌≡◌, ℕ, ◌+◌, ◌<◌, ◌≤◌, List, [], ◌∷◌, ◌++◌, Bool, true, false, Option, None, Some}
-use Rattle.std.specs.Prelude.{Result, Ok, Err, length, map, if◌then◌else◌}
+use Rattle.std.specs.Prelude.{Result, length, map, if◌then◌else◌}
 use Rattle.im_types.specs.declared.commands.Request.{Request}
 use Rattle.im_types.specs.declared.commands.Command.{Command}
 use Rattle.im_types.specs.declared.commands.Outcome.{Outcome}
 use Rattle.im_types.specs.declared.commands.Call.TheVariants.{Command as Commands}
 use Rattle.im_types.specs.declared.commands.Line.{Line}
 use Rattle.im_types.specs.declared.groups.Served.{Served}
-use Rattle.im_types.specs.declared.groups.Served.TheVariants.{Unserved, Done, Refused}
 use Rattle.im_types.specs.declared.refusals.Refusal.{Refusal}
-use Rattle.im_types.specs.declared.refusals.Refusal.TheVariants.{NoMemory, TraceFull}
+use Rattle.im_types.specs.declared.refusals.Refusal.TheVariants.{TraceFull}
 use Rattle.im_types.specs.declared.changes.Change.{Change}
 use Rattle.im_types.specs.Contents.{Contents}
 use Rattle.im_types.specs.Trace.{answer_to}
@@ -17,20 +16,16 @@ use Rattle.im_disk.specs.declared.disk.Disk.{Ghosts}
 use Rattle.im_groups.specs.Commands.{places_behind}
 use Rattle.im_engine.specs.State.{EngineState}
 use Rattle.im_engine.specs.Commands.{CommandsAnswered, each_refused}
+use Rattle.im_session.specs.Kept.{SessionState}
+use Rattle.im_session.specs.Keeping.{KeepsPut, MakesFewCalls}
+use Rattle.im_session.specs.Serving.{served_answer, served_together}
 use Rattle.im_trace.specs.Lines.{LineCounts, leaves_line, left_lines, memory_after, counts_after}
 use Rattle.im_trace.specs.Log.{ReceiptState, LogState, plain, IsOf, with_unclaimed}
 use Rattle.im_controller.specs.State.{SharedState}
 use Rattle.im_controller.specs.Lends.{changes_put}
 use Rattle.im_controller.specs.Admitted.{free_lines, places_with, is_asked, Admits}
-use Rattle.im_controller.specs.Runs.{LendsRuns}
 
 -- ---- what the members are answered
-
--- what a member was answered
-abbrev pub served_answer : Served → Result Outcome Refusal
-served_answer (Done outcome) = Ok outcome
-served_answer (Refused refusal) = Err refusal
-served_answer Unserved = Err NoMemory
 
 -- the log with the answers to these commands, one after another
 abbrev pub with_all_unclaimed : LogState → List Command → List (Result Outcome Refusal) → LogState
@@ -68,6 +63,14 @@ pub record MembersAnswered {D : Type 0} (old : EngineState D) (room : ℕ) (memb
   pub dead : old.failed ≡ true → CommandsAnswered old members answers new
   pub served : 0 < room → CommandsAnswered old members answers new
 
+-- What a session puts of the members, given the lines that the trace has room for: nothing if it has room for none, or
+-- if the engine has failed.
+pub record MembersPut {D : Type 0} (old : SessionState D) (room : ℕ) (members : List Command)
+    (new : SessionState D) : Type 0 where
+  pub full : old.engine.failed ≡ false → room ≡ 0 → new ≡ old
+  pub dead : old.engine.failed ≡ true → new ≡ old
+  pub put : 0 < room → new ≡ served_together old members new.engine
+
 -- ---- what a group comes to
 
 -- what these commands change, by the memory before all of them
@@ -75,7 +78,7 @@ abbrev pub changes_put_all : Contents → ℕ → List Command → List Change
 changes_put_all m left [] = []
 changes_put_all m left (c ∷ cs) = changes_put m left c ++ changes_put_all m (places_behind m left c) cs
 
--- A group whose members the engine is lent to, one after another, but for those that are refused before. Their ports
+-- A group whose members the session is lent to, one after another, but for those that are refused before. Their ports
 -- take the answers later, and count the lines then.
 pub record LendsGroup {D : Type 0} (disk : Ghosts D) (plan : Option (List Request)) (s : SharedState D)
     (members : List Command) (s' : SharedState D) : Type 0 where
@@ -83,23 +86,22 @@ pub record LendsGroup {D : Type 0} (disk : Ghosts D) (plan : Option (List Reques
   -- room for a member's change
   pub lent : List Command
   pub refused : LogState
-  pub admits : Admits plan s.engine s.log members lent refused
+  pub admits : Admits plan s.session.engine s.log members lent refused
   -- if the engine has failed or the trace is full, all are lent
-  pub all : is_asked s.engine (free_lines s.log) ≡ false → lent ≡ members
-  -- what those that are lent are answered
+  pub all : is_asked s.session.engine (free_lines s.log) ≡ false → lent ≡ members
+  -- what those that are lent are answered, and what is put of them
   pub answers : List Served
-  pub full : s.engine.failed ≡ false → s.log.limit ≤ length s.log.trace
-      → (answers ≡ each_refused TraceFull lent) × (s'.engine ≡ s.engine)
-  pub dead : s.engine.failed ≡ true → CommandsAnswered s.engine lent answers s'.engine
-  pub served : length s.log.trace < s.log.limit → CommandsAnswered s.engine lent answers s'.engine
+  pub answered : MembersAnswered s.session.engine (free_lines s.log) lent answers s'.session.engine
+  pub put : MembersPut s.session (free_lines s.log) lent s'.session
   pub log : s'.log ≡ with_all_unclaimed refused lent (map served_answer answers)
   pub servers : s'.servers ≡ s.servers
   -- all that the group changed is shown then, or nothing if the engine has failed
-  pub shown : s'.engine.failed ≡ false
-      → s'.shown ≡ s.shown ++ changes_put_all s.engine.memory (places_with s.engine (free_lines s.log)) lent
-  pub hidden : s'.engine.failed ≡ true → s'.shown ≡ s.shown
-  -- what the disk is left with is as after the engine's own call
-  pub runs : LendsRuns disk s.engine s'.engine lent
+  pub shown : s'.session.engine.failed ≡ false → s'.shown
+      ≡ s.shown ++ changes_put_all s.session.engine.memory (places_with s.session.engine (free_lines s.log)) lent
+  pub hidden : s'.session.engine.failed ≡ true → s'.shown ≡ s.shown
+  -- each file left since then has all that was put before
+  pub keeps : KeepsPut disk s.session s'.session
+  pub few : MakesFewCalls disk s.session lent s'.session
 
 -- what a port gets while it holds the lock once: nothing yet, or the answer to its command, and then the line is
 -- counted

@@ -50,7 +50,7 @@ shows m command (Err refusal) = []
 -- the pane has no room for the change of a command that would be put on the disk: nothing is changed
 pub record IsRoomless {D : Type 0} (s : SharedState D) (command : Command) (answer : Result ReceiptState Refusal)
     (s' : SharedState D) : Type 0 where
-  pub accepted : takes_place s.engine.memory s.engine.room command ≡ true
+  pub accepted : takes_place s.session.engine.memory s.session.engine.room command ≡ true
   pub refused : answer ≡ Err NoMemory
   pub same : s' ≡ s
 
@@ -59,32 +59,35 @@ pub record IsRoomless {D : Type 0} (s : SharedState D) (command : Command) (answ
 pub record Lends {D : Type 0} (disk : Ghosts D) (origin : Origin) (s : SharedState D) (t : LineCounts)
     (command : Command)
     (answer : Result ReceiptState Refusal) (s' : SharedState D) (t' : LineCounts) : Type 0 where
-  pub dead : s.engine.failed ≡ true → (answer ≡ Err Failed) × (s' ≡ s)
-  pub full : s.engine.failed ≡ false → s.log.limit ≤ length s.log.trace → (answer ≡ Err TraceFull) × (s' ≡ s)
+  pub dead : s.session.engine.failed ≡ true → (answer ≡ Err Failed) × (s' ≡ s)
+  pub full : s.session.engine.failed ≡ false → s.log.limit ≤ length s.log.trace → (answer ≡ Err TraceFull) × (s' ≡ s)
   -- then if there is a plan that doesn't have its operation under its number
-  pub off : s.engine.failed ≡ false → length s.log.trace < s.log.limit → has_command origin.plan command ≡ false
+  pub off : s.session.engine.failed ≡ false → length s.log.trace < s.log.limit → has_command origin.plan command ≡ false
       → (answer ≡ Err OffPlan) × (s' ≡ s)
   -- Else the engine answers it, and its line is left if the answer is an outcome or a refusal of numbers. Or the pane
   -- has no room for its change.
-  pub served : s.engine.failed ≡ false → length s.log.trace < s.log.limit → has_command origin.plan command ≡ true →
-      (Answered s.engine command (plain answer) s'.engine × LeavesLine s (Commands command) (plain answer) s')
+  pub served : s.session.engine.failed ≡ false → length s.log.trace < s.log.limit
+      → has_command origin.plan command ≡ true →
+      (Answered s.session.engine command (plain answer) s'.session.engine
+      × LeavesLine s (Commands command) (plain answer) s')
       ⊎ IsRoomless s command answer s'
   -- its port has counted the line, if there is one; an outcome has the trace that ends in the line
   pub tally : t' ≡ counts_after origin.marks t (left_lines (Commands command) (plain answer))
   -- The change of an accepted command is shown if it has an outcome. The outcome has what is shown then, and the time:
   -- how many moments the disk had had.
-  pub shown : s'.shown ≡ s.shown ++ shows s.engine.memory command (plain answer)
+  pub shown : s'.shown ≡ s.shown ++ shows s.session.engine.memory command (plain answer)
   pub receipt : answer
-      ≡ receipt_for s'.log.trace (length (disk.past s'.engine.disk)) s'.shown command (plain answer)
+      ≡ receipt_for s'.log.trace (length (disk.past s'.session.engine.disk)) s'.shown command (plain answer)
 
--- A collect, with the refusals in the same order. The engine stays, and the line is left.
+-- A collect, with the refusals in the same order. The session stays, and the line is left.
 pub record Looks {D : Type 0} (marks : Line → Bool) (s : SharedState D) (t : LineCounts) (element number : ℕ)
     (answer : Result Entry Refusal) (s' : SharedState D) (t' : LineCounts) : Type 0 where
-  pub dead : s.engine.failed ≡ true → (answer ≡ Err Failed) × (s' ≡ s)
-  pub full : s.engine.failed ≡ false → s.log.limit ≤ length s.log.trace → (answer ≡ Err TraceFull) × (s' ≡ s)
-  pub found : s.engine.failed ≡ false → length s.log.trace < s.log.limit →
-      (answer ≡ entry_under s.engine.memory element number) × LeavesLine s (Collect element number) (told answer) s'
-      × (s'.engine ≡ s.engine)
+  pub dead : s.session.engine.failed ≡ true → (answer ≡ Err Failed) × (s' ≡ s)
+  pub full : s.session.engine.failed ≡ false → s.log.limit ≤ length s.log.trace → (answer ≡ Err TraceFull) × (s' ≡ s)
+  pub found : s.session.engine.failed ≡ false → length s.log.trace < s.log.limit →
+      (answer ≡ entry_under s.session.engine.memory element number)
+      × LeavesLine s (Collect element number) (told answer) s'
+      × (s'.session ≡ s.session)
   pub tally : t' ≡ counts_after marks t (left_lines (Collect element number) (told answer))
   pub shown : s'.shown ≡ s.shown
 
@@ -102,20 +105,20 @@ IsTurnFault e = (e ≡ Failed) ⊎ (e ≡ Device)
 pub record LendsTurn {D : Type 0} (s : SharedState D) (answer : Result TurnDone Refusal)
     (s' : SharedState D) : Type 0 where
   pub done : Result TurnDone Refusal
-  pub turned : TurnAnswered s.engine done s'.engine
-  pub is : answer ≡ told_turn s'.engine.room done
+  pub turned : TurnAnswered s.session.engine done s'.session.engine
+  pub is : answer ≡ told_turn s'.session.engine.room done
   pub log : s'.log ≡ s.log
   pub servers : s'.servers ≡ s.servers
   pub shown : s'.shown ≡ s.shown
 
 -- how things stand: how many servers wait for an entry, and how many more commands the journal has room for
 abbrev pub standing_in : {D : Type 0} → SharedState D → Standing
-standing_in s = record { waits = count_by is_waiting_server s.servers; room = s.engine.room }
+standing_in s = record { waits = count_by is_waiting_server s.servers; room = s.session.engine.room }
 
 -- what lies under the lock after an element's server, if it is active or waits, does something else
 abbrev pub with_server_at : {D : Type 0} → SharedState D → ℕ → ServerState → SharedState D
 with_server_at s element server =
-    record { engine = s.engine; log = s.log; servers = with_server s.servers element server; shown = s.shown }
+    record { session = s.session; log = s.log; servers = with_server s.servers element server; shown = s.shown }
 
 -- An element's port is made exactly if its server had none yet. It was told no line, and the server is active. Else all
 -- is as it was.
@@ -124,22 +127,23 @@ pub record MakesPort {D : Type 0} (s : SharedState D) (element : ℕ) (answer : 
   pub made : slice_get s.servers element ≡ Some Unmade
       → answer ≡ Ok (record { element = element; told = record { lines = 0; marked = 0 }; history = s.log.trace })
   pub active : slice_get s.servers element ≡ Some Unmade
-      → s' ≡ record { engine = s.engine; log = s.log; servers = slice_set s.servers element Active; shown = s.shown }
+      → s' ≡ record { session = s.session; log = s.log; servers = slice_set s.servers element Active; shown = s.shown }
   pub none : slice_get s.servers element ≢ Some Unmade → answer ≡ Err NoElement
   pub same : slice_get s.servers element ≢ Some Unmade → s' ≡ s
 
 -- A server asks whether it may wait for an entry. It waits from then on exactly if it is told `Wait`.
 pub record BeginsWait {D : Type 0} (s : SharedState D) (element number : ℕ) (answer : Result Ask Refusal)
     (s' : SharedState D) : Type 0 where
-  pub dead : s.engine.failed ≡ true → (answer ≡ Err Failed) × (s' ≡ with_server_at s element Active)
-  pub refused : (refusal : Refusal) → s.engine.failed ≡ false → entry_under s.engine.memory element number ≡ Err refusal
+  pub dead : s.session.engine.failed ≡ true → (answer ≡ Err Failed) × (s' ≡ with_server_at s element Active)
+  pub refused : (refusal : Refusal) → s.session.engine.failed ≡ false
+      → entry_under s.session.engine.memory element number ≡ Err refusal
       → (answer ≡ Err refusal) × (s' ≡ with_server_at s element Active)
-  pub ready : s.engine.failed ≡ false → is_answered (entry_under s.engine.memory element number) ≡ true
+  pub ready : s.session.engine.failed ≡ false → is_answered (entry_under s.session.engine.memory element number) ≡ true
       → (answer ≡ Ok Go) × (s' ≡ with_server_at s element Active)
   -- each active server waits, the caller's included, and none of their entries is answered
-  pub stalled : s.engine.failed ≡ false → entry_under s.engine.memory element number ≡ Ok Waiting
-      → are_stuck s.engine.memory element 0 s.servers ≡ true
+  pub stalled : s.session.engine.failed ≡ false → entry_under s.session.engine.memory element number ≡ Ok Waiting
+      → are_stuck s.session.engine.memory element 0 s.servers ≡ true
       → (answer ≡ Err Stalled) × (s' ≡ with_server_at s element Active)
-  pub waits : s.engine.failed ≡ false → entry_under s.engine.memory element number ≡ Ok Waiting
-      → are_stuck s.engine.memory element 0 s.servers ≡ false
+  pub waits : s.session.engine.failed ≡ false → entry_under s.session.engine.memory element number ≡ Ok Waiting
+      → are_stuck s.session.engine.memory element 0 s.servers ≡ false
       → (answer ≡ Ok Wait) × (s' ≡ with_server_at s element (Waits number))

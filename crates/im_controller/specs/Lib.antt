@@ -10,7 +10,6 @@ pub mod Waits
 pub mod Groups
 pub mod Kept
 pub mod Ends
-pub mod Runs
 pub mod Planned
 pub mod Admitted
 pub mod Stops

@@ -3,23 +3,23 @@ use Rattle.std.specs.Prelude.{◌≡◌, ℕ, Bool, true, false, List, Option, N
 use Rattle.im_types.specs.declared.commands.Request.{Request}
 use Rattle.im_types.specs.declared.commands.Line.{Line}
 use Rattle.im_types.specs.declared.changes.Change.{Change}
-use Rattle.im_engine.specs.State.{EngineState}
+use Rattle.im_session.specs.Kept.{SessionState}
 use Rattle.im_queue.specs.declared.servers.ServerState.{ServerState}
 use Rattle.im_trace.specs.Books.{BookNames}
 use Rattle.im_trace.specs.Lines.{LineCounts}
 use Rattle.im_trace.specs.Log.{LogState}
 
--- what lies under the lock: the engine, its log, what each element's server does, and the changes that are shown
+-- what lies under the lock: the session, its log, what each element's server does, and the changes that are shown
 pub record SharedState (D : Type 0) : Type 0 where
-  pub engine : EngineState D
+  pub session : SessionState D
   pub log : LogState
   pub servers : List ServerState
   pub shown : List Change
 
--- an engine with room for a trace, before it has a name: how many ports there are, which ledgers count the lines and
+-- a session with room for a trace, before it has a name: how many ports there are, which ledgers count the lines and
 -- the marked lines, the books of what is shown and of the lines, and the plan, if there is one
 pub record OpeningState (D : Type 0) : Type 0 where
-  pub engine : EngineState D
+  pub session : SessionState D
   pub limit : ℕ
   pub ports : ℕ
   pub lines_name : ℕ
@@ -37,10 +37,10 @@ abbrev pub is_recorded : Option ℕ → Bool
 is_recorded (Some room) = true
 is_recorded None = false
 
--- an engine with room for a trace of so many lines, or for one that isn't recorded, and with a plan or without
-pub record OpensAs {D : Type 0} (room : Option ℕ) (plan : Option (List Request)) (e : EngineState D)
+-- a session with room for a trace of so many lines, or for one that isn't recorded, and with a plan or without
+pub record OpensAs {D : Type 0} (room : Option ℕ) (plan : Option (List Request)) (s : SessionState D)
     (o : OpeningState D) : Type 0 where
-  pub engine : o.engine ≡ e
+  pub session : o.session ≡ s
   pub limit : o.limit ≡ most_lines room
   pub recorded : o.book.recorded ≡ is_recorded room
   pub plan_is : o.plan ≡ plan

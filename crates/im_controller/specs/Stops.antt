@@ -1,12 +1,14 @@
 -- Planned runs that were stopped. (Own.)
-use Rattle.std.specs.Prelude.{◌≡◌, ℕ, List, ◌++◌, Some}
+use Rattle.std.specs.Prelude.{◌≡◌, ◌≤◌, ◌+◌, ℕ, List, ◌++◌, Some, length, take}
 use Rattle.im_types.specs.declared.commands.Command.{Command}
 use Rattle.im_types.specs.declared.commands.Line.{Line}
 use Rattle.im_types.specs.declared.commands.Request.{Request}
 use Rattle.im_types.specs.Contents.{Contents}
+use Rattle.im_types.specs.Meaning.{Means}
+use Rattle.im_types.specs.Run.{after}
 use Rattle.im_types.specs.Trace.{IsLegal, end_of}
 use Rattle.im_plans.specs.Runs.{IsPlannedRun}
-use Rattle.im_controller.specs.Kept.{MeansSome, accepted_in}
+use Rattle.im_controller.specs.Kept.{accepted_in}
 use Rattle.im_controller.specs.Planned.{AreOnPlan}
 
 -- a planned run leads from the one memory to the other
@@ -15,6 +17,11 @@ pub record LeadsTo (plan : List Request) (m n : Contents) : Type 0 where
   pub legal : IsLegal m trace
   pub run : IsPlannedRun plan trace
   pub ends : end_of m trace ≡ n
+
+-- the file means the memory after a prefix of these commands
+abbrev pub MeansSome : Contents → ℕ → List Command → List ℕ → Type 0
+MeansSome m count commands file = (many : ℕ) × (many ≤ length commands)
+    × Means (after m (take many commands)) (count + many) 0 file
 
 -- A crash may have left this file of a planned run from that memory: it means the memory after some of the trace's
 -- accepted commands, from the first on, and maybe after some of those in doubt.

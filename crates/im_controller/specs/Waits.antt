@@ -60,16 +60,16 @@ entry_told (Some answer) = Some (found_entry answer)
 -- why it is told that, given what lay under the lock before
 pub record TellsWhy {D : Type 0} (s : SharedState D) (element number : ℕ)
     (answer : Option (Result FoundState Refusal)) : Type 0 where
-  pub dead : s.engine.failed ≡ true → answer ≡ Some (Err Failed)
-  pub stalled : s.engine.failed ≡ false → entry_under s.engine.memory element number ≡ Ok Waiting
-      → are_stuck s.engine.memory element 0 s.servers ≡ true → answer ≡ Some (Err Stalled)
-  pub waits : s.engine.failed ≡ false → entry_under s.engine.memory element number ≡ Ok Waiting
-      → are_stuck s.engine.memory element 0 s.servers ≡ false → answer ≡ None
+  pub dead : s.session.engine.failed ≡ true → answer ≡ Some (Err Failed)
+  pub stalled : s.session.engine.failed ≡ false → entry_under s.session.engine.memory element number ≡ Ok Waiting
+      → are_stuck s.session.engine.memory element 0 s.servers ≡ true → answer ≡ Some (Err Stalled)
+  pub waits : s.session.engine.failed ≡ false → entry_under s.session.engine.memory element number ≡ Ok Waiting
+      → are_stuck s.session.engine.memory element 0 s.servers ≡ false → answer ≡ None
   -- else the entry is answered or there is none; that is told, with its line
-  pub full : s.engine.failed ≡ false → entry_under s.engine.memory element number ≢ Ok Waiting
+  pub full : s.session.engine.failed ≡ false → entry_under s.session.engine.memory element number ≢ Ok Waiting
       → s.log.limit ≤ length s.log.trace → answer ≡ Some (Err TraceFull)
-  pub found : s.engine.failed ≡ false → entry_under s.engine.memory element number ≢ Ok Waiting
-      → length s.log.trace < s.log.limit → entry_told answer ≡ Some (entry_under s.engine.memory element number)
+  pub found : s.session.engine.failed ≡ false → entry_under s.session.engine.memory element number ≢ Ok Waiting
+      → length s.log.trace < s.log.limit → entry_told answer ≡ Some (entry_under s.session.engine.memory element number)
 
 -- What a port has seen of the trace, once it was told what is kept under a number: the collect's line, if it left one,
 -- stands after all that the port saw before, and what was found has the same trace.

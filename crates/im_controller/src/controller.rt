@@ -24,7 +24,7 @@ use im_trace::{Name, Receipt, Shown, element_of};
 use im_types::{Command, Observer, Refusal, Unobserved};
 use std::sync::{Mutex, MutexGuard, Wait};
 
-/// The lock round an engine and its trace, with the queue before the lock and an inbox that has a lock of its own. It
+/// The lock round a session and its trace, with the queue before the lock and an inbox that has a lock of its own. It
 /// has a bell for each port that waits for an answer, and one for the thread that keeps checkpoints.
 ///
 /// Threads take the lock in the queue's order. No thread holds it while it waits for the queue or for a bell, and a

@@ -4,22 +4,22 @@ ghost use Rattle.std.specs.List.{AllByRecursion};
 ghost use mathlib.Core.List.{IsPrefix};
 ghost use Rattle.im_types.specs.Trace.{IsLegal, end_of};
 ghost use Rattle.im_controller.specs.Ends.{HaveCome};
-ghost use Rattle.im_controller.specs.Kept.{KeptAll, KeptSince};
+ghost use Rattle.im_controller.specs.Kept.{IsSessionOf, KeptSince};
 ghost use Rattle.im_controller.specs.Planned.{EndsBy};
 
 use crate::controller::Controller;
 use crate::ports::Port;
 use crate::shared::Shared;
 use im_disk::Disk;
-use im_engine::Engine;
+use im_session::Session;
 use im_trace::{Ended, Name, Recording};
 use std::sync::Wait;
 
 /// What is left of a controller after its end.
 #[derive(Drop)]
 pub struct Finished<D: Disk> {
-    /// The engine.
-    pub engine: Engine<D>,
+    /// The session.
+    pub session: Session<D>,
     /// Each call that had an outcome or a refusal of numbers, with that answer, in the order of the lock.
     pub trace: Recording,
     /// Whether as many ports came back as were given out.
@@ -39,13 +39,13 @@ pub struct Finished<D: Disk> {
 /// All ports came back exactly if as many came back as the controller has, but for those that it says weren't given
 /// out. Where they came, no line waits exactly if the ports were told as many lines as the trace has.
 ///
-/// Each file that a crash may have left since the trace began means the memory that was opened, after a prefix of the
-/// trace's accepted commands. Each file that a crash may leave now means it after all of them. If a call of the disk
-/// has failed, the commands that it left in doubt may be there too, all of them or none.
+/// The session has put what it had put when the trace began, and then the trace's accepted commands. So by what each
+/// session keeps ([`Session::engine`]) a file that a crash may have left since the trace began means the memory that
+/// was opened, after a prefix of these, and one that it may leave now means it after all of them. If a call of the disk
+/// has failed, the commands that it left in doubt may be there too, all of them or none. If there is a plan, it has
+/// these.
 ///
-/// Each file that a crash may have left at the time of a line or later has all accepted commands of the trace up to
-/// that line. No line has an earlier time than one before it. So what a receipt tells is on the disk from then on: its
-/// history and its time are the trace's, as [`Recording::knows`] and [`Recording::times`] say.
+/// [`finish_kept`] also says since when each line is kept.
 ///
 /// Under a plan, an answered entry of a planned request has its result by the plan. Once the whole plan is served, the
 /// memory that was opened and the plan alone say what is kept, whatever the threads did. A plan that isn't served yet
@@ -57,16 +57,34 @@ pub fn finish<D: Disk, K: Name, R: Wait>(
     ports: Vec<Port<K>>,
 ) -> Finished<D>
     ensures legal { IsLegal K.origin.memory result.trace.items }
-    ensures end { end_of K.origin.memory result.trace.items ≡ result.engine.memory }
+    ensures end { end_of K.origin.memory result.trace.items ≡ result.session.engine.memory }
     ensures recorded { result.trace.recorded ≡ K.origin.book.recorded }
-    ensures planned { EndsBy K.origin.memory K.origin.plan result.trace.items result.engine.memory }
-    ensures kept { KeptAll D.Disk K.origin result.trace.items result.engine }
-    ensures keeps { KeptSince D.Disk K.origin result.trace.items result.trace.times result.engine }
-    ensures honest { D.honest result.engine.disk → K.origin.honest }
+    ensures planned { EndsBy K.origin.memory K.origin.plan result.trace.items result.session.engine.memory }
+    ensures put { IsSessionOf D.Disk K.origin result.trace.items result.session }
+    ensures came { HaveCome K.origin result.trace ports.items result.left result.came result.claimed }
+{
+    finish_kept(rt, controller, ports)
+}
+
+/// Does what [`finish`] does. Each file that a crash may have left at the time of a line or later has all accepted
+/// commands of the trace up to that line, and since the trace began it has what was put then. No line has an earlier
+/// time than one before it. So what a receipt tells is on the disk from then on: its history and its time are the
+/// trace's, as [`Recording::knows`] and [`Recording::times`] say.
+pub fn finish_kept<D: Disk, K: Name, R: Wait>(
+    rt: &R,
+    controller: Controller<D, K>,
+    ports: Vec<Port<K>>,
+) -> Finished<D>
+    ensures legal { IsLegal K.origin.memory result.trace.items }
+    ensures end { end_of K.origin.memory result.trace.items ≡ result.session.engine.memory }
+    ensures recorded { result.trace.recorded ≡ K.origin.book.recorded }
+    ensures planned { EndsBy K.origin.memory K.origin.plan result.trace.items result.session.engine.memory }
+    ensures put { IsSessionOf D.Disk K.origin result.trace.items result.session }
+    ensures keeps { KeptSince D.Disk K.origin result.trace.items result.trace.times result.session }
     ensures came { HaveCome K.origin result.trace ports.items result.left result.came result.claimed }
 {
     let Shared {
-        engine,
+        session,
         log,
         pane,
         watched: _,
@@ -84,7 +102,7 @@ pub fn finish<D: Disk, K: Name, R: Wait>(
     take_all_back(&mut log, ports);
     let (trace, claimed) = log.close();
     Finished {
-        engine,
+        session,
         trace,
         came: came == all - left,
         left,

@@ -1,9 +1,10 @@
-//! Groups of commands that the engine is lent to. Their answers wait for their ports.
+//! Groups of commands that the session is lent to. Their answers wait for their ports.
 ghost use Rattle.std.specs.Prelude.{◌≡◌, ◌<◌, ◌≤◌, ◌+◌, [], length, IfSome};
-ghost use Rattle.im_engine.specs.Commands.{CommandsAnswered, ServesCommands};
+ghost use Rattle.im_engine.specs.Commands.{CommandsAnswered};
+ghost use Rattle.im_session.specs.Keeping.{KeepsPut, MakesFewCalls};
+ghost use Rattle.im_session.specs.Serving.{served_together};
 ghost use Rattle.im_queue.specs.Members.{AreOneOfEach, AreFreeFor, AreSureBehind, IsCut};
-ghost use Rattle.im_controller.specs.Groups.{MembersAnswered, LendsGroup, CountsAnswer};
-ghost use Rattle.im_controller.specs.Runs.{LendsRuns};
+ghost use Rattle.im_controller.specs.Groups.{MembersAnswered, MembersPut, LendsGroup, CountsAnswer};
 ghost use Rattle.im_trace.specs.Log.{SeesAnswer};
 ghost use Rattle.im_controller.specs.Planned.{TellsOf};
 
@@ -15,48 +16,53 @@ use crate::ports::Port;
 use crate::shared::Shared;
 use arrayvec::ArrayVec;
 use im_disk::Disk;
-use im_engine::{Engine, refuse_all};
+use im_engine::refuse_all;
 use im_queue::Inbox;
+use im_session::Session;
 use im_trace::{Name, Receipt};
 use im_types::{Command, MAX_GROUP, Refusal, Served};
 use std::sync::{Mutex, Wait};
 
 // Serves all of these: behind the first one, each is sure.
 fn serve_each<D: Disk>(
-    engine: &mut Engine<D>,
+    session: &mut Session<D>,
     members: &ArrayVec<Command, MAX_GROUP>,
     served: &mut ArrayVec<Served, MAX_GROUP>,
 )
-    requires sure { AreSureBehind engine.old.memory members.now.items }
+    requires sure { AreSureBehind session.old.engine.memory members.now.items }
     requires empty { served.old.items ≡ [] }
-    ensures answered { CommandsAnswered engine.old members.now.items served.new.items engine.new }
-    ensures runs { ServesCommands D.Disk engine.old engine.new members.now.items }
+    ensures answered { CommandsAnswered session.old.engine members.now.items served.new.items session.new.engine }
+    ensures put { session.new ≡ served_together session.old members.now.items session.new.engine }
+    ensures keeps { KeepsPut D.Disk session.old session.new }
+    ensures few { MakesFewCalls D.Disk session.old members.now.items session.new }
 {
     // A crash in this call leaves on the disk all that the group puts there, or nothing of it. No answer is given
     // before.
-    engine.serve_commands(members, served);
+    session.serve_commands_kept(members, served);
 }
 
 // Serves all members, if the trace has room for more lines. If it has none, each is refused with `TraceFull`.
 fn serve_members<D: Disk>(
-    engine: &mut Engine<D>,
+    session: &mut Session<D>,
     room: usize,
     members: &ArrayVec<Command, MAX_GROUP>,
     served: &mut ArrayVec<Served, MAX_GROUP>,
 )
-    requires sure { AreSureBehind engine.old.memory members.now.items }
+    requires sure { AreSureBehind session.old.engine.memory members.now.items }
     requires empty { served.old.items ≡ [] }
-    ensures answered { MembersAnswered engine.old room members.now.items served.new.items engine.new }
-    ensures runs { LendsRuns D.Disk engine.old engine.new members.now.items }
+    ensures answered { MembersAnswered session.old.engine room members.now.items served.new.items session.new.engine }
+    ensures put { MembersPut session.old room members.now.items session.new }
+    ensures keeps { KeepsPut D.Disk session.old session.new }
+    ensures few { MakesFewCalls D.Disk session.old members.now.items session.new }
 {
-    if !engine.failed() && room == 0 {
+    if !session.engine().failed() && room == 0 {
         return refuse_all(members.as_slice(), Refusal::TraceFull, served);
     }
     // A crash in this call leaves all of the group on the disk, or nothing of it.
-    serve_each(engine, members, served);
+    serve_each(session, members, served);
 }
 
-// Lends the engine to the commands of a group. Each gets what `lend` would answer, one after another.
+// Lends the session to the commands of a group. Each gets what `lend` would answer, one after another.
 // The answers wait for their ports, and their lines are counted when the ports take them. What the members change is
 // shown once, after all of them are on the disk.
 //
@@ -75,7 +81,7 @@ pub(crate) fn lend_group<D: Disk, K: Name, R: Wait>(
 )
     requires cut { IsCut members.now.items }
     requires apart { AreOneOfEach members.now.items }
-    requires sure { AreSureBehind shared.old.engine.memory members.now.items }
+    requires sure { AreSureBehind shared.old.session.engine.memory members.now.items }
     requires free { AreFreeFor shared.old.log.places members.now.items }
     requires room { length shared.old.log.trace < shared.old.log.limit
         → length shared.old.log.trace + length members.now.items ≤ shared.old.log.limit }
@@ -83,25 +89,27 @@ pub(crate) fn lend_group<D: Disk, K: Name, R: Wait>(
 {
     let mut served = ArrayVec::new();
     let room = shared.log.room();
-    let count = shared.engine.count();
-    let memory = shared.engine.memory();
+    let engine = shared.session.engine();
+    let count = engine.count();
+    let memory = engine.memory();
     let _cells = memory.cells(); // So that it is known that its lists of waiters agree with what waits.
     let lent = admit(
-        &shared.engine,
+        engine,
         &shared.plan,
         &mut shared.log,
         &mut shared.pane,
         members.as_slice(),
     );
-    serve_members(&mut shared.engine, room, &lent, &mut served);
-    let _told = show_put(rt, &mut shared.pane, shared.engine.failed(), true);
-    let put = count < shared.engine.count(); // Then it shares the syncs of a group.
+    serve_members(&mut shared.session, room, &lent, &mut served);
+    let after = shared.session.engine();
+    let _told = show_put(rt, &mut shared.pane, after.failed(), true);
+    let put = count < after.count(); // Then it shares the syncs of a group.
     keep_all(
         &mut shared.log,
         lent.as_slice(),
         served.as_slice(),
         put,
-        shared.engine.disk(),
+        after.disk(),
     );
 }
 
@@ -112,7 +120,7 @@ fn most_members<D: Disk, K: Name>(shared: &Shared<D, K>) -> usize
         → length shared.now.log.trace + result ≤ shared.now.log.limit }
 {
     let lines = shared.log.room();
-    let slots = shared.engine.room() as usize;
+    let slots = shared.session.engine().room() as usize;
     if lines == 0 {
         return MAX_GROUP;
     }
@@ -131,7 +139,7 @@ fn serve_asked<D: Disk, K: Name, R: Wait>(rt: &R, shared: &mut Shared<D, K>, inb
         let most = most_members(shared);
         let group = inbox
             .lock(rt)
-            .next_group(&shared.log, shared.engine.memory(), from, most);
+            .next_group(&shared.log, shared.session.memory(), from, most);
         if group.next == from {
             break;
         }

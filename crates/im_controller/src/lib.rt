@@ -1,7 +1,7 @@
-//! One lock round the engine and its trace: the ports by which elements reach it, the thread that keeps checkpoints,
+//! One lock round a session and its trace: the ports by which elements reach it, the thread that keeps checkpoints,
 //! and what a caller knows of the trace at the end.
 //!
-//! The crate stands on `im_engine`, on `im_trace` (the trace, its books and receipts) and on `im_queue` (the queue
+//! The crate stands on `im_session`, on `im_trace` (the trace, its books and receipts) and on `im_queue` (the queue
 //! before the lock, the inbox and the bells). Contracts see what lies under the lock by `specs/State.antt`, and traces
 //! by the definitions of `im_types`.
 #![tactic(auto)]
@@ -9,11 +9,11 @@
 mod admitting; // Which members of a group are lent.
 mod controller; // The lock, and the loop of the keeper.
 mod finishing; // Its end.
-mod groups; // Groups of commands that the engine is lent to.
+mod groups; // Groups of commands that the session is lent to.
 mod keeper; // Checkpoints, and who makes room.
 mod looks; // What is looked up under the lock.
 mod members; // What the members of a group are answered.
-mod opening; // An engine with room for a trace.
+mod opening; // A session with room for a trace.
 mod panes; // Changes, put ahead and shown.
 mod plans; // Whether a plan has a command.
 mod ports; // The way of one element to the lock.
@@ -24,7 +24,7 @@ mod standing; // How things stand.
 mod stops; // Laws of planned runs that are stopped.
 
 pub use controller::Controller;
-pub use finishing::{Finished, finish};
+pub use finishing::{Finished, finish, finish_kept};
 pub use im_queue::{Ask, ServerState, stuck_is_each};
 pub use im_trace::{
     Found, LineLedger, Marked, Name, Prefix, Receipt, Recording, Shown, Since, Tally, Traced, When,

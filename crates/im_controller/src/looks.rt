@@ -27,7 +27,7 @@ fn know<D: Disk, K: Name>(shared: &mut Shared<D, K>, seen: &Prefix<K>)
 // Returns the whole trace, as a prefix that may go out of the lock.
 fn seen_all<D: Disk, K: Name>(shared: &Shared<D, K>) -> Prefix<K>
     ensures all { result ≡ shared.now.log.trace }
-    ensures end { end_of K.origin.memory result ≡ shared.now.engine.memory }
+    ensures end { end_of K.origin.memory result ≡ shared.now.session.engine.memory }
 {
     shared.log.prefix()
 }
@@ -36,7 +36,7 @@ fn seen_all<D: Disk, K: Name>(shared: &Shared<D, K>) -> Prefix<K>
 fn see_all<D: Disk, K: Name>(shared: &mut Shared<D, K>, seen: &mut Prefix<K>)
     ensures same { shared.new ≡ shared.old }
     ensures known { IsPrefix seen.old seen.new }
-    ensures end { end_of K.origin.memory seen.new ≡ shared.old.engine.memory }
+    ensures end { end_of K.origin.memory seen.new ≡ shared.old.session.engine.memory }
 {
     know(shared, seen);
     *seen = seen_all(shared);
@@ -67,18 +67,19 @@ pub fn look<D: Disk, K: Name>(
     ensures last { IfOk result (λ entry. EndsIn shared.new.log.trace
         (line_of (Collect element number) (Ok (Tells entry)))) }
 {
-    if shared.engine.failed() {
+    let engine = shared.session.engine();
+    if engine.failed() {
         return Err(Refusal::Failed);
     }
     if shared.log.room() == 0 {
         return Err(Refusal::TraceFull);
     }
-    let answer = shared.engine.memory().collect(element, number);
+    let answer = engine.memory().collect(element, number);
     shared.log.leave(
         tally,
         Call::Collect { element, number },
         as_outcome(answer),
-        shared.engine.disk(),
+        engine.disk(),
     );
     answer
 }
@@ -96,17 +97,17 @@ pub fn begin_wait<D: Disk, K: Name>(
 ) -> Result<Ask, Refusal>
     ensures begins { BeginsWait shared.old element number result shared.new }
 {
-    if shared.engine.failed() {
+    if shared.session.engine().failed() {
         shared.servers.change(element, ServerState::Active);
         return Err(Refusal::Failed);
     }
-    match shared.engine.memory().collect(element, number) {
+    match shared.session.memory().collect(element, number) {
         Ok(Entry::Answered(_)) => {
             shared.servers.change(element, ServerState::Active);
             Ok(Ask::Go)
         }
         Ok(Entry::Waiting) => {
-            if shared.servers.are_stuck(shared.engine.memory(), element) {
+            if shared.servers.are_stuck(shared.session.memory(), element) {
                 shared.servers.change(element, ServerState::Active);
                 return Err(Refusal::Stalled);
             }
@@ -150,7 +151,7 @@ pub(crate) fn find_seen<D: Disk, K: Name>(
     ensures found { IsFoundOf element number result }
     ensures planned { TellsFound K.origin.memory K.origin.plan result }
     ensures order { SeesEntry seen.old element number result seen.new }
-    ensures end { end_of K.origin.memory seen.new ≡ shared.new.engine.memory }
+    ensures end { end_of K.origin.memory seen.new ≡ shared.new.session.engine.memory }
 {
     know(shared, seen);
     let found = find(shared, tally, element, number);

@@ -3,23 +3,14 @@ ghost use Rattle.std.specs.Prelude.{◌≡◌, ◌≤◌, ◌+◌, length, map};
 ghost use Rattle.im_types.specs.Trace.{end_of};
 ghost use Rattle.im_queue.specs.Members.{AreOneOfEach, AreFreeFor};
 ghost use Rattle.im_trace.specs.Log.{GoesOnAt};
-ghost use Rattle.im_controller.specs.Groups.{served_answer, with_all_unclaimed, AreAnswersTo, memory_after_all};
+ghost use Rattle.im_session.specs.Serving.{served_answer};
+ghost use Rattle.im_controller.specs.Groups.{with_all_unclaimed, AreAnswersTo, memory_after_all};
 ghost use Rattle.im_controller.specs.Groups.{lines_left};
 
 use im_disk::Disk;
+use im_session::served_answer;
 use im_trace::{Log, Name};
-use im_types::{Command, Outcome, Refusal, Served};
-
-// Returns what a member was answered.
-fn answer_in(served: Served) -> Result<Outcome, Refusal>
-    ensures { result ≡ served_answer served }
-{
-    match served {
-        Served::Done(outcome) => Ok(outcome),
-        Served::Refused(refusal) => Err(refusal),
-        Served::Unserved => Err(Refusal::NoMemory),
-    }
-}
+use im_types::{Command, Served};
 
 // Keeps the answers of the members for their ports, in order, at the time of the disk. With the first one a group may
 // begin.
@@ -42,6 +33,11 @@ pub(crate) fn keep_all<D: Disk, K: Name>(
         ≡ memory_after_all (end_of K.origin.memory log.old.state.trace) members.now (map served_answer served.now) }
 {
     for i in 0..members.len() {
-        log.keep(&members[i], answer_in(served[i]), begins && i == 0, disk);
+        log.keep(
+            &members[i],
+            served_answer(served[i]),
+            begins && i == 0,
+            disk,
+        );
     }
 }

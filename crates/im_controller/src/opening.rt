@@ -1,4 +1,4 @@
-//! An engine with room for a trace, before it has a name.
+//! A session with room for a trace, before it has a name.
 ghost use Rattle.std.specs.Prelude.{◌≡◌, ◌↔◌, ◌⊎◌, true, None, Some, IsTrue, IfOk, IfErr, OnOk, length, count_by};
 ghost use Rattle.im_types.specs.declared.refusals.Refusal.TheVariants.{NoMemory, BadPlan};
 ghost use Rattle.im_plans.specs.UnderWay.{PlanGoesOn};
@@ -13,11 +13,11 @@ use crate::keeper::Keeper;
 use crate::shared::Shared;
 use im_changes::full_cells;
 use im_disk::Disk;
-use im_engine::Engine;
 use im_glass::{Unnamed, open};
 use im_memory::Memory;
 use im_planning::{Plan, fits, is_under_way};
 use im_queue::{Bells, Inbox, Servers, Turns};
+use im_session::Session;
 use im_trace::{Name, NewLog, Shown};
 use im_types::Refusal;
 use std::alloc::{AllocError, Global};
@@ -25,10 +25,10 @@ use std::cmp::max;
 use std::marker::Model;
 use std::sync::Wait;
 
-/// An engine with room for its trace, its servers and its ledgers, and with a pane that shows its full cells. It is a
+/// A session with room for its trace, its servers and its ledgers, and with a pane that shows its full cells. It is a
 /// controller that has no name yet.
 pub struct Opening<D: Disk> {
-    engine: Engine<D>,
+    session: Session<D>,
     parts: OpeningParts,
     pane: Unnamed,
     plan: Option<Plan>,
@@ -44,7 +44,7 @@ impl<D: Disk> Model for Opening<D> {
     ghost Value = { OpeningState D };
 
     ghost view = { λ o. record {
-      engine = o.engine;
+      session = o.session;
       limit = o.parts.log.limit;
       ports = o.parts.log.ports;
       lines_name = o.parts.log.lines_name;
@@ -53,9 +53,9 @@ impl<D: Disk> Model for Opening<D> {
       plan = o.plan;
     } };
 
-    ghost invariant = { λ o. (o.pane.shown ≡ opening o.engine.memory)
-        × (o.pane.cells ≡ length o.engine.memory.cells)
-        × (o.parts.log.ports ≡ count_by is_unmade o.parts.servers) × StartsBy o.engine.memory o.plan };
+    ghost invariant = { λ o. (o.pane.shown ≡ opening o.session.engine.memory)
+        × (o.pane.cells ≡ length o.session.engine.memory.cells)
+        × (o.parts.log.ports ≡ count_by is_unmade o.parts.servers) × StartsBy o.session.engine.memory o.plan };
 }
 
 // What takes memory.
@@ -124,24 +124,24 @@ fn make_pane<R: Wait>(rt: &R, alloc: Global, memory: &Memory) -> Result<Unnamed,
 pub(crate) fn begin<D: Disk + Drop, R: Wait>(
     rt: &R,
     alloc: Global,
-    engine: Engine<D>,
+    session: Session<D>,
     room: Option<usize>,
-) -> Result<Opening<D>, (Refusal, Engine<D>)>
-    ensures found { IfOk result (λ o. OpensAs room None engine o) }
-    ensures ports { IfOk result (λ o. o.ports ≡ length engine.memory.windows) }
-    ensures refused { IfErr result (λ e. (e.0 ≡ NoMemory) × (e.1 ≡ engine)) }
+) -> Result<Opening<D>, (Refusal, Session<D>)>
+    ensures found { IfOk result (λ o. OpensAs room None session o) }
+    ensures ports { IfOk result (λ o. o.ports ≡ length session.engine.memory.windows) }
+    ensures refused { IfErr result (λ e. (e.0 ≡ NoMemory) × (e.1 ≡ session)) }
 {
-    match make_parts(alloc, room, engine.memory().elements()) {
-        Ok(parts) => match make_pane(rt, alloc, engine.memory()) {
+    match make_parts(alloc, room, session.memory().elements()) {
+        Ok(parts) => match make_pane(rt, alloc, session.memory()) {
             Ok(pane) => Ok(Opening {
-                engine,
+                session,
                 parts,
                 pane,
                 plan: None,
             }),
-            Err(_) => Err((Refusal::NoMemory, engine)),
+            Err(_) => Err((Refusal::NoMemory, session)),
         },
-        Err(_) => Err((Refusal::NoMemory, engine)),
+        Err(_) => Err((Refusal::NoMemory, session)),
     }
 }
 
@@ -170,20 +170,21 @@ fn may_start(asked: &AskedPlan, memory: &Memory) -> bool
 pub(crate) fn begin_planned<D: Disk + Drop, R: Wait>(
     rt: &R,
     alloc: Global,
-    engine: Engine<D>,
+    session: Session<D>,
     asked: AskedPlan,
     room: Option<usize>,
-) -> Result<Opening<D>, (Refusal, Engine<D>)>
-    ensures found { IfOk result (λ o. OpensAs room (Some asked.plan) engine o) }
-    ensures ports { IfOk result (λ o. o.ports ≡ length engine.memory.windows) }
-    ensures starts { OnOk result (PlanGoesOn engine.memory asked.plan × MayStart asked.begun engine.memory asked.plan) }
-    ensures bad { IfErr result (λ e. (e.0 ≡ BadPlan) ↔ (MayStart asked.begun engine.memory asked.plan → ⊥)) }
-    ensures refused { IfErr result (λ e. ((e.0 ≡ NoMemory) ⊎ (e.0 ≡ BadPlan)) × (e.1 ≡ engine)) }
+) -> Result<Opening<D>, (Refusal, Session<D>)>
+    ensures found { IfOk result (λ o. OpensAs room (Some asked.plan) session o) }
+    ensures ports { IfOk result (λ o. o.ports ≡ length session.engine.memory.windows) }
+    ensures starts { OnOk result (PlanGoesOn session.engine.memory asked.plan
+        × MayStart asked.begun session.engine.memory asked.plan) }
+    ensures bad { IfErr result (λ e. (e.0 ≡ BadPlan) ↔ (MayStart asked.begun session.engine.memory asked.plan → ⊥)) }
+    ensures refused { IfErr result (λ e. ((e.0 ≡ NoMemory) ⊎ (e.0 ≡ BadPlan)) × (e.1 ≡ session)) }
 {
-    if !may_start(&asked, engine.memory()) {
-        return Err((Refusal::BadPlan, engine));
+    if !may_start(&asked, session.memory()) {
+        return Err((Refusal::BadPlan, session));
     }
-    match begin(rt, alloc, engine, room) {
+    match begin(rt, alloc, session, room) {
         Ok(opening) => Ok(opening.under(asked.plan)),
         Err(refused) => Err(refused),
     }
@@ -192,17 +193,17 @@ pub(crate) fn begin_planned<D: Disk + Drop, R: Wait>(
 impl<D: Disk> Opening<D> {
     // Puts a plan that is under way on it.
     fn under(self, plan: Plan) -> Opening<D>
-        requires starts { PlanGoesOn self.engine.memory plan }
+        requires starts { PlanGoesOn self.session.engine.memory plan }
         ensures { result ≡ record self { plan = Some plan } }
     {
         let Opening {
-            engine,
+            session,
             parts,
             pane,
             plan: _,
         } = self;
         Opening {
-            engine,
+            session,
             parts,
             pane,
             plan: Some(plan),
@@ -214,7 +215,7 @@ impl<D: Disk> Opening<D> {
         requires origin { IsOriginOf D.Disk self K.origin }
     {
         let Opening {
-            engine,
+            session,
             parts,
             pane,
             plan,
@@ -227,14 +228,12 @@ impl<D: Disk> Opening<D> {
             answers,
             watched,
         } = parts;
-        // So that it is known below that waiters and entries agree.
-        let _cells = engine.memory().cells();
+        // So that it is known below that waiters and entries agree, and what a crash leaves.
+        let _cells = session.engine().memory().cells();
         let (log, reserve) = log.named::<K>();
-        // The call makes known what the files left at the start mean.
-        let _failed = engine.failed();
         let pane = pane.named::<Shown<K>>();
         let shared = Shared {
-            engine,
+            session,
             log,
             pane,
             watched,

@@ -22,7 +22,7 @@ fn stands<D: Disk, K: Name>(shared: &Shared<D, K>) -> Standing
 {
     Standing {
         waits: shared.servers.waiting(),
-        room: shared.engine.room(),
+        room: shared.session.engine().room(),
     }
 }
 
@@ -60,10 +60,10 @@ pub(crate) struct Sleepers {
 // failed.
 pub(crate) fn who_sleeps<D: Disk, K: Name>(shared: &mut Shared<D, K>) -> Sleepers {
     let keeper = wake_keeper(&mut shared.keeper);
-    let ports = if shared.engine.failed() {
+    let ports = if shared.session.engine().failed() {
         shared.servers.asleep()
     } else {
-        shared.servers.answered(shared.engine.memory())
+        shared.servers.answered(shared.session.memory())
     };
     Sleepers { keeper, ports }
 }

@@ -1,4 +1,4 @@
-//! An engine becomes a controller's, with room for its trace or for a trace that isn't recorded.
+//! A session becomes a controller's, with room for its trace or for a trace that isn't recorded.
 ghost use Rattle.std.specs.Prelude.{◌≡◌, ◌↔◌, ◌⊎◌, true, false, None, Some, IfOk, IfErr, OnOk, length};
 ghost use Rattle.im_types.specs.declared.refusals.Refusal.TheVariants.{NoMemory, BadPlan};
 ghost use Rattle.im_types.specs.Plan.{FitsPlan};
@@ -7,27 +7,27 @@ ghost use Rattle.im_controller.specs.State.{OpensAs};
 
 use crate::opening::{AskedPlan, Opening, begin, begin_planned};
 use im_disk::Disk;
-use im_engine::Engine;
 use im_planning::Plan;
+use im_session::Session;
 use im_types::Refusal;
 use std::alloc::Global;
 use std::sync::Wait;
 
 /// Makes room for a trace of `trace_room` lines, 48 bytes each, for the server, the request and the answer of each
 /// element, and for the ledgers that count the lines. It shows the full cells on a pane with a reader for each element.
-/// Returns `NoMemory`, with the engine as it was, if `alloc` refuses the memory.
+/// Returns `NoMemory`, with the session as it was, if `alloc` refuses the memory.
 pub fn start<D: Disk + Drop, R: Wait>(
     rt: &R,
     alloc: Global,
-    engine: Engine<D>,
+    session: Session<D>,
     trace_room: usize,
-) -> Result<Opening<D>, (Refusal, Engine<D>)>
-    ensures found { IfOk result (λ o. (o.engine ≡ engine) × (o.limit ≡ trace_room) × (o.plan ≡ None)) }
+) -> Result<Opening<D>, (Refusal, Session<D>)>
+    ensures found { IfOk result (λ o. (o.session ≡ session) × (o.limit ≡ trace_room) × (o.plan ≡ None)) }
     ensures recorded { IfOk result (λ o. o.book.recorded ≡ true) }
-    ensures ports { IfOk result (λ o. o.ports ≡ length engine.memory.windows) }
-    ensures refused { IfErr result (λ e. (e.0 ≡ NoMemory) × (e.1 ≡ engine)) }
+    ensures ports { IfOk result (λ o. o.ports ≡ length session.engine.memory.windows) }
+    ensures refused { IfErr result (λ e. (e.0 ≡ NoMemory) × (e.1 ≡ session)) }
 {
-    begin(rt, alloc, engine, Some(trace_room))
+    begin(rt, alloc, session, Some(trace_room))
 }
 
 /// Does what [`start`] does, for a trace that isn't recorded. No line of it is kept at run time, and it may have as
@@ -36,39 +36,39 @@ pub fn start<D: Disk + Drop, R: Wait>(
 pub fn start_unrecorded<D: Disk + Drop, R: Wait>(
     rt: &R,
     alloc: Global,
-    engine: Engine<D>,
-) -> Result<Opening<D>, (Refusal, Engine<D>)>
-    ensures found { IfOk result (λ o. (o.engine ≡ engine) × (o.limit ≡ 18446744073709551615) × (o.plan ≡ None)) }
+    session: Session<D>,
+) -> Result<Opening<D>, (Refusal, Session<D>)>
+    ensures found { IfOk result (λ o. (o.session ≡ session) × (o.limit ≡ 18446744073709551615) × (o.plan ≡ None)) }
     ensures recorded { IfOk result (λ o. o.book.recorded ≡ false) }
-    ensures ports { IfOk result (λ o. o.ports ≡ length engine.memory.windows) }
-    ensures refused { IfErr result (λ e. (e.0 ≡ NoMemory) × (e.1 ≡ engine)) }
+    ensures ports { IfOk result (λ o. o.ports ≡ length session.engine.memory.windows) }
+    ensures refused { IfErr result (λ e. (e.0 ≡ NoMemory) × (e.1 ≡ session)) }
 {
-    begin(rt, alloc, engine, None)
+    begin(rt, alloc, session, None)
 }
 
 /// Does what [`start`] does, under a plan. From then on a request is refused with `OffPlan` if the plan doesn't have it
 /// with its operation under its number.
 ///
 /// Returns `BadPlan` exactly if the plan doesn't fit the engine's memory, and else `NoMemory` as [`start`] does. The
-/// engine is then as it was, and the plan is dropped.
+/// session is then as it was, and the plan is dropped.
 pub fn start_planned<D: Disk + Drop, R: Wait>(
     rt: &R,
     alloc: Global,
-    engine: Engine<D>,
+    session: Session<D>,
     plan: Plan,
     trace_room: usize,
-) -> Result<Opening<D>, (Refusal, Engine<D>)>
-    ensures found { IfOk result (λ o. (o.engine ≡ engine) × (o.limit ≡ trace_room) × (o.plan ≡ Some plan)) }
+) -> Result<Opening<D>, (Refusal, Session<D>)>
+    ensures found { IfOk result (λ o. (o.session ≡ session) × (o.limit ≡ trace_room) × (o.plan ≡ Some plan)) }
     ensures recorded { IfOk result (λ o. o.book.recorded ≡ true) }
-    ensures ports { IfOk result (λ o. o.ports ≡ length engine.memory.windows) }
-    ensures fits { OnOk result (FitsPlan engine.memory plan) }
-    ensures bad { IfErr result (λ e. (e.0 ≡ BadPlan) ↔ (FitsPlan engine.memory plan → ⊥)) }
-    ensures refused { IfErr result (λ e. ((e.0 ≡ NoMemory) ⊎ (e.0 ≡ BadPlan)) × (e.1 ≡ engine)) }
+    ensures ports { IfOk result (λ o. o.ports ≡ length session.engine.memory.windows) }
+    ensures fits { OnOk result (FitsPlan session.engine.memory plan) }
+    ensures bad { IfErr result (λ e. (e.0 ≡ BadPlan) ↔ (FitsPlan session.engine.memory plan → ⊥)) }
+    ensures refused { IfErr result (λ e. ((e.0 ≡ NoMemory) ⊎ (e.0 ≡ BadPlan)) × (e.1 ≡ session)) }
 {
     begin_planned(
         rt,
         alloc,
-        engine,
+        session,
         AskedPlan { plan, begun: false },
         Some(trace_room),
     )
@@ -78,19 +78,19 @@ pub fn start_planned<D: Disk + Drop, R: Wait>(
 pub fn start_planned_unrecorded<D: Disk + Drop, R: Wait>(
     rt: &R,
     alloc: Global,
-    engine: Engine<D>,
+    session: Session<D>,
     plan: Plan,
-) -> Result<Opening<D>, (Refusal, Engine<D>)>
-    ensures found { IfOk result (λ o. (o.engine ≡ engine) × (o.limit ≡ 18446744073709551615)
+) -> Result<Opening<D>, (Refusal, Session<D>)>
+    ensures found { IfOk result (λ o. (o.session ≡ session) × (o.limit ≡ 18446744073709551615)
         × (o.plan ≡ Some plan)) }
     ensures recorded { IfOk result (λ o. o.book.recorded ≡ false) }
-    ensures ports { IfOk result (λ o. o.ports ≡ length engine.memory.windows) }
-    ensures fits { OnOk result (FitsPlan engine.memory plan) }
-    ensures bad { IfErr result (λ e. (e.0 ≡ BadPlan) ↔ (FitsPlan engine.memory plan → ⊥)) }
-    ensures refused { IfErr result (λ e. ((e.0 ≡ NoMemory) ⊎ (e.0 ≡ BadPlan)) × (e.1 ≡ engine)) }
+    ensures ports { IfOk result (λ o. o.ports ≡ length session.engine.memory.windows) }
+    ensures fits { OnOk result (FitsPlan session.engine.memory plan) }
+    ensures bad { IfErr result (λ e. (e.0 ≡ BadPlan) ↔ (FitsPlan session.engine.memory plan → ⊥)) }
+    ensures refused { IfErr result (λ e. ((e.0 ≡ NoMemory) ⊎ (e.0 ≡ BadPlan)) × (e.1 ≡ session)) }
 {
     let asked = AskedPlan { plan, begun: false };
-    begin_planned(rt, alloc, engine, asked, None)
+    begin_planned(rt, alloc, session, asked, None)
 }
 
 /// Goes on with a planned run that was stopped, however often it was, in any way: does what [`start_planned`] does, for
@@ -98,24 +98,24 @@ pub fn start_planned_unrecorded<D: Disk + Drop, R: Wait>(
 /// holds of it too. A request that was served before is answered as it was then, or since.
 ///
 /// Returns `BadPlan` exactly if the plan isn't under way in the engine's memory, and else `NoMemory` as [`start`] does.
-/// The engine is then as it was, and the plan is dropped.
+/// The session is then as it was, and the plan is dropped.
 pub fn resume_planned<D: Disk + Drop, R: Wait>(
     rt: &R,
     alloc: Global,
-    engine: Engine<D>,
+    session: Session<D>,
     plan: Plan,
     trace_room: usize,
-) -> Result<Opening<D>, (Refusal, Engine<D>)>
-    ensures found { IfOk result (λ o. OpensAs (Some trace_room) (Some plan) engine o) }
-    ensures ports { IfOk result (λ o. o.ports ≡ length engine.memory.windows) }
-    ensures goes_on { OnOk result (PlanGoesOn engine.memory plan) }
-    ensures bad { IfErr result (λ e. (e.0 ≡ BadPlan) ↔ (IsPlanUnderWay engine.memory plan → ⊥)) }
-    ensures refused { IfErr result (λ e. ((e.0 ≡ NoMemory) ⊎ (e.0 ≡ BadPlan)) × (e.1 ≡ engine)) }
+) -> Result<Opening<D>, (Refusal, Session<D>)>
+    ensures found { IfOk result (λ o. OpensAs (Some trace_room) (Some plan) session o) }
+    ensures ports { IfOk result (λ o. o.ports ≡ length session.engine.memory.windows) }
+    ensures goes_on { OnOk result (PlanGoesOn session.engine.memory plan) }
+    ensures bad { IfErr result (λ e. (e.0 ≡ BadPlan) ↔ (IsPlanUnderWay session.engine.memory plan → ⊥)) }
+    ensures refused { IfErr result (λ e. ((e.0 ≡ NoMemory) ⊎ (e.0 ≡ BadPlan)) × (e.1 ≡ session)) }
 {
     begin_planned(
         rt,
         alloc,
-        engine,
+        session,
         AskedPlan { plan, begun: true },
         Some(trace_room),
     )
@@ -125,13 +125,14 @@ pub fn resume_planned<D: Disk + Drop, R: Wait>(
 pub fn resume_planned_unrecorded<D: Disk + Drop, R: Wait>(
     rt: &R,
     alloc: Global,
-    engine: Engine<D>,
+    session: Session<D>,
     plan: Plan,
-) -> Result<Opening<D>, (Refusal, Engine<D>)>
-    ensures found { IfOk result (λ o. OpensAs None (Some plan) engine o × (o.ports ≡ length engine.memory.windows)) }
-    ensures goes_on { OnOk result (PlanGoesOn engine.memory plan) }
-    ensures bad { IfErr result (λ e. (e.0 ≡ BadPlan) ↔ (IsPlanUnderWay engine.memory plan → ⊥)) }
-    ensures refused { IfErr result (λ e. ((e.0 ≡ NoMemory) ⊎ (e.0 ≡ BadPlan)) × (e.1 ≡ engine)) }
+) -> Result<Opening<D>, (Refusal, Session<D>)>
+    ensures found { IfOk result (λ o. OpensAs None (Some plan) session o
+        × (o.ports ≡ length session.engine.memory.windows)) }
+    ensures goes_on { OnOk result (PlanGoesOn session.engine.memory plan) }
+    ensures bad { IfErr result (λ e. (e.0 ≡ BadPlan) ↔ (IsPlanUnderWay session.engine.memory plan → ⊥)) }
+    ensures refused { IfErr result (λ e. ((e.0 ≡ NoMemory) ⊎ (e.0 ≡ BadPlan)) × (e.1 ≡ session)) }
 {
-    begin_planned(rt, alloc, engine, AskedPlan { plan, begun: true }, None)
+    begin_planned(rt, alloc, session, AskedPlan { plan, begun: true }, None)
 }

@@ -19,6 +19,7 @@ use Rattle.im_laws.proofs.Tests.{or_left, or_right, true_false}
 use Rattle.im_groups.specs.Commands.{answer_with, answers_with, contents_with}
 use Rattle.im_groups.specs.Commands.{places_behind}
 use Rattle.im_groups.proofs.CommandLemmas.{left_behind}
+use Rattle.im_session.specs.Serving.{served_answer}
 use Rattle.im_dialogue.specs.declared.asking.Question.{Question}
 use Rattle.im_dialogue.specs.declared.asking.Question.TheVariants as asks
 use Rattle.im_dialogue.specs.declared.answers.LineAnswer.{LineAnswer}
@@ -34,7 +35,7 @@ use Rattle.im_dialogue.specs.Showing.{block_said, cell_said, recall}
 use Rattle.im_dialogue.specs.Together.{LineAsksFor, GroupStart, memory_between, places_between}
 use Rattle.im_dialogue.specs.Together.{with_member, members_in}
 use Rattle.im_dialogue.specs.Together.{disturbs, LeavesShown, IsKnownBehind, IsGroupLine, StandTogether, MayBeServed}
-use Rattle.im_dialogue.specs.Together.{MayStandNext, member_result, line_answer, answers_behind, part_question, question_of}
+use Rattle.im_dialogue.specs.Together.{MayStandNext, line_answer, answers_behind, part_question, question_of}
 use Rattle.im_dialogue.specs.Watching.{told_with}
 use Rattle.im_dialogue.specs.Telling.{SaysAll, WasServed}
 use Rattle.im_dialogue.proofs.GroupTalk.{left_and_put, put_few, told_none, told_member, told_shown}
@@ -195,7 +196,7 @@ told_nothing (answer.About about) = refl
 told_nothing (answer.Backup name kept) = refl
 told_nothing (answer.Wrong number fault) = refl
 
-back : (a : Result Outcome Refusal) → member_result (as_served a) ≡ a
+back : (a : Result Outcome Refusal) → served_answer (as_served a) ≡ a
 back (Ok outcome) = refl
 back (Err refusal) = refl
 
@@ -298,7 +299,7 @@ module _ (watch : Bool) (b : GroupStart) where
         L : ℕ
         L = places_between b telling.ahead
 
-        given_is : given ≡ answer.Served c (member_result a)
+        given_is : given ≡ answer.Served c (served_answer a)
         given_is = cc
 
         on : (rest : List Command) → cs ≡ telling.ahead ++ (c ∷ rest) → (k : ℕ) → rest ≡ take k (members_in parts)
@@ -308,7 +309,7 @@ module _ (watch : Bool) (b : GroupStart) where
         on rest all k first are =
             let head : a ≡ as_served (answer_with M L c) = cc in
             let tail : answers ≡ map as_served (answers_with (contents_with M L c) (places_behind M L c) rest) = cc in
-            let result : member_result a ≡ answer_with M L c = ap member_result head ∙ back (answer_with M L c) in
+            let result : served_answer a ≡ answer_with M L c = ap served_answer head ∙ back (answer_with M L c) in
             record {
               ahead = telling.ahead ++ c ∷ [];
               shown = telling.shown ++ Member c ∷ [];

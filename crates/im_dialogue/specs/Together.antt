@@ -1,17 +1,15 @@
 -- Lines that are served as one group: commands, and lines that change nothing. (Own.)
 use Rattle.std.specs.Prelude.{◌≡◌, ℕ, ◌+◌, ◌≤◌, Bool, false, List, [], ◌∷◌, ◌++◌, length, Option, None, Some, Result}
-use Rattle.std.specs.Prelude.{Ok, Err}
 use Rattle.std.specs.List.{list_any}
 use Rattle.im_types.specs.declared.TheConstants.{MAX_GROUP}
 use Rattle.im_types.specs.declared.commands.Command.{Command}
 use Rattle.im_types.specs.declared.commands.Outcome.{Outcome}
 use Rattle.im_types.specs.declared.groups.Served.{Served}
-use Rattle.im_types.specs.declared.groups.Served.TheVariants as served
 use Rattle.im_types.specs.declared.refusals.Refusal.{Refusal}
-use Rattle.im_types.specs.declared.refusals.Refusal.TheVariants.{NoMemory}
 use Rattle.im_types.specs.Contents.{Contents}
 use Rattle.im_groups.specs.Commands.{places, answer_with, commands_at, contents_after_all, left_after}
 use Rattle.im_engine.specs.State.{EngineState}
+use Rattle.im_session.specs.Serving.{served_answer}
 use Rattle.im_dialogue.specs.declared.asking.Question.{Question}
 use Rattle.im_dialogue.specs.declared.asking.Question.TheVariants as asks
 use Rattle.im_dialogue.specs.declared.answers.LineAnswer.{LineAnswer}
@@ -54,12 +52,6 @@ LineAsksFor asked = (line : List ℕ) × (asked_of line ≡ Some asked)
 abbrev pub AreAsked : List Question → Type 0
 AreAsked [] = Unit {0}
 AreAsked (first ∷ others) = LineAsksFor first × AreAsked others
-
--- what a member of a group was answered
-abbrev pub member_result : Served → Result Outcome Refusal
-member_result (served.Done outcome) = Ok outcome
-member_result (served.Refused refusal) = Err refusal
-member_result served.Unserved = Err NoMemory
 
 -- ---- the memory between two members
 
@@ -178,7 +170,7 @@ pub record MayStandNext (watch : Bool) (b : GroupStart) (members : List Command)
 -- the answer to a part: a member's is the first of those that are left
 abbrev pub line_answer : List Served → GroupLine → Option LineAnswer
 line_answer [] (Member command) = None
-line_answer (first ∷ others) (Member command) = Some (answer.Served command (member_result first))
+line_answer (first ∷ others) (Member command) = Some (answer.Served command (served_answer first))
 line_answer answers (Look look) = Some (answer.Looked look)
 line_answer answers (Known given) = Some given
 

@@ -2,7 +2,7 @@
 ghost use Rattle.std.specs.Prelude.{◌≡◌, ◌≤◌, ◌-◌, ◌++◌, false, length, map};
 ghost use Rattle.std.specs.Prelude.{IfOk, OnOk, List, ℕ, string_bytes};
 ghost use Rattle.im_dialogue.specs.Answers.{answer_text};
-ghost use Rattle.im_dialogue.specs.Together.{answers_behind, group_start, line_answer, member_result};
+ghost use Rattle.im_dialogue.specs.Together.{answers_behind, group_start, line_answer};
 ghost use Rattle.im_dialogue.specs.Telling.{TalksAsGroup, TellsGroup};
 ghost use Rattle.im_dialogue.specs.Watching.{told_with};
 
@@ -16,22 +16,11 @@ use im_damage::Damage;
 use im_disk::Disk;
 use im_engine::Engine;
 use im_memory::Memory;
-use im_session::Session;
+use im_session::{Session, served_answer};
 use im_text::{Reason, put_through};
-use im_types::{Outcome, Refusal, Served};
+use im_types::{Refusal, Served};
 use std::alloc::{AllocError, Global};
 use std::io::Write;
-
-// Returns what a member was answered.
-fn member_result(served: Served) -> Result<Outcome, Refusal>
-    ensures { result ≡ member_result served }
-{
-    match served {
-        Served::Done(outcome) => Ok(outcome),
-        Served::Refused(refusal) => Err(refusal),
-        Served::Unserved => Err(Refusal::NoMemory),
-    }
-}
 
 // Returns the answer to a part of a group that was served, given the answers to the members that aren't told yet.
 // Returns `None` if no answer is left for the part.
@@ -40,7 +29,7 @@ fn line_answer(answers: &[Served], part: GroupLine) -> Option<LineAnswer>
 {
     match part {
         GroupLine::Member(command) => match answers.first() {
-            Some(first) => Some(LineAnswer::Served(command, member_result(*first))),
+            Some(first) => Some(LineAnswer::Served(command, served_answer(*first))),
             None => None,
         },
         GroupLine::Look(look) => Some(LineAnswer::Looked(look)),

@@ -48,11 +48,6 @@ written-kept cells changes (Gone base n) kept below a =
     get_or-emptied cells base n a
     ∙ (ap (λ value. cond (is_among base n a) None value) (kept a) ∙ sym (value_after-more a changes (Gone base n)))
 
-changes_ahead-more : (all : List Ahead) (ahead : Ahead) → changes_ahead (all ++ ahead ∷ [])
-    ≡ changes_ahead all ++ ahead.change ∷ []
-changes_ahead-more [] ahead = refl
-changes_ahead-more (first ∷ all) ahead = ap (λ changes. first.change ∷ changes) (changes_ahead-more all ahead)
-
 -- one change more is put ahead
 pub goes_on-more : (n : ℕ) (book : Book) (changes : List Change) (all : List Ahead) (ahead : Ahead)
     → FollowEach n book changes all

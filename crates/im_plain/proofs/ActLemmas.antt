@@ -197,12 +197,6 @@ module _ (slots : List (Option PlainSlot)) (queue : List Deferred) (fits : Queue
       → list_any is_waiting_cell (take slot.block.length (drop a cells)) ≡ false → IsUnwaited cells a slot.block.length
   unwaited a slot e q w = record { block = slot.block; found = block_found a slot e true q; long = refl; nobody = w }
 
-  pub refused-HasEffect : (a : ℕ) (reply : Reply) → TellsOnly cells a reply
-      → (after : Block → List (Option Held)) (meant : Reply)
-      → HasEffect slots queue (telling reply)
-      (unless_waited_for after meant cells a (block_with_base a (held_at cells a)))
-  refused-HasEffect a reply refused after meant = tells-HasEffect reply _ (refused after meant)
-
   module _ (a n : ℕ) (is : IsUnwaited cells a n) where
     by_state : (slot : PlainSlot) (state : Content) (waiters : List Waiter)
         → is_waiting_cell (Some (record { block = slot.block; state = state_with state waiters })) ≡ false

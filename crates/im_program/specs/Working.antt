@@ -14,8 +14,8 @@ use Rattle.im_serial.specs.Serving.{SerialOn}
 use Rattle.im_dialogue.specs.Backups.{Backup}
 use Rattle.im_dialogue.specs.Dialogue.{TalkedFrom}
 use Rattle.im_dialogue.specs.Talk.{Outputs, outputs, with_input}
-use Rattle.im_run.specs.Once.{RunsOnceOn, RunsOnceOnPlan}
-use Rattle.im_run.specs.Running.{RunsOn, RunsOnPlan}
+use Rattle.im_run.specs.Once.{RunsOnceOn}
+use Rattle.im_run.specs.Running.{RunsOn}
 use Rattle.im_run.specs.Tracing.{TraceState}
 use Rattle.im_dump.specs.Dumping.{Dumps}
 use Rattle.im_program.specs.Loading.{LoadedFrom}
@@ -59,17 +59,11 @@ abbrev pub TextServed : {D : Type 0} → DiskGhosts D → Bool → Moment → Li
 TextServed {D} d once first text was is status disk = (old : D) × (d.now old ≡ first) × (d.past old ≡ [])
     × ScriptServes d once text old disk was is status
 
--- a script is run on a disk, once or anew
-abbrev pub ScriptRuns : {D : Type 0} → DiskGhosts D → Bool → List ℕ → D → D → Option (List ℕ) → Option (List ℕ)
+-- a script is run on a disk, once or anew, freely or as a plan
+abbrev pub ScriptRuns : {D : Type 0} → DiskGhosts D → Bool → Bool → List ℕ → D → D → Option (List ℕ) → Option (List ℕ)
     → TraceState → ℕ → Type 0
 ScriptRuns d true = RunsOnceOn d
 ScriptRuns d false = RunsOn d
-
--- what is said of it besides, if it is a plan
-abbrev pub PlanRuns : {D : Type 0} → DiskGhosts D → Bool → Bool → List ℕ → D → D → Option (List ℕ)
-    → Option (List ℕ) → TraceState → ℕ → Type 0
-PlanRuns d true planned text old new was is calls status = RunsOnceOnPlan d planned text old new was is calls status
-PlanRuns d false planned text old new was is calls status = RunsOnPlan d planned text old new was is calls status
 
 -- a script of these bytes, where they are known, was run on this disk, once or anew, freely or as a plan; the disk was
 -- at this moment, and had no moment before it
@@ -80,8 +74,7 @@ pub record ScriptRan {D : Type 0} (d : DiskGhosts D) (planned once : Bool) (firs
   pub none : d.past old ≡ []
   pub text : List ℕ
   pub read : IsTextOf known text
-  pub run : ScriptRuns d once text old disk was is calls status
-  pub plan : PlanRuns d once planned text old disk was is calls status
+  pub run : ScriptRuns d once planned text old disk was is calls status
 
 -- A task was done on this disk, with this status. The disk's file held the first moment when it was opened. The input
 -- gives these bytes, where they are known: a script or a dump with the path "-" is that text, and a dialogue its lines.

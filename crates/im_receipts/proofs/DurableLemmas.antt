@@ -29,13 +29,17 @@ use Rattle.im_laws.proofs.EntryLemmas.{ask-kept}
 use Rattle.im_laws.proofs.WaiterLemmas.{waiting_only}
 use Rattle.im_laws.specs.Entries.{IsKeptFor, IsToldAgainOrForgotten, LastsOrIsForgotten}
 use Rattle.im_plans.proofs.PlannedRuns.{IsKeptAs, asked-kept}
-use Rattle.im_controller.specs.Kept.{accepted_in, MeansFrom, IsLeftAt}
+use Rattle.im_disk.specs.declared.disk.Disk.{Ghosts}
+use Rattle.im_session.specs.Kept.{MeansPut, SessionStart, SessionState}
+use Rattle.im_session.specs.Keeping.{MeansFrom}
+use Rattle.im_trace.specs.Origin.{Origin}
+use Rattle.im_controller.specs.Kept.{accepted_in, IsLeftAt, IsSessionOf}
 use Rattle.im_controller.specs.Log.{ReceiptState, FoundState}
 use Rattle.im_controller.specs.Lines.{EndsIn, line_of, time_at}
 use Rattle.im_controller.proofs.KeptLemmas.{accepted-after, accepted-more}
 use Rattle.im_promise.specs.Traces.{line_telling}
 use Rattle.im_receipts.specs.Alike.{GivesEntry}
-use Rattle.im_receipts.specs.Durable.{IsFoundAgainOrForgotten}
+use Rattle.im_receipts.specs.Durable.{IsFoundAgainOrForgotten, commands_through}
 use Rattle.im_receipts.proofs.Tellings.{is_telling}
 
 -- the first elements of two lists, if they go past the first one
@@ -47,29 +51,44 @@ take_past (suc n) (x ∷ xs) ys less =
     ap (λ l. x ∷ l) (take_past n xs ys (omega (arith, less))) ∙ ap (λ k. x ∷ (xs ++ take k ys)) same
 
 -- a file that means the memory after the accepted commands of a history, and after others that were accepted later
-pub record MeansPast (m : Contents) (count : ℕ) (history : List Line) (file : List ℕ) : Type 0 where
+pub record MeansPast {D : Type 0} (start : SessionStart D) (k : Origin) (history : List Line)
+    (file : List ℕ) : Type 0 where
   pub later : List Command
-  pub means : let all = accepted_in m history ++ later in Means (after m all) (count + length all) 0 file
+  pub means : MeansPut start (commands_through k history later) file
 
-pub means_past : (m : Contents) (count : ℕ) (history trace : List Line) (doubt : List Command) (file : List ℕ)
-    → IsPrefix history trace → MeansFrom m count (accepted_in m trace ++ doubt) (length (accepted_in m history)) file
-    → MeansPast m count history file
-means_past m count history trace doubt file begins means =
-    let xs = accepted_in m history in
-    let more = accepted_in (end_of m history) begins.0 in
-    let all : accepted_in m trace ++ doubt ≡ xs ++ (more ++ doubt) =
-    ap (λ l. accepted_in m l ++ doubt) (sym begins.1)
-    ∙ ap (λ l. l ++ doubt) (accepted-more m (end_of m history) history begins.0 refl)
-    ∙ append_assoc xs more doubt in
-    let later = take (means.0 - length xs) (more ++ doubt) in
-    let is : take means.0 (accepted_in m trace ++ doubt) ≡ xs ++ later =
-    ap (λ l. take means.0 l) all ∙ take_past means.0 xs (more ++ doubt) means.1 in
-    let long : means.0 ≡ length (xs ++ later) =
-    omega (arith, ap length is, length-take means.0 (accepted_in m trace ++ doubt), means.2) in record {
-      later = later;
-      means = subst (λ (n : ℕ). Means (after m (xs ++ later)) (count + n) 0 file) long
-          (subst (λ (l : List Command). Means (after m l) (count + means.0) 0 file) is means.3);
-    }
+module _ {D : Type 0} (disk : Ghosts D) (k : Origin) (history trace : List Line) (s : SessionState D)
+    (it : IsSessionOf disk k trace s) where
+  pub means_past : (file : List ℕ) → IsPrefix history trace
+      → MeansFrom s.start (s.put ++ s.doubt) (length k.first + length (accepted_in k.memory history)) file
+      → MeansPast s.start k history file
+  means_past file begins means =
+      let m = k.memory in
+      let mine = accepted_in m history in
+      let xs = k.first ++ mine in
+      let more = accepted_in (end_of m history) begins.0 in
+      let split : accepted_in m trace ≡ mine ++ more =
+      ap (accepted_in m) (sym begins.1) ∙ accepted-more m (end_of m history) history begins.0 refl in
+      let all : s.put ++ s.doubt ≡ xs ++ (more ++ s.doubt) =
+      ap (λ l. l ++ s.doubt)
+      (it.put ∙ ap (λ l. k.first ++ l) split ∙ sym (append_assoc k.first mine more))
+      ∙ append_assoc xs more s.doubt in
+      let later = take (means.0 - length xs) (more ++ s.doubt) in
+      let is : take means.0 (s.put ++ s.doubt) ≡ xs ++ later =
+      ap (λ l. take means.0 l) all
+      ∙ take_past means.0 xs (more ++ s.doubt) (omega (arith, means.1, length-append k.first mine)) in
+      let long : means.0 ≡ length (xs ++ later) =
+      omega (arith, ap length is, length-take means.0 (s.put ++ s.doubt), means.2) in record {
+        later = later;
+        means = subst (λ (l : List Command). MeansPut s.start l file) (append_assoc k.first mine later)
+            (subst (λ (n : ℕ). Means (after s.start.memory (xs ++ later)) (s.start.count + n) 0 file) long
+            (subst (λ (l : List Command). Means (after s.start.memory l) (s.start.count + means.0) 0 file) is means.3));
+      }
+
+  -- its memory is the one that was opened, after the commands behind those that were put before
+  pub memory_with : (later : List Command)
+      → after s.start.memory (commands_through k history later) ≡ after k.memory (accepted_in k.memory history ++ later)
+  memory_with later = after-append s.start.memory k.first (accepted_in k.memory history ++ later)
+      ∙ ap (λ (m : Contents). after m (accepted_in k.memory history ++ later)) (sym it.memory)
 
 module _ (again : (m : Contents) (r : Request) (entry : Entry) (commands : List Command) → WaitingAgrees m
     → IsAnswered m r entry → IsToldAgainOrForgotten (after (after_request m r) commands) r entry)

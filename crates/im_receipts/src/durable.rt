@@ -3,10 +3,10 @@ ghost use Rattle.std.specs.Prelude.{◌≡◌};
 ghost use mathlib.Core.List.{IsPrefix};
 ghost use Rattle.im_controller.specs.Lines.{time_at};
 ghost use Rattle.im_controller.specs.Chains.{IsOpened};
-ghost use Rattle.im_controller.specs.Kept.{KeptSince};
+ghost use Rattle.im_controller.specs.Kept.{IsSessionOf, KeptSince};
 ghost use Rattle.im_receipts.specs.Durable.{StaysDurable, StaysFound};
 
-use im_controller::{Controller, Finished, Found, Name, Port, Prefix, Receipt, When, finish};
+use im_controller::{Controller, Finished, Found, Name, Port, Prefix, Receipt, When, finish_kept};
 use im_disk::Disk;
 use im_laws::{entry_lasts, repeat_is_told_again};
 use std::sync::Wait;
@@ -21,21 +21,22 @@ fn finish_with<D: Disk, K: Name, R: Wait>(
 ) -> Finished<D>
     ensures begins { IsPrefix history.now result.trace.items }
     ensures time { when.now.time ≡ time_at result.trace.times when.now.lines }
-    ensures keeps { KeptSince D.Disk K.origin result.trace.items result.trace.times result.engine }
+    ensures put { IsSessionOf D.Disk K.origin result.trace.items result.session }
+    ensures keeps { KeptSince D.Disk K.origin result.trace.items result.trace.times result.session }
     ensures memory { IsOpened K.origin.memory }
 {
     let Finished {
-        engine,
+        session,
         mut trace,
         came,
         left,
         claimed,
-    } = finish(rt, controller, ports);
+    } = finish_kept(rt, controller, ports);
     history.order(history);
     trace.knows(history);
     trace.times(when);
     Finished {
-        engine,
+        session,
         trace,
         came,
         left,
@@ -54,8 +55,7 @@ pub fn finish_with_receipt<D: Disk, K: Name, R: Wait>(
     ports: Vec<Port<K>>,
     receipt: &Receipt<K>,
 ) -> Finished<D>
-    ensures keeps { StaysDurable D.Disk K.origin.begun K.origin.memory result.trace.items receipt.now
-        result.engine.disk }
+    ensures keeps { StaysDurable D.Disk K.origin result.trace.items receipt.now result.session }
 {
     let _outcome = receipt.outcome();
     repeat_is_told_again();
@@ -72,7 +72,7 @@ pub fn finish_with_found<D: Disk, K: Name, R: Wait>(
     ports: Vec<Port<K>>,
     found: &Found<K>,
 ) -> Finished<D>
-    ensures keeps { StaysFound D.Disk K.origin.begun K.origin.memory result.trace.items found.now result.engine.disk }
+    ensures keeps { StaysFound D.Disk K.origin result.trace.items found.now result.session }
 {
     entry_lasts();
     let finished = finish_with(rt, controller, ports, found.history(), found.when());

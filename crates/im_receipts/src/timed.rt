@@ -1,7 +1,7 @@
 //! The times of two receipts.
 ghost use Rattle.im_receipts.specs.Timed.{AreInTime};
 
-use im_controller::{Controller, Finished, Name, Port, Receipt, finish};
+use im_controller::{Controller, Finished, Name, Port, Receipt, finish_kept};
 use im_disk::Disk;
 use std::sync::Wait;
 
@@ -15,20 +15,20 @@ pub fn finish_with_two<D: Disk, K: Name, R: Wait>(
     one: &Receipt<K>,
     two: &Receipt<K>,
 ) -> Finished<D>
-    ensures order { AreInTime D.Disk K.origin one.now two.now result.engine.disk }
+    ensures order { AreInTime D.Disk one.now two.now result.session.engine.disk }
 {
     let Finished {
-        engine,
+        session,
         mut trace,
         came,
         left,
         claimed,
-    } = finish(rt, controller, ports);
+    } = finish_kept(rt, controller, ports);
     trace.knows(two.history());
     trace.times(one.when());
     trace.times(two.when());
     Finished {
-        engine,
+        session,
         trace,
         came,
         left,

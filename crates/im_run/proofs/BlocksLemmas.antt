@@ -6,7 +6,7 @@ use Rattle.std.specs.Option.{option_map_or}
 use Rattle.im_types.specs.declared.commands.Command.{Command}
 use Rattle.im_types.specs.Contents.{Contents}
 use Rattle.im_types.specs.Memory.{IsMemory}
-use Rattle.im_session.specs.Kept.{IsFresh, SessionState, session_of, start_at}
+use Rattle.im_session.specs.Kept.{SessionState}
 use Rattle.im_script.specs.declared.script.Heard.{Heard}
 use Rattle.im_script.specs.Script.{Draft, heard, lines_of}
 use Rattle.im_text.specs.declared.lines.Lines.{Lines}
@@ -15,11 +15,11 @@ use Rattle.im_text.specs.Printing.{PrintsOn, who_of}
 use Rattle.im_serial.specs.declared.waits.Mark.{Mark}
 use Rattle.im_serial.specs.Asked.{Course, Leads, Wanted, bases_after, standing}
 use Rattle.im_serial.specs.Noted.{AreNoted}
+use Rattle.im_serial.specs.Once.{HasServedNothing}
 use Rattle.im_serial.specs.Serving.{EndsAt, GoingAt, HasServed, Passes, ScriptServer, server_of}
 use Rattle.im_serial.proofs.ScriptedLemmas.{going_from, has_served, passes_refl, prints_on}
 use Rattle.im_run.specs.Orders.{SetsUp, bases_first, bases_made, blocks_asked, blocks_of, line_blocks, lines_heard}
 use Rattle.im_run.specs.Orders.{settled_past}
-use Rattle.im_run.specs.Setup.{CanServe, BeginsHere}
 use Rattle.im_run.proofs.OrdersLemmas.{line_heard}
 
 -- ---- the bases of its names
@@ -114,10 +114,10 @@ module _ {D : Type 0} where
   -- ---- its beginning
 
   -- nothing was served yet
-  pub begun : (c : Course) (s : ScriptServer D) → CanServe s → c.earlier ≡ []
+  pub begun : (c : Course) (s : ScriptServer D) (bases : List ℕ) → HasServedNothing s bases → c.earlier ≡ []
       → GoingAt s.session.start s.held (standing (Some c) c.first (c.wanted ++ [])) s
-  begun c s ready none = let m = s.session.start.memory in going_from c s.session s.held s.lines s.waited s.marks
-      (fresh_of s.session ready.fresh) ready.works
+  begun c s bases ready none = let m = s.session.start.memory in
+      going_from c s.session s.held s.lines s.waited s.marks ready.fresh ready.works
       (record {
         memory = subst (λ (x : Contents). IsMemory (length x.cells) (length x.windows) x)
             (sym (ap (λ (t : SessionState D). t.start.memory) ready.fresh)) ready.memory;
@@ -126,7 +126,3 @@ module _ {D : Type 0} where
     where
       no_item : (w : Waited) → ◌≡◌ {A = Option Waited} None (Some w) → ⊥
       no_item w is = cc
-
-      fresh_of : (t : SessionState D) → BeginsHere t → IsFresh t
-      fresh_of t is = subst (λ (d : D). t ≡ session_of (start_at d t.engine) [] [] t.engine)
-          (sym (ap (λ (x : SessionState D). x.start.disk) is)) is

@@ -14,4 +14,3 @@ pub mod SplitLemmas
 pub mod StopsLemmas
 pub mod TracingLemmas
 pub mod WholeLemmas
-pub mod OpeningLemmas

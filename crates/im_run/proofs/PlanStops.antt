@@ -178,26 +178,30 @@ module _ (limits : Limits) (text : List ℕ) (earlier : List Command) (n : Conte
 
   -- ---- by what a run tells
 
-  module _ (setup told doubt : List Command) (trace : List Line) (status : ℕ) (did : List Did)
-      (accepts : accept_each n (told ++ doubt) ≡ Some (after n (told ++ doubt))) where
+  module _ (planned : Bool) (setup told doubt : List Command) (trace : List Line) (status : ℕ) (did : List Did)
+      (accepts : accept_each n (told ++ doubt) ≡ Some (after n (told ++ doubt)))
+      (put_is : told ≡ setup ++ accepted_in (after n setup) trace) where
     pub record Stops : Type 0 where
       pub run : HasRunByPlan limits text (earlier ++ (told ++ doubt)) (after n (told ++ doubt))
       pub done : status ≡ 0 → doubt ≡ [] → HasDoneByPlan limits text (earlier ++ (told ++ doubt))
           (after n (told ++ doubt))
 
     -- nothing was put behind the setup
-    setup_stops : (left : List Wanted) → SetsUp true n text setup left → told ++ doubt ≡ setup
-        → (status ≡ 0 → ⊥) → Stops
-    setup_stops left set alone refused = record {
-      run = only_setup (told ++ doubt) accepts left
-          (subst (λ (l : List Command). SetsUp true n text l left) (sym alone) set);
+    setup_stops : (left : List Wanted) → SetsUp true n text (told ++ doubt) left → (status ≡ 0 → ⊥) → Stops
+    setup_stops left set refused = record {
+      run = only_setup (told ++ doubt) accepts left set;
       done = λ zero. absurd (refused zero);
     }
 
+    -- without a trace, all that was put is the setup
+    unserved_is : trace ≡ [] → told ≡ setup
+    unserved_is none = put_is ∙ ap (λ (l : List Line). setup ++ accepted_in (after n setup) l) none
+        ∙ append-nil setup
+
     -- the parts were served
-    module _ (t : HasToldScript true true n text setup told doubt trace (status ≡ 0) did) where
+    module _ (t : HasToldScript true planned n text setup told doubt trace (status ≡ 0) did) where
       split : told ++ doubt ≡ setup ++ (accepted_in (after n setup) trace ++ doubt)
-      split = ap (λ (l : List Command). l ++ doubt) t.put
+      split = ap (λ (l : List Command). l ++ doubt) put_is
           ∙ append_assoc setup (accepted_in (after n setup) trace) doubt
 
       accepts_split : accept_each n (setup ++ (accepted_in (after n setup) trace ++ doubt))
@@ -221,9 +225,9 @@ module _ (limits : Limits) (text : List ℕ) (earlier : List Command) (n : Conte
           }
 
       unbegun_stops : DidNotBegin trace doubt (status ≡ 0) → Stops
-      unbegun_stops none = setup_stops [] t.made
-          (split ∙ ap (λ (l : List Line). setup ++ (accepted_in (after n setup) l ++ doubt)) none.unserved
-          ∙ ap (λ (l : List Command). setup ++ l) none.sure ∙ append-nil setup) none.refused
+      unbegun_stops none = setup_stops []
+          (subst (λ (l : List Command). SetsUp true n text l []) (sym (ap (λ (l : List Command). told ++ l) none.sure
+          ∙ append-nil told ∙ unserved_is none.unserved)) t.made) none.refused
 
       by_whole : (whole : Option (List Ask)) → IsOfAll true (bases_made true n text setup) (script_heard text) whole
           → EndsOnPlan (after n setup) whole t.orders trace doubt (after n told) (status ≡ 0) → Stops
@@ -231,12 +235,11 @@ module _ (limits : Limits) (text : List ℕ) (earlier : List Command) (n : Conte
       by_whole (Some whole) is (inl ran) = on_plan_stops whole is.1 ran
       by_whole (Some whole) is (inr none) = unbegun_stops none
 
-      parts_stop : Stops
-      parts_stop = by_whole t.whole t.is_whole (t.as_planned refl)
-
-    pub plan_stops : TellsScript true true n text setup told doubt trace status did → Stops
-    plan_stops (inl t) = parts_stop t
-    plan_stops (inr ended) = setup_stops ended.left ended.began ended.put ended.refused
+    pub plan_stops : planned ≡ true → TellsScript true planned n text setup told doubt trace status did → Stops
+    plan_stops by (inl t) = by_whole t t.whole t.is_whole (t.as_planned by)
+    plan_stops by (inr ended) = setup_stops ended.left
+        (subst (λ (l : List Command). SetsUp true n text (l ++ doubt) ended.left) (sym (unserved_is ended.unserved))
+        ended.began) ended.refused
 
 -- ---- a run by threads that did all of it
 
@@ -246,7 +249,8 @@ module _ (limits : Limits) (text : List ℕ) (earlier : List Command) (n : Conte
   start_is = accepted_after (new_memory limits) earlier n begun
 
   module _ (planned : Bool) (setup told : List Command) (trace : List Line) (status : ℕ) (did : List Did)
-      (accepts : accept_each n told ≡ Some (after n told)) where
+      (accepts : accept_each n told ≡ Some (after n told))
+      (put_is : told ≡ setup ++ accepted_in (after n setup) trace) where
     by_orders : (doubt : List Command) → status ≡ 0
         → (t : HasToldScript true planned n text setup told doubt trace (status ≡ 0) did)
         → (whole : Option (List Ask)) → IsOfAll true (bases_made true n text setup) (script_heard text) whole
@@ -255,7 +259,7 @@ module _ (limits : Limits) (text : List ℕ) (earlier : List Command) (n : Conte
     by_orders doubt zero t (Some whole) is served =
         let put = accepted_in (after n setup) trace in
         let both = accept_split setup put n (after n told)
-        (subst (λ (l : List Command). accept_each n l ≡ Some (after n told)) t.put accepts) in
+        (subst (λ (l : List Command). accept_each n l ≡ Some (after n told)) put_is accepts) in
         let memory = subst (IsMemory limits.cells limits.elements)
         (after-append (new_memory limits) earlier setup ∙ ap (λ (x : Contents). after x setup) (sym start_is))
         (is_memory limits (earlier ++ setup)) in

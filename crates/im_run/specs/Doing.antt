@@ -9,7 +9,6 @@ use Rattle.im_types.specs.declared.commands.Line.{Line}
 use Rattle.im_types.specs.declared.refusals.Refusal.{Refusal}
 use Rattle.im_types.specs.Contents.{Contents}
 use Rattle.im_types.specs.Run.{after}
-use Rattle.im_controller.specs.Kept.{accepted_in}
 use Rattle.im_controller.specs.State.{PortState}
 use Rattle.im_serving.specs.declared.intent.Intent.{Intent}
 use Rattle.im_serving.specs.declared.intent.Intent.TheVariants.{Request, Glance}
@@ -60,16 +59,15 @@ AreAllTold m trace none (order ∷ orders) told =
 
 -- The setup of a script was served whole on this memory, by these commands, and the names stand for the bases that
 -- they made. The memory has the element of each part, of one with no line too. Then its parts were served, with this
--- trace; so all these commands were acknowledged, and those are in doubt. This is told of the parts, and it is all
--- that they ask for if nothing was refused. If the script is done once, all requests of its parts are known, the
--- settled ones too, and each was served if nothing was refused. If the run was planned, it ended as its plan says:
--- that of all those requests, if they are known. If nothing was refused, nobody was served who didn't ask: each line of
--- the trace is of a request of a part, under its number, or of its element's confirmation or collect.
-pub record HasToldScript (once planned : Bool) (start : Contents) (text : List ℕ) (setup acknowledged doubt : List
-    Command) (trace : List Line) (none : Type 0) (told : List Did) : Type 0 where
+-- trace; all that was put was acknowledged but for what is in doubt. This is told of the parts, and it is all that they
+-- ask for if nothing was refused. If the script is done once, all requests of its parts are known, the settled ones
+-- too, and each was served if nothing was refused. If the run was planned, it ended as its plan says: that of all those
+-- requests, if they are known. If nothing was refused, nobody was served who didn't ask: each line of the trace is of a
+-- request of a part, under its number, or of its element's confirmation or collect.
+pub record HasToldScript (once planned : Bool) (start : Contents) (text : List ℕ) (setup put doubt : List Command)
+    (trace : List Line) (none : Type 0) (told : List Did) : Type 0 where
   pub made : SetsUp once start text setup []
   pub parts : ArePartsThere (length start.windows) (script_heard text)
-  pub put : acknowledged ≡ setup ++ accepted_in (after start setup) trace
   pub orders : List Ask
   pub of_script : AreOrders once (after start setup) (settled_when once start) (bases_made once start text setup)
       (script_heard text) orders
@@ -77,9 +75,9 @@ pub record HasToldScript (once planned : Bool) (start : Contents) (text : List �
   pub alone : none → AreCallsOf orders trace
   pub whole : Option (List Ask)
   pub is_whole : IsOfAll once (bases_made once start text setup) (script_heard text) whole
-  pub all_served : none → HasServedWhole (after start acknowledged).windows whole
+  pub all_served : none → HasServedWhole (after start put).windows whole
   pub as_planned : planned ≡ true
-      → EndsOnPlan (after start setup) whole orders trace doubt (after start acknowledged) none
+      → EndsOnPlan (after start setup) whole orders trace doubt (after start put) none
 
 -- ---- while it is noted
 

@@ -4,6 +4,5 @@ pub mod Once
 pub mod Orders
 pub mod Planned
 pub mod Running
-pub mod Setup
 pub mod Stops
 pub mod Tracing

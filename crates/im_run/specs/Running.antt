@@ -1,5 +1,5 @@
--- What a run of element servers prints, and what it leaves on a disk. (Own.)
-use Rattle.std.specs.Prelude.{◌≡◌, ◌⊎◌, ℕ, Bool, ◌+◌, ◌<◌, ◌≤◌, List, [], ◌∷◌, ◌++◌, codes, decimal, false, true}
+-- What a run of element servers prints, and what its session puts on a disk. (Own.)
+use Rattle.std.specs.Prelude.{◌≡◌, ◌⊎◌, ℕ, Bool, ◌<◌, ◌≤◌, List, [], ◌++◌, codes, decimal, false, true}
 use Rattle.std.specs.Prelude.{length, Option, None, Some, Result, Ok, Err, slice_get}
 use Rattle.std.specs.Io.KnownBytes.{Appends}
 use Rattle.im_damage.specs.declared.damage.Damage.TheVariants.{Unknown}
@@ -7,19 +7,15 @@ use Rattle.im_types.specs.declared.operations.Entry.{Entry}
 use Rattle.im_types.specs.declared.refusals.Refusal.{Refusal}
 use Rattle.im_types.specs.declared.refusals.Refusal.TheVariants.{Device, Failed}
 use Rattle.im_types.specs.Contents.{Contents}
-use Rattle.im_types.specs.Trace.{IsLegal, end_of}
+use Rattle.im_types.specs.Trace.{IsLegal}
 use Rattle.im_types.specs.declared.commands.Command.{Command}
 use Rattle.im_types.specs.declared.commands.Line.{Line}
-use Rattle.im_types.specs.declared.commands.Request.{Request as Requests}
 use Rattle.im_types.specs.Window.{ask}
-use Rattle.im_types.specs.Meaning.{Means, accept_each}
 use Rattle.im_types.specs.Run.{after}
 use Rattle.im_disk.specs.declared.disk.Disk.{Ghosts}
-use Rattle.im_disk.specs.Moment.{Moment, Left, Rises}
-use Rattle.im_disk.specs.Since.{Leaves, LeavesNow}
-use Rattle.im_engine.specs.State.{EngineState, MeansState}
-use Rattle.im_engine.specs.Run.{MeansAfter, MeansBeginning, MeansWithOrWithout}
-use Rattle.im_controller.specs.Kept.{Begun, HasKept, accepted_in, begun_by}
+use Rattle.im_engine.specs.State.{EngineState}
+use Rattle.im_session.specs.Kept.{Kept, SessionStart, SessionState, session_of}
+use Rattle.im_controller.specs.Kept.{accepted_in}
 use Rattle.im_serial.specs.Asked.{Wanted}
 use Rattle.im_serial.specs.Serving.{NotOpened}
 use Rattle.im_text.specs.declared.lines.Lines.{Lines}
@@ -36,7 +32,7 @@ use Rattle.im_run.specs.declared.served.Did.TheVariants.{Sent, Glanced}
 use Rattle.im_run.specs.Doing.{AreAllTold, HasToldScript}
 use Rattle.im_run.specs.Orders.{Ask, SetsUp}
 use Rattle.im_run.specs.Planned.{EndsOnPlan, HasServedWhole}
-use Rattle.im_run.specs.Tracing.{IsTraced, TraceState}
+use Rattle.im_run.specs.Tracing.{TraceState}
 
 -- the reason that a call of the disk failed
 abbrev pub disk_failed : Reason
@@ -99,96 +95,52 @@ abbrev pub Closes : Option (List ℕ) → Lines → Option (List ℕ) → Conten
 Closes was before is m did status = (start : Option (List ℕ)) (text : List ℕ) → Prints start was before text
     → BeginsFinals start is text m did × (status ≡ 0 → Appends start is (text ++ finals m did (length did)))
 
--- What elements' servers left since they began, by a plan or freely: this trace is legal and leads to the engine's
--- memory, and a crash left a prefix of it. If there is a plan, it has what is in doubt too.
-pub record ServedOn {D : Type 0} (now : D → Moment) (past : D → List Moment) (failures : D → ℕ) (b : Begun)
-    (m : Contents) (plan : Option (List Requests)) (trace : List Line) (engine : EngineState D) : Type 0 where
-  pub legal : IsLegal m trace
-  pub ends : end_of m trace ≡ engine.memory
-  pub kept : HasKept now past failures b m plan (accepted_in m trace) engine
-
--- Servers of these orders began on an engine and ended on that one, with this trace, and this was done. It is all that
--- the orders ask for if nothing was refused; and each request of the script was served then, if all are known. Nobody
--- else was served then. A plan is of all of them, if they are known.
+-- Servers of these orders began with a session, and this is its engine now, with this trace: the session has put the
+-- trace's accepted commands. This was done. It is all that the orders ask for if nothing was refused; and each request
+-- of the script was served then, if all are known. Nobody else was served then. A plan is of all of them, if they are
+-- known.
 pub record ServersEnded {D : Type 0} (disk : Ghosts D) (planned : Bool) (whole : Option (List Ask)) (orders : List Ask)
-    (begun engine : EngineState D) (trace : List Line) (did : List Did) (none : Type 0) : Type 0 where
-  pub plan : Option (List Requests)
-  pub served : ServedOn disk.now disk.past disk.failures (begun_by disk.now disk.past disk.failures begun) begun.memory
-      plan trace engine
-  pub told : AreAllTold begun.memory trace none orders did
-  pub alone : none → AreCallsOf orders trace
-  pub all_served : none → HasServedWhole engine.memory.windows whole
-  pub as_planned : planned ≡ true → EndsOnPlan begun.memory whole orders trace served.kept.doubt engine.memory none
+    (begun : SessionState D) (engine : EngineState D) (trace : List Line) (did : List Did) (none : Type 0) : Type 0
+  where
+    pub doubt : List Command
+    pub kept : Kept disk
+        (session_of begun.start (begun.put ++ accepted_in begun.engine.memory trace) doubt engine)
+    pub legal : IsLegal begun.engine.memory trace
+    pub told : AreAllTold begun.engine.memory trace none orders did
+    pub alone : none → AreCallsOf orders trace
+    pub all_served : none → HasServedWhole engine.memory.windows whole
+    pub as_planned : begun.engine.failed ≡ false → planned ≡ true
+        → EndsOnPlan begun.engine.memory whole orders trace doubt engine.memory none
 
--- the same, of a disk that is honest at the end, and of an engine that works
-abbrev pub EndsServers : {D : Type 0} → Ghosts D → Bool → Option (List Ask) → List Ask → EngineState D → EngineState D
-    → List Line → List Did → Type 0 → Type 0
-EndsServers disk planned whole orders begun engine trace did none = disk.honest engine.disk → disk.honest begun.disk
-    × (begun.failed ≡ false → ServersEnded disk planned whole orders begun engine trace did none)
-
--- An engine's servers of these orders ended with this trace, the engine was closed, and this status was given.
+-- A session's servers of these orders ended with this trace, the session was closed, and this status was given.
 pub record EndedOn {D : Type 0} (disk : Ghosts D) (planned : Bool) (whole : Option (List Ask)) (orders : List Ask)
-    (begun : EngineState D) (new : D) (was : Option (List ℕ)) (before : Lines) (is : Option (List ℕ))
+    (begun : SessionState D) (new : D) (was : Option (List ℕ)) (before : Lines) (is : Option (List ℕ))
     (trace : List Line) (status : ℕ) : Type 0 where
   pub engine : EngineState D
-  pub disk_is : new ≡ engine.disk
+  pub closed : new ≡ engine.disk
   pub works : (status ≡ 0) ⊎ (status ≡ STALLED) → engine.failed ≡ false
-  pub means : engine.failed ≡ false → LeavesNow (disk.now new) (MeansState engine)
   pub did : List Did
   pub ended : ServersEnded disk planned whole orders begun engine trace did (status ≡ 0)
   pub printed : Closes was before is engine.memory did status
 
--- the same of an engine that works, and of a disk that is honest at the end
-abbrev pub EndsServing : {D : Type 0} → Ghosts D → Bool → Option (List Ask) → List Ask → EngineState D → D
-    → Option (List ℕ) → Lines → Option (List ℕ) → List Line → ℕ → Type 0
-EndsServing disk planned whole orders begun new was before is trace status = disk.honest new → begun.failed ≡ false
-    → EndedOn disk planned whole orders begun new was before is trace status
-
--- the file means the engine's state after a prefix of these commands that has at least the given number of them
-abbrev pub MeansAtLeast : {D : Type 0} → EngineState D → List Command → ℕ → List ℕ → Type 0
-MeansAtLeast s commands least file =
-    (many : ℕ) × (least ≤ many) × (many ≤ length commands) × MeansAfter s commands many file
-
--- Since the image was opened these commands were put on it: those of the setup, then those of the elements' servers.
--- Each was accepted in its turn. All were acknowledged but those in doubt. There are commands in doubt only if a call
--- of the disk failed. A crash leaves the memory after a prefix of all of them. Now it has all acknowledged commands,
--- and those in doubt all or none.
-pub record Puts {D : Type 0} (now : D → Moment) (past : D → List Moment) (failures : D → ℕ) (start : EngineState D)
-    (old new : D) (setup told doubt : List Command) : Type 0 where
-  pub first : (others : List Command) × (told ++ doubt ≡ setup ++ others)
-  pub accepted : accept_each start.memory (told ++ doubt) ≡ Some (after start.memory (told ++ doubt))
-  pub leaves : Leaves (now old) (now new) (past old) (past new) (MeansBeginning start (told ++ doubt))
-  pub last : LeavesNow (now new) (MeansWithOrWithout start told doubt)
-  pub sure : (doubt ≡ []) ⊎ Rises (failures old) (failures new)
-
--- if the status says that no call of the disk failed, nothing is in doubt, and each file means one memory
-abbrev pub Settles : {D : Type 0} → (D → Moment) → EngineState D → D → List Command → List Command → ℕ → Type 0
-Settles now start new told doubt status = (status ≡ 0) ⊎ (status ≡ STALLED)
-    → (doubt ≡ []) × ((room : ℕ)
-    × LeavesNow (now new) (Means (after start.memory told) (start.count + length told) room))
-
 -- What was printed, at the end: a prefix of this text, and all of it if the status is 0. The text is first the lines of
--- the first commands of the setup, each of which is in every file that a crash leaves. Then come the lines of what was
--- done: of the requests that were sent, each with its final entry in the memory after all acknowledged commands, and of
--- the glances. Then comes the line of a refusal.
-pub record Says {D : Type 0} (now : D → Moment) (start : EngineState D) (new : D) (setup told doubt : List Command)
-    (was is : Option (List ℕ)) (status : ℕ) : Type 0 where
+-- the first commands of the setup. Then come the lines of what was done: of the requests that were sent, each with its
+-- final entry in the memory after all that was put, and of the glances. Then comes the line of a refusal.
+pub record Says (start : Contents) (setup put : List Command) (was is : Option (List ℕ)) (status : ℕ) : Type 0 where
   pub said : List Command
   pub others : List Command
   pub split : setup ≡ said ++ others
-  pub kept : LeavesNow (now new) (MeansAtLeast start (told ++ doubt) (length said))
   pub did : List Did
-  pub begins : BeginsFinals was is (replies start.memory said) (after start.memory told) did
-  pub whole : status ≡ 0
-      → Appends was is (replies start.memory setup ++ finals (after start.memory told) did (length did))
+  pub begins : BeginsFinals was is (replies start said) (after start put) did
+  pub whole : status ≡ 0 → Appends was is (replies start setup ++ finals (after start put) did (length did))
 
--- The setup of a script was ended, at some block: nothing was put behind it, nothing is told of the script, and the
--- status is not 0.
-pub record HasEndedSetup (once : Bool) (start : Contents) (text : List ℕ) (setup told doubt : List Command)
-    (status : ℕ) (did : List Did) : Type 0 where
+-- The setup of a script was ended, at some block, which may be in doubt: nothing was put behind it, nothing is told of
+-- the script, and the status is not 0.
+pub record HasEndedSetup (once : Bool) (start : Contents) (text : List ℕ) (setup doubt : List Command)
+    (trace : List Line) (status : ℕ) (did : List Did) : Type 0 where
   pub left : List Wanted
-  pub began : SetsUp once start text setup left
-  pub put : told ++ doubt ≡ setup
+  pub began : SetsUp once start text (setup ++ doubt) left
+  pub unserved : trace ≡ []
   pub untold : did ≡ []
   pub refused : status ≡ 0 → ⊥
 
@@ -196,77 +148,31 @@ pub record HasEndedSetup (once : Bool) (start : Contents) (text : List ℕ) (set
 -- with this trace. Or its setup was ended.
 abbrev pub TellsScript : Bool → Bool → Contents → List ℕ → List Command → List Command → List Command → List Line → ℕ
     → List Did → Type 0
-TellsScript once planned start text setup told doubt trace status did =
-    HasToldScript once planned start text setup told doubt trace (status ≡ 0) did
-    ⊎ HasEndedSetup once start text setup told doubt status did
+TellsScript once planned start text setup put doubt trace status did =
+    HasToldScript once planned start text setup put doubt trace (status ≡ 0) did
+    ⊎ HasEndedSetup once start text setup doubt trace status did
 
--- An engine was closed, and this status was given, after a run of a script on it with these calls.
-pub record RunOn {D : Type 0} (now : D → Moment) (past : D → List Moment) (failures : D → ℕ) (once planned : Bool)
-    (text : List ℕ) (start : EngineState D) (disk : D) (was is : Option (List ℕ)) (calls : TraceState)
-    (status : ℕ) : Type 0 where
-  pub setup : List Command
-  pub told : List Command
+-- A script was run, once or anew, by a plan or freely, by a session that began there, and this status was given. The
+-- session put these commands: those of the setup, and then the accepted ones of the servers' calls, which are legal
+-- from the memory behind the setup. With status 0 or `STALLED` no call of the disk failed.
+pub record RunOn {D : Type 0} (disk : Ghosts D) (once planned : Bool) (text : List ℕ) (start : SessionStart D) (new : D)
+    (was is : Option (List ℕ)) (calls : TraceState) (status : ℕ) : Type 0 where
+  pub put : List Command
   pub doubt : List Command
-  pub puts : Puts now past failures start start.disk disk setup told doubt
-  pub settles : Settles now start disk told doubt status
-  pub printed : Says now start disk setup told doubt was is status
-  pub traced : IsTraced start.memory setup told calls
-  pub tells : TellsScript once planned start.memory text setup told doubt calls.served status printed.did
-
--- the same of a disk that is honest at the end
-abbrev pub EndsRun : {D : Type 0} → Ghosts D → Bool → Bool → List ℕ → EngineState D → D → Option (List ℕ)
-    → Option (List ℕ) → TraceState → ℕ → Type 0
-EndsRun disk once planned text start new was is calls status = disk.honest new
-    → RunOn disk.now disk.past disk.failures once planned text start new was is calls status
-
--- The image was opened, with the meaning of a file that a crash could leave then, and a script was run on it, once or
--- anew, by a plan or freely.
-pub record RanOn {D : Type 0} (now : D → Moment) (past : D → List Moment) (failures : D → ℕ) (once planned : Bool)
-    (text : List ℕ) (old new : D) (was is : Option (List ℕ)) (calls : TraceState) (status : ℕ) : Type 0 where
-  pub start : EngineState D
-  pub found : (file : List ℕ) × Left (now old) file × MeansState start file
+  pub engine : EngineState D
+  pub kept : Kept disk (session_of start put doubt engine)
+  pub closed : new ≡ engine.disk
+  pub works : (status ≡ 0) ⊎ (status ≡ STALLED) → engine.failed ≡ false
   pub setup : List Command
-  pub told : List Command
-  pub doubt : List Command
-  pub puts : Puts now past failures start old new setup told doubt
-  pub settles : Settles now start new told doubt status
-  pub printed : Says now start new setup told doubt was is status
-  pub traced : IsTraced start.memory setup told calls
-  pub tells : TellsScript once planned start.memory text setup told doubt calls.served status printed.did
+  pub legal : IsLegal (after start.memory setup) calls.served
+  pub put_is : put ≡ setup ++ accepted_in (after start.memory setup) calls.served
+  pub printed : Says start.memory setup put was is status
+  pub tells : TellsScript once planned start.memory text setup put doubt calls.served status printed.did
 
--- A script was run on the image of a disk that is honest at the end, or the image was not opened. Nothing is said of a
--- plan.
-abbrev pub RunsOn : {D : Type 0} → Ghosts D → List ℕ → D → D → Option (List ℕ) → Option (List ℕ) → TraceState → ℕ
-    → Type 0
-RunsOn disk text old new was is calls status = disk.honest new → NotOpened disk.now disk.past old new was is status
-    ⊎ RanOn disk.now disk.past disk.failures false false text old new was is calls status
-
--- If it was planned, it was run by the plan of the script's requests.
-abbrev pub RunsOnPlan : {D : Type 0} → Ghosts D → Bool → List ℕ → D → D → Option (List ℕ) → Option (List ℕ)
-    → TraceState → ℕ → Type 0
-RunsOnPlan disk planned text old new was is calls status = planned ≡ true → disk.honest new
-    → NotOpened disk.now disk.past old new was is status
-    ⊎ RanOn disk.now disk.past disk.failures false true text old new was is calls status
-
--- The same of some script, and of a disk that is at this moment, and has no moment before it; or the image was not
--- opened.
-pub record RanFrom {D : Type 0} (now : D → Moment) (past : D → List Moment) (failures : D → ℕ) (first : Moment)
-    (new : D) (was is : Option (List ℕ)) (calls : TraceState) (status : ℕ) : Type 0 where
-  pub old : D
-  pub begins : now old ≡ first
-  pub none : past old ≡ []
-  pub text : List ℕ
-  pub run : NotOpened now past old new was is status
-      ⊎ RanOn now past failures false false text old new was is calls status
-
--- At the end each file that a crash may leave means one memory. If the status is 0, what was printed is the setup's
--- lines, then the lines of what was done: of the requests that were sent, each with its final entry in that memory, and
--- of the glances.
-pub record Ran {D : Type 0} (now : D → Moment) (disk : D) (was is : Option (List ℕ)) (status : ℕ) : Type 0 where
-  pub memory : Contents
-  pub count : ℕ
-  pub room : ℕ
-  pub means : LeavesNow (now disk) (Means memory count room)
-  pub setup : List ℕ
-  pub did : List Did
-  pub printed : status ≡ 0 → Appends was is (setup ++ finals memory did (length did))
+-- The image was opened, and a script was run on it, by a plan or freely; or the image was not opened. The disk is
+-- honest at the end.
+abbrev pub RunsOn : {D : Type 0} → Ghosts D → Bool → List ℕ → D → D → Option (List ℕ) → Option (List ℕ) → TraceState
+    → ℕ → Type 0
+RunsOn {D} disk planned text old new was is calls status = disk.honest new
+    → NotOpened disk.now disk.past old new was is status ⊎ ((start : SessionStart D) × ((start.disk ≡ old)
+    × RunOn disk false planned text start new was is calls status))

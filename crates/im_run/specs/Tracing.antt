@@ -1,8 +1,7 @@
 -- The lines of a trace, and what a run's trace is. (Own.)
-use Rattle.std.specs.Prelude.{◌≡◌, ◌⊎◌, ◌<◌, ℕ, zero, suc, Bool, true, false, List, [], ◌++◌, if◌then◌else◌}
+use Rattle.std.specs.Prelude.{◌≡◌, ◌<◌, ℕ, zero, suc, Bool, true, false, List, [], ◌++◌, if◌then◌else◌}
 use Rattle.std.specs.Prelude.{length, codes, decimal, Option, None, Some, Result, Ok, Err, slice_get}
 use Rattle.std.specs.Io.KnownBytes.{Appends}
-use Rattle.im_types.specs.declared.commands.Command.{Command}
 use Rattle.im_types.specs.declared.commands.Command.TheVariants.{Request as Asks, Confirm}
 use Rattle.im_types.specs.declared.commands.Request.{Request}
 use Rattle.im_types.specs.declared.commands.Outcome.{Outcome}
@@ -12,13 +11,9 @@ use Rattle.im_types.specs.declared.commands.Call.TheVariants.{Command as Command
 use Rattle.im_types.specs.declared.commands.Line.{Line}
 use Rattle.im_types.specs.declared.refusals.Refusal.{Refusal}
 use Rattle.im_types.specs.Refusals.{number_of}
-use Rattle.im_types.specs.Contents.{Contents}
-use Rattle.im_types.specs.Trace.{IsLegal}
-use Rattle.im_types.specs.Run.{after}
 pub use Rattle.im_trace.specs.declared.traced.Since.{Since}
 use Rattle.im_trace.specs.Ends.{RecordingState, empty_recording}
 use Rattle.im_trace.specs.Lines.{may_begin}
-use Rattle.im_controller.specs.Kept.{accepted_in}
 use Rattle.im_text.specs.declared.lines.Lines.{Lines}
 use Rattle.im_text.specs.Printing.{Begins, PrintsMore}
 use Rattle.im_text.specs.Texts.{entry_text, line_feed, op_text, texts_below}
@@ -119,13 +114,6 @@ WritesMarked marked t was is = (text : List ℕ) × (IsTraceText marked t text �
 -- a prefix of it was written
 abbrev pub BeginsMarked : Bool → TraceState → Option (List ℕ) → Option (List ℕ) → Type 0
 BeginsMarked marked t was is = (text : List ℕ) × (IsTraceText marked t text × Begins was is text)
-
--- What is known of the calls of a run, given the memory at its start, the commands of its setup, and all that were
--- acknowledged. Those of the servers are legal from the memory after the setup. Their accepted commands are those that
--- were acknowledged behind the setup's; there are none if the setup was ended.
-pub record IsTraced (start : Contents) (setup told : List Command) (calls : TraceState) : Type 0 where
-  pub legal : IsLegal (after start setup) calls.served
-  pub accepted : (calls.served ≡ []) ⊎ (told ≡ setup ++ accepted_in (after start setup) calls.served)
 
 -- the text of the first so many lines was printed
 abbrev pub PrintsMarked : Bool → List Line → List Line → ℕ → Option (List ℕ) → Lines → Option (List ℕ) → Lines → Type 0

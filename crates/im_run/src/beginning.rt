@@ -13,9 +13,9 @@ use im_controller::{
     start_planned_unrecorded, start_unrecorded,
 };
 use im_disk::Disk;
-use im_engine::Engine;
 use im_memory::Memory;
 use im_planning::Plan;
+use im_session::Session;
 use im_text::Reason;
 use im_types::{Refusal, WINDOW};
 use std::alloc::Global;
@@ -46,27 +46,27 @@ struct PlanStart {
 fn start_by<D: Disk + Drop, R: Wait>(
     rt: &R,
     alloc: Global,
-    engine: Engine<D>,
+    session: Session<D>,
     plan: Plan,
     start: PlanStart,
-) -> Result<Opening<D>, (Refusal, Engine<D>)>
-    ensures found { IfOk result (λ o. (o.engine ≡ engine) × (o.plan ≡ Some plan)) }
+) -> Result<Opening<D>, (Refusal, Session<D>)>
+    ensures found { IfOk result (λ o. (o.session ≡ session) × (o.plan ≡ Some plan)) }
     ensures recorded { IfOk result (λ o. o.book.recorded ≡ is_recorded start.room) }
-    ensures fits { OnOk result (start.resumed ≡ false → FitsPlan engine.memory plan) }
-    ensures same { IfErr result (λ e. e.1 ≡ engine) }
+    ensures fits { OnOk result (start.resumed ≡ false → FitsPlan session.engine.memory plan) }
+    ensures same { IfErr result (λ e. e.1 ≡ session) }
 {
     match start.room {
         Some(room) => {
             if start.resumed {
-                return resume_planned(rt, alloc, engine, plan, room);
+                return resume_planned(rt, alloc, session, plan, room);
             }
-            start_planned(rt, alloc, engine, plan, room)
+            start_planned(rt, alloc, session, plan, room)
         }
         None => {
             if start.resumed {
-                return resume_planned_unrecorded(rt, alloc, engine, plan);
+                return resume_planned_unrecorded(rt, alloc, session, plan);
             }
-            start_planned_unrecorded(rt, alloc, engine, plan)
+            start_planned_unrecorded(rt, alloc, session, plan)
         }
     }
 }
@@ -75,16 +75,16 @@ fn start_by<D: Disk + Drop, R: Wait>(
 fn start_freely<D: Disk + Drop, R: Wait>(
     rt: &R,
     alloc: Global,
-    engine: Engine<D>,
+    session: Session<D>,
     room: Option<usize>,
-) -> Result<Opening<D>, (Refusal, Engine<D>)>
-    ensures found { IfOk result (λ o. o.engine ≡ engine) }
+) -> Result<Opening<D>, (Refusal, Session<D>)>
+    ensures found { IfOk result (λ o. o.session ≡ session) }
     ensures recorded { IfOk result (λ o. o.book.recorded ≡ is_recorded room) }
-    ensures same { IfErr result (λ e. e.1 ≡ engine) }
+    ensures same { IfErr result (λ e. e.1 ≡ session) }
 {
     match room {
-        Some(room) => start(rt, alloc, engine, room),
-        None => start_unrecorded(rt, alloc, engine),
+        Some(room) => start(rt, alloc, session, room),
+        None => start_unrecorded(rt, alloc, session),
     }
 }
 
@@ -92,27 +92,28 @@ fn start_freely<D: Disk + Drop, R: Wait>(
 fn begin_planned<D: Disk + Drop, R: Wait>(
     rt: &R,
     alloc: Global,
-    engine: Engine<D>,
+    session: Session<D>,
     orders: &[Order],
     start: PlanStart,
-) -> Result<Opening<D>, (Reason, Engine<D>)>
-    ensures found { IfOk result (λ o. (o.engine ≡ engine) × (o.plan ≡ Some (plan_of (map ask_of orders.now)))) }
+) -> Result<Opening<D>, (Reason, Session<D>)>
+    ensures found { IfOk result (λ o. (o.session ≡ session) × (o.plan ≡ Some (plan_of (map ask_of orders.now)))) }
     ensures recorded { IfOk result (λ o. o.book.recorded ≡ is_recorded start.room) }
-    ensures fits { OnOk result (start.resumed ≡ false → FitsPlan engine.memory (plan_of (map ask_of orders.now))) }
-    ensures same { IfErr result (λ e. e.1 ≡ engine) }
+    ensures fits { OnOk result (start.resumed ≡ false
+        → FitsPlan session.engine.memory (plan_of (map ask_of orders.now))) }
+    ensures same { IfErr result (λ e. e.1 ≡ session) }
 {
     let plan = match make_plan(alloc, orders) {
         Ok(plan) => plan,
         Err(refusal) => {
-            let reason = plan_fault(alloc, engine.memory(), orders, refusal);
-            return Err((reason, engine));
+            let reason = plan_fault(alloc, session.memory(), orders, refusal);
+            return Err((reason, session));
         }
     };
-    match start_by(rt, alloc, engine, plan, start) {
+    match start_by(rt, alloc, session, plan, start) {
         Ok(opening) => Ok(opening),
-        Err((refusal, engine)) => {
-            let reason = plan_fault(alloc, engine.memory(), orders, refusal);
-            Err((reason, engine))
+        Err((refusal, session)) => {
+            let reason = plan_fault(alloc, session.memory(), orders, refusal);
+            Err((reason, session))
         }
     }
 }
@@ -121,16 +122,16 @@ fn begin_planned<D: Disk + Drop, R: Wait>(
 fn begin_free<D: Disk + Drop, R: Wait>(
     rt: &R,
     alloc: Global,
-    engine: Engine<D>,
+    session: Session<D>,
     room: Option<usize>,
-) -> Result<Opening<D>, (Reason, Engine<D>)>
-    ensures found { IfOk result (λ o. o.engine ≡ engine) }
+) -> Result<Opening<D>, (Reason, Session<D>)>
+    ensures found { IfOk result (λ o. o.session ≡ session) }
     ensures recorded { IfOk result (λ o. o.book.recorded ≡ is_recorded room) }
-    ensures same { IfErr result (λ e. e.1 ≡ engine) }
+    ensures same { IfErr result (λ e. e.1 ≡ session) }
 {
-    match start_freely(rt, alloc, engine, room) {
+    match start_freely(rt, alloc, session, room) {
         Ok(opening) => Ok(opening),
-        Err((_, engine)) => Err((Reason::Memory, engine)),
+        Err((_, session)) => Err((Reason::Memory, session)),
     }
 }
 
@@ -161,16 +162,16 @@ fn room_if(recorded: bool, orders: &[Order], elements: u16) -> Option<usize>
 fn begin_by<D: Disk + Drop, R: Wait>(
     rt: &R,
     alloc: Global,
-    engine: Engine<D>,
+    session: Session<D>,
     work: &Workload,
     room: Option<usize>,
-) -> Result<Opening<D>, (Reason, Engine<D>)>
-    ensures found { IfOk result (λ o. (o.engine ≡ engine)
+) -> Result<Opening<D>, (Reason, Session<D>)>
+    ensures found { IfOk result (λ o. (o.session ≡ session)
         × (o.plan ≡ Some (plan_of (planned_orders (asks_in work.now.whole) (map ask_of work.now.orders.items))))) }
     ensures recorded { IfOk result (λ o. o.book.recorded ≡ is_recorded room) }
-    ensures fits { OnOk result (FitsIfNew (asks_in work.now.whole) engine.memory
+    ensures fits { OnOk result (FitsIfNew (asks_in work.now.whole) session.engine.memory
         (plan_of (planned_orders (asks_in work.now.whole) (map ask_of work.now.orders.items)))) }
-    ensures same { IfErr result (λ e. e.1 ≡ engine) }
+    ensures same { IfErr result (λ e. e.1 ≡ session) }
 {
     match &work.whole {
         Some(whole) => {
@@ -178,14 +179,14 @@ fn begin_by<D: Disk + Drop, R: Wait>(
                 room,
                 resumed: true,
             };
-            begin_planned(rt, alloc, engine, whole.orders.as_slice(), start)
+            begin_planned(rt, alloc, session, whole.orders.as_slice(), start)
         }
         None => {
             let start = PlanStart {
                 room,
                 resumed: false,
             };
-            begin_planned(rt, alloc, engine, work.orders.as_slice(), start)
+            begin_planned(rt, alloc, session, work.orders.as_slice(), start)
         }
     }
 }
@@ -200,25 +201,25 @@ fn begin_by<D: Disk + Drop, R: Wait>(
 pub fn begin<D: Disk + Drop, R: Wait>(
     rt: &R,
     alloc: Global,
-    engine: Engine<D>,
+    session: Session<D>,
     work: &Workload,
-) -> Result<Opening<D>, (Reason, Engine<D>)>
-    ensures found { IfOk result (λ o. o.engine ≡ engine) }
+) -> Result<Opening<D>, (Reason, Session<D>)>
+    ensures found { IfOk result (λ o. o.session ≡ session) }
     ensures plan { IfOk result (λ o. work.now.mode.planned ≡ true
         → o.plan ≡ Some (plan_of (planned_orders (asks_in work.now.whole) (map ask_of work.now.orders.items)))) }
-    ensures fits { OnOk result (work.now.mode.planned ≡ true → FitsIfNew (asks_in work.now.whole) engine.memory
+    ensures fits { OnOk result (work.now.mode.planned ≡ true → FitsIfNew (asks_in work.now.whole) session.engine.memory
         (plan_of (planned_orders (asks_in work.now.whole) (map ask_of work.now.orders.items)))) }
     ensures recorded { IfOk result (λ o. o.book.recorded ≡ work.now.mode.recorded) }
-    ensures there { IfOk result (λ _. AreThere engine.memory work.now.orders.items) }
-    ensures same { IfErr result (λ e. e.1 ≡ engine) }
+    ensures there { IfOk result (λ _. AreThere session.engine.memory work.now.orders.items) }
+    ensures same { IfErr result (λ e. e.1 ≡ session) }
 {
     let orders = work.orders.as_slice();
-    if let Some(element) = missing_element(engine.memory(), orders) {
-        return Err((Reason::Request(element, Refusal::NoElement), engine));
+    if let Some(element) = missing_element(session.memory(), orders) {
+        return Err((Reason::Request(element, Refusal::NoElement), session));
     }
-    let room = room_if(work.mode.recorded, orders, engine.memory().elements());
+    let room = room_if(work.mode.recorded, orders, session.memory().elements());
     if work.mode.planned {
-        return begin_by(rt, alloc, engine, work, room);
+        return begin_by(rt, alloc, session, work, room);
     }
-    begin_free(rt, alloc, engine, room)
+    begin_free(rt, alloc, session, room)
 }

@@ -1,7 +1,6 @@
 //! The end of a run: its lines, its status, and why it ended.
 ghost use Rattle.std.specs.Prelude.{◌≡◌, ◌⊎◌, ◌≤◌, false, IsOk};
-ghost use Rattle.im_disk.specs.Since.{LeavesNow};
-ghost use Rattle.im_engine.specs.State.{MeansState};
+ghost use Rattle.im_session.specs.Kept.{Kept};
 ghost use Rattle.im_run.specs.Running.{Closes, disk_failed, told_as};
 
 use crate::run::STALLED;
@@ -9,8 +8,8 @@ use crate::served::Did;
 use crate::telling::print_finals;
 use im_damage::Damage;
 use im_disk::Disk;
-use im_engine::Engine;
 use im_serial::{Paper, both};
+use im_session::Session;
 use im_text::{News, Reason, Waited, finish};
 use im_types::{Observer, Refusal};
 use std::alloc::Global;
@@ -84,8 +83,8 @@ fn status_of(failed: bool, stalled: bool, status: u8) -> u8
 /// How the servers of a run ended.
 #[derive(Drop)]
 pub struct Ending<D: Disk> {
-    /// The engine.
-    pub engine: Engine<D>,
+    /// The session.
+    pub session: Session<D>,
     /// What was done, by elements, and for each element in order.
     pub did: Vec<Did>,
     /// The requests of earlier scripts that waited when the servers began.
@@ -94,7 +93,7 @@ pub struct Ending<D: Disk> {
     pub done: Result<(), Reason>,
 }
 
-/// Prints the lines of what was done, and the refusal. Returns the status and the engine's disk.
+/// Prints the lines of what was done, and the refusal, and closes the session. Returns the status and its disk.
 pub fn close<D: Disk, W: Write, N: Observer<News>>(
     alloc: Global,
     ending: Ending<D>,
@@ -103,18 +102,17 @@ pub fn close<D: Disk, W: Write, N: Observer<News>>(
     observer: &mut N,
 ) -> (u8, D)
     ensures status { (result.0 ≤ 1) ⊎ (result.0 ≡ STALLED) }
-    ensures disk { result.1 ≡ ending.engine.disk }
-    ensures works { (result.0 ≡ 0) ⊎ (result.0 ≡ STALLED) → ending.engine.failed ≡ false }
-    ensures means { D.honest result.1 → ending.engine.failed ≡ false
-        → LeavesNow (D.now result.1) (MeansState ending.engine) }
+    ensures disk { result.1 ≡ ending.session.engine.disk }
+    ensures kept { Kept D.Disk ending.session }
+    ensures works { (result.0 ≡ 0) ⊎ (result.0 ≡ STALLED) → ending.session.engine.failed ≡ false }
     ensures done { result.0 ≡ 0 → IsOk ending.done }
-    ensures printed { Closes (W.contents out.old) paper.lines (W.contents out.new) ending.engine.memory
+    ensures printed { Closes (W.contents out.old) paper.lines (W.contents out.new) ending.session.engine.memory
         ending.did.items result.0 }
 {
-    let failed = ending.engine.failed();
+    let failed = ending.session.engine().failed();
     let ended = with_disk(ending.done, failed);
     let told = print_finals(
-        ending.engine.memory(),
+        ending.session.memory(),
         ending.did.as_slice(),
         &mut paper.line,
         &mut paper.lines,
@@ -129,5 +127,5 @@ pub fn close<D: Disk, W: Write, N: Observer<News>>(
         out,
         &mut Behind { observer },
     );
-    (status_of(failed, stalled, status), ending.engine.close())
+    (status_of(failed, stalled, status), ending.session.close())
 }

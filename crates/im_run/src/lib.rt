@@ -1,6 +1,6 @@
 //! Runs a script's requests on the image of a disk: each element's by a server of its own, all at once.
 //!
-//! The crate stands on `im_serving`. The setup is served first, through the engine.
+//! The crate stands on `im_serving`. The setup is served first, by the session that the servers share then.
 #![tactic(auto)]
 
 mod assigning;

@@ -1,10 +1,10 @@
 //! A script that is run once, whatever stopped it before.
 ghost use Rattle.std.specs.Prelude.{◌≡◌, ◌⊎◌, ◌≤◌, ◌++◌, ℕ, true, List, Option};
+ghost use Rattle.im_session.specs.Kept.{Kept};
 ghost use Rattle.im_text.specs.Printing.{Begins, IsLast, Prints};
 ghost use Rattle.im_serial.specs.Once.{HasServedNothing};
 ghost use Rattle.im_serial.specs.Serving.{seen_by};
-ghost use Rattle.im_run.specs.Once.{EndsOnce, RunsOnceOn, RunsOnceOnPlan};
-ghost use Rattle.im_run.specs.Setup.{BeginsHere};
+ghost use Rattle.im_run.specs.Once.{EndsOnce, RunsOnceOn};
 
 use crate::context::RunContext;
 use crate::opening::open_server;
@@ -19,7 +19,7 @@ use im_types::Observer;
 use std::alloc::Global;
 use std::io::Write;
 
-// Prints a refusal behind the lines that are kept back. Returns the status and the engine's disk.
+// Prints a refusal behind the lines that are kept back. Returns the status and the session's disk.
 fn refuse_rest<D: Disk, W: Write, N: Observer<News>>(
     alloc: Global,
     server: Server<D>,
@@ -29,6 +29,7 @@ fn refuse_rest<D: Disk, W: Write, N: Observer<News>>(
 ) -> (u8, D)
     ensures status { result.0 ≡ 1 }
     ensures disk { result.1 ≡ server.session.engine.disk }
+    ensures kept { Kept D.Disk server.session }
     ensures last { (start : Option (List ℕ)) (text : List ℕ) → Prints start (W.contents out.old) server.lines text
         → (last : List ℕ) × (IsLast last × Begins start (W.contents out.new) (text ++ last)) }
 {
@@ -44,8 +45,8 @@ fn refuse_rest<D: Disk, W: Write, N: Observer<News>>(
     (1, session.close())
 }
 
-// Prints what the engine of a server has of a script, and runs the rest. Returns the status, the engine's disk, and the
-// trace.
+// Prints what the memory of a server has of a script, and runs the rest. Returns the status, the session's disk, and
+// the trace.
 fn run_rest<
     D: Disk + Drop + Send,
     W: Write,
@@ -61,9 +62,8 @@ fn run_rest<
     observer: &mut N,
 ) -> (u8, D, Trace)
     requires ready { HasServedNothing (seen_by server (W.contents out.old)) server.bases.items }
-    requires fresh { BeginsHere server.session }
     ensures status { (result.0 ≤ 1) ⊎ (result.0 ≡ STALLED) }
-    ensures ends { EndsOnce D.Disk asked.entry.mode.planned asked.entry.script.now server.session.engine result.1
+    ensures ends { EndsOnce D.Disk asked.entry.mode.planned asked.entry.script.now server.session.start result.1
         (W.contents out.old) (W.contents out.new) result.2 result.0 }
     ensures recorded { asked.entry.mode.recorded ≡ true → result.2.recorded ≡ true }
 {
@@ -127,11 +127,10 @@ pub fn run_once_on<
     observer: &mut N,
 ) -> (u8, D, Trace)
     ensures status { (result.0 ≤ 1) ⊎ (result.0 ≡ STALLED) }
-    ensures run { RunsOnceOn D.Disk asked.entry.script.now disk result.1 (W.contents out.old) (W.contents out.new)
-        result.2 result.0 }
-    ensures planned { RunsOnceOnPlan D.Disk asked.entry.mode.planned asked.entry.script.now disk result.1
-        (W.contents out.old) (W.contents out.new) result.2 result.0 }
+    ensures run { RunsOnceOn D.Disk asked.entry.mode.planned asked.entry.script.now disk result.1 (W.contents out.old)
+        (W.contents out.new) result.2 result.0 }
     ensures recorded { asked.entry.mode.recorded ≡ true → result.2.recorded ≡ true }
+    ensures honest { D.honest result.1 → D.honest disk }
 {
     let alloc = context.alloc;
     match open_server(alloc, disk, out, observer) {

@@ -1,10 +1,9 @@
 //! The opening of an image, before a script is run on it.
 ghost use Rattle.std.specs.Prelude.{◌≡◌, IfErr, IfOk, OnOk};
-ghost use Rattle.im_serial.specs.Serving.{seen_by};
-ghost use Rattle.im_run.specs.Setup.{HasNotOpened, HasOpened};
+ghost use Rattle.im_serial.specs.Once.{HasServedNothing};
+ghost use Rattle.im_serial.specs.Serving.{NotOpened, seen_by};
 
 use im_disk::Disk;
-use im_engine::Engine;
 use im_serial::{Desk, Server};
 use im_session::Session;
 use im_text::{News, Reason, diagnose, end};
@@ -20,17 +19,21 @@ pub(crate) fn open_server<D: Disk, W: Write, N: Observer<News>>(
     out: &mut W,
     observer: &mut N,
 ) -> Result<Server<D>, (u8, D)>
-    ensures opened { IfOk result (λ server. HasOpened D.Disk disk (seen_by server (W.contents out.new))
+    ensures nothing { IfOk result (λ server. HasServedNothing (seen_by server (W.contents out.new))
         server.bases.items) }
+    ensures opened { IfOk result (λ server. server.session.start.disk ≡ disk) }
     ensures same { OnOk result (W.contents out.new ≡ W.contents out.old) }
-    ensures refused { IfErr result (λ r. HasNotOpened D.Disk disk r.1 (W.contents out.old) (W.contents out.new) r.0) }
+    ensures status { IfErr result (λ r. r.0 ≡ 1) }
+    ensures refused { IfErr result (λ r. D.honest r.1
+        → NotOpened D.now D.past disk r.1 (W.contents out.old) (W.contents out.new) r.0) }
+    ensures honest { IfErr result (λ r. D.honest r.1 → D.honest disk) }
 {
     let Ok(desk) = Desk::new(alloc) else {
         return Err((end(alloc, Err(Reason::Memory), out, observer), disk));
     };
-    match Engine::open(alloc, disk) {
-        Ok(engine) => {
-            let server = Server::new(alloc, Session::of(engine), desk);
+    match Session::open(alloc, disk) {
+        Ok(session) => {
+            let server = Server::new(alloc, session, desk);
             Ok(server)
         }
         Err((refusal, mut disk)) => {

@@ -1,10 +1,11 @@
 //! A script on the image of a disk, from opening to end.
-ghost use Rattle.std.specs.Prelude.{◌≡◌, ◌⊎◌, ◌≤◌, [], None, Some, false, true, map, IsOk};
+ghost use Rattle.std.specs.Prelude.{◌≡◌, ◌⊎◌, ◌≤◌, [], None, Some, true, map, IsOk};
+ghost use Rattle.im_session.specs.Kept.{Kept};
+ghost use Rattle.im_serial.specs.Once.{HasServedNothing};
 ghost use Rattle.im_serial.specs.Serving.{seen_by};
 ghost use Rattle.im_run.specs.Orders.{ask_of, asks_in, bases_first};
 ghost use Rattle.im_run.specs.Planned.{FitsIfNew, plan_of, planned_orders};
-ghost use Rattle.im_run.specs.Running.{EndsRun, EndsServers, EndsServing, Ran, RunsOn, RunsOnPlan};
-ghost use Rattle.im_run.specs.Setup.{CanServe};
+ghost use Rattle.im_run.specs.Running.{EndedOn, RunOn, RunsOn, ServersEnded};
 
 use crate::beginning::begin;
 use crate::calls::Calls;
@@ -19,9 +20,9 @@ use crate::tracing::Trace;
 use crate::unserved::with_whole;
 use im_controller::Opening;
 use im_disk::Disk;
-use im_engine::Engine;
 use im_serial::Server;
 use im_serving::{Gate, Host, Standing, Teller};
+use im_session::Session;
 use im_text::{News, Reason};
 use im_types::{Observer, Refusal};
 use std::alloc::Global;
@@ -51,10 +52,11 @@ fn serve_opening<
 >(context: &RunContext<'_, G, V, R>, opening: Opening<D>, work: Workload) -> (Ending<D>, Calls)
     requires plan { work.mode.planned ≡ true → opening.plan
         ≡ Some (plan_of (planned_orders (asks_in work.whole) (map ask_of work.orders.items))) }
-    requires fits { work.mode.planned ≡ true → FitsIfNew (asks_in work.whole) opening.engine.memory
+    requires fits { work.mode.planned ≡ true → FitsIfNew (asks_in work.whole) opening.session.engine.memory
         (plan_of (planned_orders (asks_in work.whole) (map ask_of work.orders.items))) }
-    ensures ended { EndsServers D.Disk work.mode.planned (asks_in work.whole) (map ask_of work.orders.items)
-        opening.engine result.0.engine result.1.items result.0.did.items (IsOk result.0.done) }
+    requires kept { Kept D.Disk opening.session }
+    ensures ended { ServersEnded D.Disk work.mode.planned (asks_in work.whole) (map ask_of work.orders.items)
+        opening.session result.0.session.engine result.1.items result.0.did.items (IsOk result.0.done) }
     ensures recorded { result.1.recorded ≡ opening.book.recorded }
 {
     let Workload {
@@ -64,14 +66,15 @@ fn serve_opening<
         ..
     } = work;
     let ServedRun {
-        engine,
+        session,
         did,
         trace,
         refused,
     } = serve_orders::<D, Brand, G, V, R>(context, opening, orders);
+    let engine = session.engine(); // So that it is known what a crash leaves.
     let done = with_whole(engine.memory(), &whole, reason_of(refused));
     let ending = Ending {
-        engine,
+        session,
         did,
         waits,
         done,
@@ -80,21 +83,21 @@ fn serve_opening<
 }
 
 // Returns the ending of a run in which no server began.
-fn no_server<D: Disk>(alloc: Global, engine: Engine<D>, reason: Reason) -> Ending<D>
-    ensures engine { result.engine ≡ engine }
+fn no_server<D: Disk>(alloc: Global, session: Session<D>, reason: Reason) -> Ending<D>
+    ensures session { result.session ≡ session }
     ensures none { result.did.items ≡ [] }
     ensures refused { IsOk result.done → ⊥ }
 {
     Ending {
-        engine,
+        session,
         did: Vec::new(alloc),
         waits: Vec::new(alloc),
         done: Err(reason),
     }
 }
 
-// Serves what each element asks for on the engine of a server. Returns the status, the engine's disk, and the calls in
-// the order of the lock.
+// Serves what each element asks for by the session of a server. Returns the status, the session's disk, and the calls
+// in the order of the lock.
 fn serve_on<
     D: Disk + Drop + Send,
     W: Write,
@@ -110,29 +113,29 @@ fn serve_on<
     observer: &mut N,
 ) -> (u8, D, Calls)
     ensures status { (result.0 ≤ 1) ⊎ (result.0 ≡ STALLED) }
-    ensures ended { EndsServing D.Disk work.mode.planned (asks_in work.whole) (map ask_of work.orders.items)
-        server.session.engine result.1 (W.contents out.old) server.lines (W.contents out.new) result.2.items result.0 }
+    ensures ended { EndedOn D.Disk work.mode.planned (asks_in work.whole) (map ask_of work.orders.items)
+        server.session result.1 (W.contents out.old) server.lines (W.contents out.new) result.2.items result.0 }
     ensures recorded { work.mode.recorded ≡ true → result.2.recorded ≡ true }
-    ensures honest { D.honest result.1 → D.honest server.session.engine.disk }
 {
     let alloc = context.alloc;
     let (session, paper) = server.leave();
-    match begin(context.rt, alloc, session.into_engine(), &work) {
+    let _engine = session.engine(); // So that it is known what a crash leaves.
+    match begin(context.rt, alloc, session, &work) {
         Ok(opening) => {
             let (ending, trace) = serve_opening(context, opening, work);
-            tell_late(ending.engine.memory(), ending.waits.as_slice(), observer);
+            tell_late(ending.session.memory(), ending.waits.as_slice(), observer);
             let (status, disk) = close(alloc, ending, paper, out, observer);
             (status, disk, trace)
         }
-        Err((reason, engine)) => {
-            let ending = no_server(alloc, engine, reason);
+        Err((reason, session)) => {
+            let ending = no_server(alloc, session, reason);
             let (status, disk) = close(alloc, ending, paper, out, observer);
             (status, disk, Calls::new())
         }
     }
 }
 
-/// Serves a script with a server that has served nothing yet. Returns the status, the engine's disk, and the trace.
+/// Serves a script with a server that has served nothing yet. Returns the status, the session's disk, and the trace.
 pub(crate) fn run_server<
     D: Disk + Drop + Send,
     W: Write,
@@ -147,26 +150,25 @@ pub(crate) fn run_server<
     out: &mut W,
     observer: &mut N,
 ) -> (u8, D, Trace)
-    requires ready { CanServe (seen_by server (W.contents out.old)) }
+    // It may know bases already: the next clause says which.
+    requires ready { HasServedNothing (seen_by server (W.contents out.old)) [] }
     requires bases { server.bases.items ≡ bases_first asked.once server.session.engine.memory asked.script.now }
     ensures status { (result.0 ≤ 1) ⊎ (result.0 ≡ STALLED) }
-    ensures run { EndsRun D.Disk asked.entry.once asked.entry.mode.planned asked.entry.script.now server.session.engine
+    ensures run { RunOn D.Disk asked.entry.once asked.entry.mode.planned asked.entry.script.now server.session.start
         result.1 (W.contents out.old) (W.contents out.new) result.2 result.0 }
     ensures recorded { asked.entry.mode.recorded ≡ true → result.2.recorded ≡ true }
-    ensures honest { D.honest result.1 → D.honest server.session.engine.disk }
 {
     let alloc = context.alloc;
     let mut server = server;
     let (read, setup) = read_orders(alloc, &mut server, asked, out, observer);
     match read {
         Ok(work) => {
-            let _engine = server.session.engine(); // So that it is known what a crash leaves.
             let (status, disk, served) = serve_on(context, server, work, out, observer);
             (status, disk, Trace { setup, served })
         }
         Err(reason) => {
             let (session, paper) = server.leave();
-            let ending = no_server(alloc, session.into_engine(), reason);
+            let ending = no_server(alloc, session, reason);
             let (status, disk) = close(alloc, ending, paper, out, observer);
             let served = Calls::new();
             (status, disk, Trace { setup, served })
@@ -207,19 +209,17 @@ pub(crate) fn run_server<
 /// Ensures, in words:
 ///
 /// - `status`: it is 0, 1 or 3.
-/// - `ran`: with status 0 or 3 each file that a crash may leave at the return means one memory. With 0 all lines are
-///   written: they tell the entries that this memory keeps, or what a server was told of an entry that it confirmed,
-///   and what was seen at glances.
 /// - `run`, an image that isn't opened: a crash leaves nothing that it couldn't leave before.
 /// - `run`, the setup: the commands put first are, confirmations aside, the requests of the script's blocks: element
 ///   0's, in their order, each with its next number, and all if the status is 0. A name stands for the base in its
 ///   block's answer. Nothing comes behind a block that isn't made.
-/// - `run`, a crash: from the opening on it leaves the memory after a prefix of the commands that were put: the
-///   setup's, then those of all servers in the order of the lock. At the end it has all acknowledged commands. If a
-///   call of the disk failed, those that it left in doubt may be there too, all of them or none.
-/// - `run`, what was written: a prefix of the lines. A line of the setup is of a command that is in every file that a
-///   crash leaves. The entry in an element's line is in the memory of each such file, or was told to a server that
-///   confirmed it.
+/// - `run`, a crash: a session's record says it of the commands that were put, the setup's, then those of all servers
+///   in the order of the lock, and of those in doubt. From the opening on it leaves the memory after a prefix of them.
+///   At the end it leaves the memory after all that were put, with or without those in doubt. With status 0 or 3 none
+///   is in doubt.
+/// - `run`, what was written: a prefix of the lines. A line of the setup is of a command that was put. With status 0
+///   all lines are written. The entry in an element's line is in the memory after all that were put, or was told to a
+///   server that confirmed it.
 /// - `run`, the trace: each call that the setup and the servers made, with its answer, in the order of the lock. The
 ///   servers' answers are legal from the memory after the setup, and the commands accepted are those that were put.
 /// - `run`, the script: of each element, from the least, a prefix of its lines is told, in their order; all if the
@@ -227,12 +227,11 @@ pub(crate) fn run_server<
 ///   what was found later under its number. What a glance tells was seen by its element's reader.
 /// - `run`, nobody else: with status 0 each line that the servers left in the trace is of a request of the script's
 ///   parts, under its number, or of a confirmation or a collect of an element that has a part.
-/// - `planned`: if it is planned, the same by the plan of all requests of the script's parts, which fits the memory
+/// - `run`, a plan: if it is planned, it is by the plan of all requests of the script's parts, which fits the memory
 ///   after the setup. An entry kept for a request has its result by the plan, or it waits. With status 0 all were
 ///   served, and that memory and the plan alone say what is kept. If there is no plan that fits, none is served.
 /// - `recorded`: the servers' calls are in the trace, if `mode` says so.
-/// - `honest`: the disk was honest at the start, if it is at the end. What `ran`, `run` and `planned` say holds of such
-///   a disk.
+/// - `honest`: the disk was honest at the start, if it is at the end. What `run` says holds of such a disk.
 pub fn run_on<
     D: Disk + Drop + Send,
     W: Write,
@@ -248,12 +247,8 @@ pub fn run_on<
     observer: &mut N,
 ) -> (u8, D, Trace)
     ensures status { (result.0 ≤ 1) ⊎ (result.0 ≡ STALLED) }
-    ensures ran { D.honest result.1 → (result.0 ≡ 0) ⊎ (result.0 ≡ STALLED)
-        → Ran D.now result.1 (W.contents out.old) (W.contents out.new) result.0 }
-    ensures run { RunsOn D.Disk asked.entry.script.now disk result.1 (W.contents out.old) (W.contents out.new) result.2
-        result.0 }
-    ensures planned { RunsOnPlan D.Disk asked.entry.mode.planned asked.entry.script.now disk result.1
-        (W.contents out.old) (W.contents out.new) result.2 result.0 }
+    ensures run { RunsOn D.Disk asked.entry.mode.planned asked.entry.script.now disk result.1 (W.contents out.old)
+        (W.contents out.new) result.2 result.0 }
     ensures recorded { asked.entry.mode.recorded ≡ true → result.2.recorded ≡ true }
     ensures honest { D.honest result.1 → D.honest disk }
 {

@@ -1,13 +1,12 @@
 //! Serves all elements through one controller.
-ghost use Rattle.std.specs.Prelude.{◌≡◌, ◌∷◌, [], ℕ, List, IfOk, None, OnErr, false, map, true};
+ghost use Rattle.std.specs.Prelude.{◌≡◌, ◌∷◌, [], ℕ, List, IfOk, None, OnErr, map, true};
 ghost use Rattle.im_types.specs.Trace.{IsLegal, end_of};
 ghost use Rattle.im_types.specs.declared.commands.Line.{Line};
-ghost use Rattle.im_controller.specs.Kept.{IsOriginOf};
+ghost use Rattle.im_controller.specs.Kept.{IsOriginOf, IsSessionOf};
 ghost use Rattle.im_controller.specs.Planned.{EndsBy};
 ghost use Rattle.im_run.specs.Alone.{AreQuiet, AreQuietAtEnd, AreUnmarked, NoneMarked};
 ghost use Rattle.im_run.specs.Doing.{AreAllNoted, AreAllTold, HaveSeen, elements_at_end};
 ghost use Rattle.im_run.specs.Orders.{ask_of};
-ghost use Rattle.im_run.specs.Running.{ServedOn};
 
 use crate::calls::Calls;
 use crate::context::RunContext;
@@ -16,8 +15,8 @@ use crate::port_notes::PortNotes;
 use crate::sheet::Order;
 use im_controller::{Controller, Finished, Name, Opening, finish};
 use im_disk::Disk;
-use im_engine::Engine;
 use im_serving::{Done, Gate, Host, Standing, Teller, serve_elements};
+use im_session::Session;
 use im_text::Waited;
 use im_types::{Observer, Refusal};
 use std::alloc::{AllocError, Global};
@@ -34,8 +33,8 @@ pub enum Did {
 /// What the servers did.
 #[derive(Drop)]
 pub(crate) struct ServedRun<D: Disk> {
-    /// The engine.
-    pub engine: Engine<D>,
+    /// The session.
+    pub session: Session<D>,
     /// What was done, by elements, and for each element in order.
     pub did: Vec<Did>,
     /// Each call with its answer, in the order of the lock.
@@ -155,7 +154,7 @@ fn refused_at_end(
     refused
 }
 
-/// Serves what each element asks for, all at once, through a controller over an engine, and gives the engine and the
+/// Serves what each element asks for, all at once, through a controller over a session, and gives the session and the
 /// trace back. The thread that keeps checkpoints tells its observer how things stand.
 ///
 /// An element that doesn't exist is refused with `NoElement`, and one for which memory or a thread is missing with
@@ -176,12 +175,10 @@ pub(crate) fn serve_orders<
 >(context: &RunContext<'_, G, V, R>, opening: Opening<D>, orders: Vec<Order>) -> ServedRun<D>
     requires origin { IsOriginOf D.Disk opening K.origin }
     ensures legal { IsLegal K.origin.memory result.trace.items }
-    ensures end { end_of K.origin.memory result.trace.items ≡ result.engine.memory }
+    ensures end { end_of K.origin.memory result.trace.items ≡ result.session.engine.memory }
     ensures recorded { result.trace.recorded ≡ opening.book.recorded }
-    ensures planned { EndsBy K.origin.memory K.origin.plan result.trace.items result.engine.memory }
-    ensures kept { D.honest result.engine.disk → K.origin.honest × (K.origin.begun.failed ≡ false
-        → ServedOn D.now D.past D.failures K.origin.begun K.origin.memory K.origin.plan result.trace.items
-        result.engine) }
+    ensures planned { EndsBy K.origin.memory K.origin.plan result.trace.items result.session.engine.memory }
+    ensures put { IsSessionOf D.Disk K.origin result.trace.items result.session }
     ensures told { AreAllTold K.origin.memory result.trace.items (result.refused ≡ None) (map ask_of orders.items)
         result.did.items }
     ensures alone { NoneMarked K.origin.marks (map ask_of orders.items) (result.refused ≡ None) result.trace.items }
@@ -194,14 +191,14 @@ pub(crate) fn serve_orders<
         ..
     } = serve_parts(context, &controller, orders);
     let Finished {
-        engine,
+        session,
         trace,
         came,
         claimed,
         ..
     } = finish(context.rt, controller, ports);
     ServedRun {
-        engine,
+        session,
         did,
         trace: Calls::of(trace),
         refused: refused_at_end(refused, came, claimed),

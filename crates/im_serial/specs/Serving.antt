@@ -191,7 +191,3 @@ pub record NotOpened {D : Type 0} (now : D → Moment) (past : D → List Moment
 abbrev pub SerialOn : {D : Type 0} → Ghosts D → List ℕ → D → D → Option (List ℕ) → Option (List ℕ) → ℕ → Type 0
 SerialOn disk text old new was is status = NotOpened disk.now disk.past old new was is status
     ⊎ ServedScript disk text old new was is status
-
--- The same of a disk that is honest at the end.
-abbrev pub ServesScript : {D : Type 0} → Ghosts D → List ℕ → D → D → Option (List ℕ) → Option (List ℕ) → ℕ → Type 0
-ServesScript disk text old new was is status = disk.honest new → SerialOn disk text old new was is status

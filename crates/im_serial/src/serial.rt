@@ -3,7 +3,7 @@ ghost use Rattle.std.specs.Prelude.{◌≡◌, ◌≤◌, [], false, IsOk};
 ghost use Rattle.im_session.specs.Kept.{IsFresh};
 ghost use Rattle.im_serial.specs.Begun.{KeepsOnce};
 ghost use Rattle.im_serial.specs.Once.{HasServedNothing, ServedOnce, ServesOnceOn};
-ghost use Rattle.im_serial.specs.Serving.{ServedScript, ServesScript, seen_by};
+ghost use Rattle.im_serial.specs.Serving.{SerialOn, ServedScript, seen_by};
 
 use crate::server::{Desk, Server};
 use im_disk::Disk;
@@ -57,7 +57,8 @@ pub fn serial_on<D: Disk, W: Write, N: Observer<News>>(
     observer: &mut N,
 ) -> (u8, D)
     ensures status { result.0 ≤ 1 }
-    ensures served { ServesScript D.Disk script.now disk result.1 (W.contents out.old) (W.contents out.new) result.0 }
+    ensures served { D.honest result.1
+        → SerialOn D.Disk script.now disk result.1 (W.contents out.old) (W.contents out.new) result.0 }
     ensures honest { D.honest result.1 → D.honest disk }
 {
     let desk = match Desk::new(alloc) {

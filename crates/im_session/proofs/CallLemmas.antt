@@ -25,17 +25,9 @@ use Rattle.im_session.specs.Put.{sure_by, doubted_by, sure_of, doubted_of}
 use Rattle.im_session.proofs.AcceptedLemmas.{accepted_each, one_accepted}
 use Rattle.im_session.proofs.KeptLemmas.{Accepted, CallLeaves, GoesOn, Puts, Stays, all_of, none_of, puts_all, puts_none}
 use Rattle.im_session.proofs.KeptLemmas.{rose_by, steady_by}
-use Rattle.im_session.proofs.ServedLemmas.{undoubted, unsure}
+use Rattle.im_session.proofs.ServedLemmas.{not_device, undoubted, unsure}
 
 -- ---- a command
-
-not_device : (m : Contents) (c : Command) (r : Refusal) → is_device r ≡ false → doubted_by m c (Err r) ≡ []
-not_device m c r e = by_test (is_accepted m c) (is_device r) e
-  where
-    by_test : (b p : Bool) → p ≡ false → (if b && p then c ∷ [] else []) ≡ []
-    by_test true true e = absurd (cc)
-    by_test true false e = refl
-    by_test false p e = refl
 
 module _ {D : Type 0} (disk : Ghosts D) (mid new : EngineState D) (c : Command) (a : Result Outcome Refusal)
     (it : Answered mid c a new) (call : CallLeaves disk mid new (MeansEither mid c))

@@ -14,12 +14,14 @@ use Rattle.im_laws.proofs.Tests.{true_false}
 use Rattle.im_disk.specs.declared.disk.Disk.{Ghosts}
 use Rattle.im_disk.specs.Moment.{Faults, Left, Moment, Rises}
 use Rattle.im_disk.specs.Since.{LeavesWithin, LeavesNow}
-use Rattle.im_disk.proofs.SinceLemmas.{leaves_now, leaves_then, leaves_weaker, left_now}
+use Rattle.im_disk.proofs.SinceLemmas.{leaves_now, leaves_start, leaves_then, leaves_weaker, left_now}
 use Rattle.im_engine.specs.State.{EngineState, MeansState}
 use Rattle.im_engine.specs.Run.{MeansAll, MeansWithOrWithout}
 use Rattle.im_engine.specs.Leaving.{LeavesSince, LeavesAfter, LeavesState}
 use Rattle.im_session.specs.Kept.{Kept, MeansPrefix, MeansPut, SessionStart, session_of, start_at}
+use Rattle.im_session.specs.Keeping.{KeepsPut, MeansFrom}
 use Rattle.im_session.specs.Opening.{CanBegin}
+use Rattle.im_session.proofs.KeepingLemmas.{from_all}
 
 -- each of the commands is accepted in its turn
 abbrev pub Accepted : Contents → List Command → Type 0
@@ -159,6 +161,20 @@ module _ {D : Type 0} (disk : Ghosts D) (start : SessionStart D) (put doubt : Li
   abbrev Next : Type 0
   Next = Kept disk (session_of start (put ++ sure) (doubt ++ more) new)
 
+  -- it goes on to the one after it
+  abbrev Keeps : Type 0
+  Keeps = KeepsPut disk (session_of start put doubt mid) (session_of start (put ++ sure) (doubt ++ more) new)
+
+  keeps_same : Stays mid new sure more → Keeps
+  keeps_same it = rw (it.same, it.none_sure, it.none_doubted, append-nil put, append-nil doubt) (record {
+    start = refl;
+    more = [];
+    put = sym (append-nil (put ++ doubt));
+    honest = λ h. h;
+    leaves = λ h. leaves_start (disk.now mid.disk) (disk.past mid.disk)
+        (MeansFrom start (put ++ doubt) (length put));
+  })
+
   kept_same : Stays mid new sure more → Next
   kept_same it = rw (it.same, it.none_sure, it.none_doubted, append-nil put, append-nil doubt) so_far
 
@@ -221,8 +237,32 @@ module _ {D : Type 0} (disk : Ghosts D) (start : SessionStart D) (put doubt : Li
       };
     }
 
+    from_put : (file : List ℕ) → MeansWithOrWithout mid [] both file → MeansFrom start (put ++ both) (length put) file
+    from_put file means = ⊎_elim
+        (λ old. from_all start put both (length put) file (omega arith)
+        (subst (λ (l : List Command). MeansPut start l file) (append-nil put) (from_start [] file old)))
+        (λ all. subst (λ (l : List Command). MeansFrom start l (length put) file) (append-nil (put ++ both))
+        (from_all start (put ++ both) [] (length put) file (omega (arith, length-append put both))
+        (from_start both file all)))
+        means
+
+    keeps_put : Keeps
+    keeps_put = record {
+      start = refl;
+      more = both;
+      put = all_is ∙ ap (λ (l : List Command). l ++ both) (sym put_is);
+      honest = it.honest;
+      leaves = λ h. subst (λ (l : List Command). LeavesWithin disk.now disk.past mid.disk new.disk
+          (MeansFrom start l (length put))) (sym all_is)
+          (leaves_weaker (disk.now mid.disk) (disk.now new.disk) (disk.past mid.disk) (disk.past new.disk)
+          (MeansWithOrWithout mid [] both) (MeansFrom start (put ++ both) (length put)) (it.since h) from_put);
+    }
+
   pub kept_on : GoesOn disk mid new sure more → Next
   kept_on it = ⊎_elim kept_same kept_put it
+
+  pub keeps_on : GoesOn disk mid new sure more → Keeps
+  keeps_on it = ⊎_elim keeps_same keeps_put it
 
 -- the same of a call that puts nothing
 pub kept_still : {D : Type 0} (disk : Ghosts D) (start : SessionStart D) (put doubt : List Command)
@@ -232,6 +272,15 @@ kept_still disk start put doubt mid new so_far it =
     subst (λ (l : List Command). Kept disk (session_of start l doubt new)) (append-nil put)
     (subst (λ (l : List Command). Kept disk (session_of start (put ++ []) l new)) (append-nil doubt)
     (kept_on disk start put doubt mid new so_far [] [] it))
+
+pub keeps_still : {D : Type 0} (disk : Ghosts D) (start : SessionStart D) (put doubt : List Command)
+    (mid new : EngineState D) → Kept disk (session_of start put doubt mid) → GoesOn disk mid new [] []
+    → KeepsPut disk (session_of start put doubt mid) (session_of start put doubt new)
+keeps_still disk start put doubt mid new so_far it =
+    let from = session_of start put doubt mid in
+    subst (λ (l : List Command). KeepsPut disk from (session_of start l doubt new)) (append-nil put)
+    (subst (λ (l : List Command). KeepsPut disk from (session_of start (put ++ []) l new)) (append-nil doubt)
+    (keeps_on disk start put doubt mid new so_far [] [] it))
 
 -- ---- a session that begins
 

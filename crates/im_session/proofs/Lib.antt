@@ -1,6 +1,7 @@
+pub mod KeepingLemmas
 pub mod AcceptedLemmas
 pub mod KeptLemmas
-mod CallLemmas
+pub mod CallLemmas
 pub mod ServedLemmas
 pub mod RoomLemmas
 pub mod CarryLemmas

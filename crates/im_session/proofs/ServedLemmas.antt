@@ -32,6 +32,14 @@ pub undoubted : (m : Contents) (c : Command) (a : Result Outcome Refusal) → is
 undoubted m c (Ok o) e = refl
 undoubted m c (Err r) e = ap (λ (b : Bool). if b && is_device r then c ∷ [] else []) e
 
+pub not_device : (m : Contents) (c : Command) (r : Refusal) → is_device r ≡ false → doubted_by m c (Err r) ≡ []
+not_device m c r e = by_test (is_accepted m c) (is_device r) e
+  where
+    by_test : (b p : Bool) → p ≡ false → (if b && p then c ∷ [] else []) ≡ []
+    by_test true true e = absurd (cc)
+    by_test true false e = refl
+    by_test false p e = refl
+
 -- an answer that is no refusal is the step's
 record Did {D : Type 0} (mid new : EngineState D) (c : Command) (o : Outcome) : Type 0 where
   answer : (step mid.memory c).answer ≡ Ok o
@@ -147,3 +155,10 @@ rests_refused {D} old new c rests = record {
   doubt = inl (ap (λ (s : SessionState D). s.doubt) rests.same);
   memory = rests.memory;
 }
+
+-- what a session comes to by a refusal that no call of the disk caused
+pub refused_same : {D : Type 0} (s : SessionState D) (c : Command) (r : Refusal) → is_device r ≡ false
+    → s ≡ served_one s c (Err r) s.engine
+refused_same s c r none = sym (ap₂ (λ (put doubt : List Command). session_of s.start put doubt s.engine)
+    (append-nil s.put)
+    (ap (λ l. s.doubt ++ l) (not_device s.engine.memory c r none) ∙ append-nil s.doubt))

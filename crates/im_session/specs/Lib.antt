@@ -1,6 +1,7 @@
 pub mod Put
 pub mod Calls
 pub mod Kept
+pub mod Keeping
 pub mod Serving
 pub mod Opening
 pub mod Carrying

@@ -1,9 +1,11 @@
 -- What a call of a session comes to.
-use Rattle.std.specs.Prelude.{◌≡◌, ◌⊎◌, List, [], ◌∷◌, ◌++◌, Result, Ok, true, false}
+use Rattle.std.specs.Prelude.{◌≡◌, ◌⊎◌, List, [], ◌∷◌, ◌++◌, Result, Ok, Err, true, false}
 use Rattle.im_types.specs.declared.commands.Command.{Command}
 use Rattle.im_types.specs.declared.commands.Outcome.{Outcome}
 use Rattle.im_types.specs.declared.refusals.Refusal.{Refusal}
-use Rattle.im_types.specs.declared.refusals.Refusal.TheVariants.{Device, Failed}
+use Rattle.im_types.specs.declared.groups.Served.{Served}
+use Rattle.im_types.specs.declared.groups.Served.TheVariants.{Unserved, Done, Refused}
+use Rattle.im_types.specs.declared.refusals.Refusal.TheVariants.{NoMemory, Device, Failed}
 use Rattle.im_types.specs.Step.{step, is_accepted}
 use Rattle.im_types.specs.Run.{accepted}
 use Rattle.im_engine.specs.State.{EngineState}
@@ -16,6 +18,12 @@ abbrev pub served_one : {D : Type 0} → SessionState D → Command → Result O
     → SessionState D
 served_one s c answer engine = session_of s.start (s.put ++ sure_by s.engine.memory c answer)
     (s.doubt ++ doubted_by s.engine.memory c answer) engine
+
+-- what one of the commands that were served together was answered
+abbrev pub served_answer : Served → Result Outcome Refusal
+served_answer (Done outcome) = Ok outcome
+served_answer (Refused refusal) = Err refusal
+served_answer Unserved = Err NoMemory
 
 -- the session after these members were served together
 abbrev pub served_together : {D : Type 0} → SessionState D → List Command → EngineState D → SessionState D

@@ -7,9 +7,10 @@
 
 mod calls;
 mod carrying;
+mod keeping;
 mod opening;
 mod room;
 mod session;
 
 pub use carrying::{Property, acknowledged_is_put, prefixes_carry};
-pub use session::Session;
+pub use session::{Session, served_answer};

@@ -3,9 +3,9 @@ ghost use Rattle.std.specs.Prelude.{◌≡◌, [], length, take};
 ghost use Rattle.im_engine.specs.Commands.{CommandsAnswered};
 ghost use Rattle.im_engine.specs.Run.{Answered, SweepAnswered, TurnAnswered};
 ghost use Rattle.im_session.specs.Kept.{Kept};
-ghost use Rattle.im_session.specs.Serving.{Rests, served_one, served_together};
+ghost use Rattle.im_session.specs.Serving.{Rests, served_answer, served_one, served_together};
 
-use crate::calls::{GroupFound, SessionCalls};
+use crate::calls::SessionCalls;
 use crate::opening::StartSnapshot;
 use arrayvec::ArrayVec;
 use im_checkpoint::TurnDone;
@@ -14,7 +14,6 @@ use im_engine::Engine;
 use im_memory::Memory;
 use im_types::{Command, MAX_GROUP, Outcome, Refusal, Served};
 use std::marker::Model;
-use std::snapshot::Snapshot;
 
 /// An engine, and what was put on its disk since the session began.
 ///
@@ -54,10 +53,7 @@ impl<D: Disk> Session<D> {
         ensures answered { Answered self.old.engine command.now result self.new.engine }
         ensures put { self.new ≡ served_one self.old command.now result self.new.engine }
     {
-        let memory = Snapshot::of(self.engine.memory());
-        let answer = self.engine.serve(command);
-        self.calls.note(memory, command, &answer);
-        answer
+        self.serve_kept(command)
     }
 
     /// Serves commands together, as [`Engine::serve_commands`] does. Those that change the memory are put, all of them,
@@ -73,16 +69,7 @@ impl<D: Disk> Session<D> {
         ensures put { self.new ≡ served_together self.old (take (length served.new.items) members.now.items)
             self.new.engine }
     {
-        let failed = self.engine.failed();
-        let places = self.engine.places();
-        let found = GroupFound {
-            memory: Snapshot::of(self.engine.memory()),
-            places: Snapshot::of(&places),
-            failed: Snapshot::of(&failed),
-        };
-        self.engine.serve_commands(members, served);
-        let failed = self.engine.failed();
-        self.calls.note_all(found, members, served, failed);
+        self.serve_commands_kept(members, served)
     }
 
     /// Makes a turn of a checkpoint, as [`Engine::turn`] does. It puts nothing.
@@ -90,7 +77,7 @@ impl<D: Disk> Session<D> {
         ensures answered { TurnAnswered self.old.engine result self.new.engine }
         ensures same { Rests self.old self.new }
     {
-        self.engine.turn()
+        self.turn_kept()
     }
 
     /// Sweeps, as [`Engine::sweep`] does. It puts nothing.
@@ -98,7 +85,7 @@ impl<D: Disk> Session<D> {
         ensures answered { SweepAnswered self.old.engine most result self.new.engine }
         ensures same { Rests self.old self.new }
     {
-        self.engine.sweep(most)
+        self.sweep_kept(most)
     }
 
     /// The engine, to be looked at. Whoever looks knows what a crash leaves.
@@ -135,5 +122,16 @@ impl<D: Disk> Session<D> {
         ensures kept { Kept D.Disk self }
     {
         self.into_engine().close()
+    }
+}
+
+/// Returns what one of the commands that were served together was answered. One that wasn't served has `NoMemory`.
+pub fn served_answer(served: Served) -> Result<Outcome, Refusal>
+    ensures { result ≡ served_answer served }
+{
+    match served {
+        Served::Done(outcome) => Ok(outcome),
+        Served::Refused(refusal) => Err(refusal),
+        Served::Unserved => Err(Refusal::NoMemory),
     }
 }

@@ -9,7 +9,7 @@ use im_controller::{Controller, Name, Opening, Port, finish, start, start_planne
 use im_disk::{Disk, FuseDisk};
 use im_planning::Plan;
 use im_story::Saying;
-use im_story_disk::StoryFile;
+use im_story_disk::{StoryFile, begin_session};
 use im_types::{Outcome, Refusal, Request};
 use std::alloc::Global;
 use std::marker::Brand;
@@ -36,13 +36,19 @@ pub fn begin<R: Wait>(
 ) -> Result<Opening<FuseDisk>, Refusal> {
     let alloc = place.alloc;
     let plan = if is_planned { Some(plan(alloc)?) } else { None };
-    let started = match (place.engine.take(), plan) {
-        (Some(engine), Some(plan)) => start_planned(rt, alloc, engine, plan, lines),
-        (Some(engine), None) => start(rt, alloc, engine, lines),
-        (None, _) => return Err(Refusal::Failed),
+    let Some(engine) = place.engine.take() else {
+        return Err(Refusal::Failed);
     };
-    started.map_err(|(refusal, engine)| {
-        place.engine = Some(engine);
+    let started = match (begin_session(engine), plan) {
+        (Ok(session), Some(plan)) => start_planned(rt, alloc, session, plan, lines),
+        (Ok(session), None) => start(rt, alloc, session, lines),
+        (Err(engine), _) => {
+            place.engine = Some(engine);
+            return Err(Refusal::Failed);
+        }
+    };
+    started.map_err(|(refusal, session)| {
+        place.engine = Some(session.into_engine());
         refusal
     })
 }
@@ -160,7 +166,7 @@ fn act_under<K: Name, R: Wait>(
     let ended = finish(rt, controller, ports);
     let is_told = ended.trace.as_slice().len() == lines;
     said.so(ended.came && ended.claimed && is_told, "");
-    place.engine = Some(ended.engine);
+    place.engine = Some(ended.session.into_engine());
     let now = state(place);
     said.so(
         now.failed || now == after(before, at.saturating_sub(FIRST)),

@@ -9,10 +9,10 @@ use crate::scenes::tell_scene;
 use crate::stops::tell_stop;
 use im_controller::{Name, Opening, finish};
 use im_disk::{Crash, Disk, FuseDisk};
-use im_engine::Engine;
 use im_serving::Host;
+use im_session::Session;
 use im_story::Saying;
-use im_story_disk::{STEADY, StoryFile};
+use im_story_disk::{STEADY, StoryFile, begin_session};
 use im_types::Limits;
 use std::alloc::Global;
 use std::marker::Brand;
@@ -38,11 +38,11 @@ pub fn limits_of(sizes: Sizes) -> Option<Limits> {
 }
 
 /// Makes a new memory on a disk that never fails.
-pub fn new_memory(alloc: Global, sizes: Sizes) -> Option<Engine<FuseDisk>> {
+pub fn new_memory(alloc: Global, sizes: Sizes) -> Option<Session<FuseDisk>> {
     let limits = limits_of(sizes)?;
     let mut file = StoryFile::new(alloc);
     let _begun = file.begin(limits, STEADY);
-    file.engine.take()
+    begin_session(file.engine.take()?).ok()
 }
 
 // Does an act with a controller that has a name, ends it, and tells of both.

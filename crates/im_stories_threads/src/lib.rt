@@ -31,12 +31,12 @@ use im_story::Saying;
 fn show_play<R: Host>(rt: &R, play: &Play, said: &mut Saying) {
     let alloc = said.alloc();
     writeln!(said, "{}", play.head);
-    let Some(engine) = new_memory(alloc, play.sizes) else {
+    let Some(session) = new_memory(alloc, play.sizes) else {
         return said.text("  no image\n");
     };
     let opening = match play.room {
-        Some(lines) => start(rt, alloc, engine, lines),
-        None => start_unrecorded(rt, alloc, engine),
+        Some(lines) => start(rt, alloc, session, lines),
+        None => start_unrecorded(rt, alloc, session),
     };
     match opening {
         Ok(opening) => said.also(&act_on(rt, alloc, Act::Plays(play), opening)),

@@ -6,9 +6,9 @@ use crate::gates::{NUMBERS, OneOrder, is_order, turn};
 use crate::servers::Wish;
 use im_controller::{Finished, Name, Opening, Traced, start_planned};
 use im_disk::FuseDisk;
-use im_engine::Engine;
 use im_planning::Plan;
 use im_serving::{Host, Open};
+use im_session::Session;
 use im_story::{Saying, asked};
 use im_types::{Call, Command, Entry, Kind, Op, Refusal, Waiter};
 use std::sync::Wait;
@@ -88,7 +88,7 @@ pub fn tell_planned(
     for (who, entry) in told {
         write!(said, "  {}.{} ", who.element, who.number);
         said.entry(*entry);
-        let is_kept = finished.engine.collect(who.element, who.number) == Ok(*entry);
+        let is_kept = finished.session.engine().collect(who.element, who.number) == Ok(*entry);
         said.either(is_kept, "\n", ", which isn't kept\n")
     }
     let trace = finished.trace.as_slice();
@@ -102,7 +102,7 @@ pub fn tell_planned(
 fn begin<R: Wait>(
     rt: &R,
     wishes: &[Wish],
-    engine: Engine<FuseDisk>,
+    session: Session<FuseDisk>,
     said: &mut Saying,
 ) -> Result<Opening<FuseDisk>, Refusal> {
     let alloc = said.alloc();
@@ -110,35 +110,35 @@ fn begin<R: Wait>(
     for (element, number, op) in wishes {
         keep(&mut requests, asked(*element, *number, *op), said)
     }
-    match start_planned(rt, alloc, engine, Plan::new(alloc, requests)?, 100) {
+    match start_planned(rt, alloc, session, Plan::new(alloc, requests)?, 100) {
         Ok(opening) => Ok(opening),
         Err((refusal, _)) => Err(refusal),
     }
 }
 
 // Serves an operation of element 0, and adds its outcome.
-fn set_up(engine: &mut Engine<FuseDisk>, number: u64, op: Op, said: &mut Saying) {
+fn set_up(session: &mut Session<FuseDisk>, number: u64, op: Op, said: &mut Saying) {
     write!(said, "  0.{number} ");
-    said.outcome(engine.serve(&Command::Request(asked(0, number, op))));
+    said.outcome(session.serve(&Command::Request(asked(0, number, op))));
     said.text("\n")
 }
 
 // Does what is done under a plan on a new memory with a block of two I cells, or adds that the plan is refused.
 fn show_planned<R: Host>(rt: &R, planned: Planned, said: &mut Saying) {
     let alloc = said.alloc();
-    let Some(mut engine) = new_memory(alloc, SIZES) else {
+    let Some(mut session) = new_memory(alloc, SIZES) else {
         return said.text("  no image\n");
     };
-    set_up(&mut engine, 1, Op::Alloc(Kind::I, 2), said);
+    set_up(&mut session, 1, Op::Alloc(Kind::I, 2), said);
     if let Planned::FindsFull = planned {
-        set_up(&mut engine, 2, Op::Store(0, 1), said)
+        set_up(&mut session, 2, Op::Store(0, 1), said)
     }
     let wishes = match planned {
         Planned::Serves(_) => WISHES.as_slice(),
         Planned::StoresTwice => TWICE.as_slice(),
         _ => ALONE.as_slice(),
     };
-    match begin(rt, wishes, engine, said) {
+    match begin(rt, wishes, session, said) {
         Ok(opening) => said.also(&act_on(rt, alloc, Act::Serves(planned), opening)),
         Err(refusal) => {
             said.text("  ");

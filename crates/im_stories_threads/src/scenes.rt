@@ -101,7 +101,7 @@ pub fn tell_scene(play: &Play, finished: Finished<FuseDisk>, said: &mut Saying) 
         said,
         "  all ports came: {came}, all answers claimed: {claimed}"
     );
-    match Engine::open(alloc, finished.engine.close()) {
+    match Engine::open(alloc, finished.session.close()) {
         Ok(engine) => writeln!(said, "  opened again: count {}", engine.count()),
         Err(_) => said.text("  no image\n"),
     }

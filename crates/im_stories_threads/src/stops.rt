@@ -10,7 +10,7 @@ use im_disk::{Crash, FuseDisk, Mode};
 use im_engine::Engine;
 use im_serving::{Host, Open};
 use im_story::Saying;
-use im_story_disk::StoryFile;
+use im_story_disk::{StoryFile, begin_session};
 use im_types::{Entry, Kind, Op, Outcome, Reply, Waiter};
 
 // How many more calls than an opening makes a disk passes at most.
@@ -74,7 +74,7 @@ pub fn tell_stop(
     let has_all = finished.came && finished.left.saturating_add(3) == u64::from(sizes.1);
     said.either(has_all, "", "  a thread is gone\n");
     let mut image = StoryFile::new(said.alloc());
-    image.lay_down(finished.engine.close());
+    image.lay_down(finished.session.close());
     let _opens = image.reopen(Some(crash));
     let Some(engine) = &image.engine else {
         return said.text("  no image\n");
@@ -94,7 +94,10 @@ fn stop_at<R: Host>(rt: &R, image: &StoryFile, passes: u64, act: Act, said: &mut
     let Some(engine) = copy.engine.take() else {
         return false;
     };
-    let Ok(opening) = start(rt, image.alloc, engine, 100) else {
+    let Ok(session) = begin_session(engine) else {
+        return false;
+    };
+    let Ok(opening) = start(rt, image.alloc, session, 100) else {
         return false;
     };
     let told = act_on(rt, image.alloc, act, opening);

@@ -1,12 +1,12 @@
--- An engine when its trace begins. (Own.)
-use Rattle.std.specs.Prelude.{ℕ, Bool, List}
+-- Where a session begins, for contracts that know no disk. (Own.)
+use Rattle.std.specs.Prelude.{ℕ, List}
+use Rattle.im_types.specs.Contents.{Contents}
 use Rattle.im_disk.specs.Moment.{Moment}
 
--- an engine when its trace begins, without its memory: what is known of its disk, the count of all commands, and
--- whether it has failed
+-- where a session begins: what is known of its disk, and the memory and the count of commands that its image has
 pub record Begun : Type 0 where
   pub now : Moment
   pub past : List Moment
   pub failures : ℕ
+  pub memory : Contents
   pub count : ℕ
-  pub failed : Bool

@@ -1,5 +1,6 @@
 -- Where a controller begins, which all its parts agree on. (Own.)
 use Rattle.std.specs.Prelude.{ℕ, Bool, List, Option}
+use Rattle.im_types.specs.declared.commands.Command.{Command}
 use Rattle.im_types.specs.declared.commands.Request.{Request}
 use Rattle.im_types.specs.declared.commands.Line.{Line}
 use Rattle.im_types.specs.Contents.{Contents}
@@ -19,6 +20,11 @@ pub record Origin : Type 1 where
   pub ports : ℕ
   -- the book of the changes that are shown, the book of the lines, and whether lines are recorded
   pub book : BookNames
-  -- what was known of the engine when the trace began, and what holds if its disk was honest then
+  -- where the session began that is lent
   pub begun : Begun
+  -- the commands that it had put when the trace began, how many moments its disk had had then, whether it had failed,
+  -- and what holds if its disk was honest then
+  pub first : List Command
+  pub time : ℕ
+  pub failed : Bool
   pub honest : Type 0

@@ -9,7 +9,7 @@ pub trait Name {
     ghost use Rattle.im_trace.specs.Origin.{Origin};
 
     /// Where the trace begins: the memory, the plan, which lines are counted apart, the ledgers and the books of the
-    /// lines, how many ports there are, and what was known of the engine.
+    /// lines, how many ports there are, and what was known of the session that is lent.
     ghost origin: { Origin };
 }
 
@@ -32,9 +32,12 @@ impl Name for Brand {
         now = record { bytes = []; ranges = [] };
         past = [];
         failures = 0;
+        memory = record { cells = []; windows = [] };
         count = 0;
-        failed = false;
       };
+      first = [];
+      time = 0;
+      failed = false;
       honest = Unit {0};
     } };
 }

@@ -1,19 +1,20 @@
-use Rattle.std.proofs.Common.{List, ap, refl, sym, subst, ◌∙◌, length, map, ℕ}
+use Rattle.std.proofs.Common.{◌≡◌, ◌++◌, List, ap, refl, sym, subst, ◌∙◌, length, map, ℕ}
 use Rattle.im_types.specs.declared.commands.Line.{Line}
 use Rattle.im_types.specs.Contents.{Contents}
-use Rattle.im_types.specs.Agreement.{WaitingAgrees}
 use Rattle.im_types.specs.Changes.{shown_by}
+use Rattle.im_engine.specs.State.{EngineState}
 use Rattle.im_queue.specs.Members.{AreSureBehind, AreFreeFor}
 use Rattle.im_trace.specs.Log.{LogState}
+use Rattle.im_controller.specs.Admitted.{Admits, free_lines, places_with}
 use Rattle.im_controller.specs.State.{SharedState}
-use Rattle.im_controller.specs.Kept.{accepted_in, KeepsSince}
+use Rattle.im_controller.specs.Kept.{IsSessionOf, KeepsSince}
 use Rattle.im_controller.specs.Planned.{KeepsTo}
-use Rattle.im_controller.specs.Groups.{served_answer, with_all_unclaimed, memory_after_all, LendsGroup}
+use Rattle.im_controller.specs.Groups.{served_answer, with_all_unclaimed, memory_after_all, LendsGroup, changes_put_all}
 use Rattle.im_controller.proofs.AdmitLemmas.{admit-sure, keeps-members}
 use Rattle.im_controller.proofs.ShownLemmas.{end-cells}
 use Rattle.im_controller.proofs.PlannedLemmas.{keeps-starts}
-use Rattle.im_controller.proofs.PutLemmas.{lines_all, all-trace}
-use Rattle.im_controller.proofs.KeptLemmas.{accepted-after, held_of, kept_on, kept_members, keeps_at, since_of}
+use Rattle.im_controller.proofs.PutLemmas.{all-trace}
+use Rattle.im_controller.proofs.KeptLemmas.{session_group, times_at, times_on}
 use Rattle.im_controller.proofs.Lending.{group-is, group-fits, group-trace, group-ends, group-keeps, group-planned}
 use Rattle.im_controller.proofs.Lending.{group-pane, lends-group}
 use Rattle.im_controller.proofs.groups.lend_group.Goals as goal
@@ -21,7 +22,8 @@ use Rattle.im_controller.proofs.groups.lend_group.Goals as goal
 pub admit-lent-requires : goal.admit-lent-requires
 admit-lent-requires g c = rw c.as_slice.ensures.value (record {
   cells = c.shared.invariant.2 ∙ sym (end-cells g.K.Name.origin.memory c.shared.inside.log.state.trace)
-      ∙ ap (λ (m : Contents). length m.cells) c.shared.invariant.0;
+      ∙ ap (λ (m : Contents). length m.cells) c.shared.invariant.0
+      ∙ ap (λ (x : EngineState g.row.D.Denot). length x.memory.cells) (sym c.engine-engine.ensures.state);
   fits = rw c.as_slice.ensures.value at c.as_slice.ensures.fits;
   apart = c.requires.apart;
   free = subst (λ (s : SharedState g.row.D.Denot). AreFreeFor s.log.places c.args.members.now.items)
@@ -30,10 +32,13 @@ admit-lent-requires g c = rw c.as_slice.ensures.value (record {
 
 pub serve_members-requires : goal.serve_members-requires
 serve_members-requires g c = record {
-  sure = admit-sure c.shared.inside.plan c.shared.inside.engine c.shared.inside.log.state c.as_slice.result.now
-      c.admit-lent.result.items c.admit-lent.new.log.state c.admit-lent.ensures.admits
+  sure = admit-sure c.shared.inside.plan c.shared.inside.session.engine c.shared.inside.log.state
+      c.as_slice.result.now c.admit-lent.result.items c.admit-lent.new.log.state
+      (subst (λ (x : EngineState g.row.D.Denot). Admits c.shared.inside.plan x c.shared.inside.log.state
+      c.as_slice.result.now c.admit-lent.result.items c.admit-lent.new.log.state) c.engine-engine.ensures.state
+      c.admit-lent.ensures.admits)
       (rw c.as_slice.ensures.value (subst
-      (λ (s : SharedState g.row.D.Denot). AreSureBehind s.engine.memory c.args.members.now.items)
+      (λ (s : SharedState g.row.D.Denot). AreSureBehind s.session.engine.memory c.args.members.now.items)
       (sym c.shared.view_is) c.requires.sure));
   empty = c.new-served.ensures;
 }
@@ -42,43 +47,53 @@ pub keep_all-requires : goal.keep_all-requires
 keep_all-requires g c =
     let m = g.K.Name.origin.memory in let plan = g.K.Name.origin.plan in
     let s : SharedState g.row.D.Denot = record {
-      engine = c.shared.inside.engine;
+      session = c.shared.inside.session;
       log = c.shared.inside.log.state;
       servers = c.shared.inside.servers;
       shown = c.shared.inside.pane.shown;
     } in
-    let e = c.shared.inside.engine in let f = c.serve_members.new.engine in let mid = c.admit-lent.new.log in
-    let members = c.args.members.now.items in let lent = c.admit-lent.result.items in
-    let ss = c.serve_members.new.served.items in let room = c.room-room.result in
-    let it = group-is plan c.shared.inside.plan s c.args.shared.now f mid.state members c.as_slice.result.now lent ss
-    room c.shared.view_is c.admit-lent.ensures.admits c.shared.invariant.7 c.as_slice.ensures.value
-    c.serve_members.ensures.answered c.room-room.ensures.room c.room-room.ensures.few
-    (subst WaitingAgrees c.memory-memory.ensures c.cells-cells.ensures.memory.agrees)
-    c.requires.cut c.requires.apart c.requires.sure c.requires.free c.requires.room in
+    let t = c.serve_members.new.session in let e = s.session.engine in let f = t.engine in
+    let mid = c.admit-lent.new.log in let members = c.args.members.now.items in
+    let lent = c.admit-lent.result.items in let ss = c.serve_members.new.served.items in
+    let room = c.room-room.result in
+    let it = group-is plan c.shared.inside.plan s c.args.shared.now c.engine-engine.result.now f
+    c.memory-memory.result.now.contents mid.state members c.as_slice.result.now lent ss room c.shared.view_is
+    c.engine-engine.ensures.state c.admit-lent.ensures.admits c.shared.invariant.7 c.as_slice.ensures.value
+    c.serve_members.ensures.answered c.room-room.ensures.room c.room-room.ensures.few c.memory-memory.ensures
+    c.cells-cells.ensures.memory.agrees c.requires.cut c.requires.apart c.requires.sure c.requires.free
+    c.requires.room in
     let k = group-keeps plan s f mid.state members lent ss room it m c.shared.invariant.0 in
     rw (c.as_slice-2.ensures.value, c.as_slice-3.ensures.value)
     (record { whole = k.whole; are_so = k.are_so; apart = k.apart; free = k.free; room = k.room_for })
 
 pub invariant_of-shared : goal.invariant_of-shared
 invariant_of-shared g c =
-    let m = g.K.Name.origin.memory in let plan = g.K.Name.origin.plan in
+    let k = g.K.Name.origin in let m = k.memory in let plan = k.plan in
     let s : SharedState g.row.D.Denot = record {
-      engine = c.shared.inside.engine;
+      session = c.shared.inside.session;
       log = c.shared.inside.log.state;
       servers = c.shared.inside.servers;
       shown = c.shared.inside.pane.shown;
     } in
-    let e = c.shared.inside.engine in let f = c.serve_members.new.engine in let mid = c.admit-lent.new.log in
-    let members = c.args.members.now.items in let lent = c.admit-lent.result.items in
-    let ss = c.serve_members.new.served.items in let room = c.room-room.result in
-    let it = group-is plan c.shared.inside.plan s c.args.shared.now f mid.state members c.as_slice.result.now lent ss
-    room c.shared.view_is c.admit-lent.ensures.admits c.shared.invariant.7 c.as_slice.ensures.value
-    c.serve_members.ensures.answered c.room-room.ensures.room c.room-room.ensures.few
-    (subst WaitingAgrees c.memory-memory.ensures c.cells-cells.ensures.memory.agrees)
-    c.requires.cut c.requires.apart c.requires.sure c.requires.free c.requires.room in
-    let pane = group-pane plan s f mid.state members lent ss room it m c.shared.inside.pane c.admit-lent.new.pane
-    c.show_put-told.new.pane c.failed.result c.shared.invariant.0 c.shared.invariant.1 c.shared.invariant.3
-    c.admit-lent.ensures.ahead c.failed.ensures.failed c.show_put-told.ensures.shown c.show_put-told.ensures.hidden in
+    let t = c.serve_members.new.session in let e = s.session.engine in let f = t.engine in
+    let mid = c.admit-lent.new.log in let members = c.args.members.now.items in
+    let lent = c.admit-lent.result.items in let ss = c.serve_members.new.served.items in
+    let room = c.room-room.result in
+    let it = group-is plan c.shared.inside.plan s c.args.shared.now c.engine-engine.result.now f
+    c.memory-memory.result.now.contents mid.state members c.as_slice.result.now lent ss room c.shared.view_is
+    c.engine-engine.ensures.state c.admit-lent.ensures.admits c.shared.invariant.7 c.as_slice.ensures.value
+    c.serve_members.ensures.answered c.room-room.ensures.room c.room-room.ensures.few c.memory-memory.ensures
+    c.cells-cells.ensures.memory.agrees c.requires.cut c.requires.apart c.requires.sure c.requires.free
+    c.requires.room in
+    let p = c.shared.inside.pane in
+    let ahead = c.admit-lent.ensures.ahead ∙ ap (λ (x : EngineState g.row.D.Denot). record p {
+      ahead = p.ahead ++ changes_put_all x.memory (places_with x (free_lines s.log)) lent;
+    }) c.engine-engine.ensures.state in
+    let failed = c.failed.ensures.failed
+    ∙ ap (λ (x : EngineState g.row.D.Denot). x.failed) c.engine-after.ensures.state in
+    let pane = group-pane plan s f mid.state members lent ss room it m p c.admit-lent.new.pane c.show_put-told.new.pane
+    c.failed.result c.shared.invariant.0 c.shared.invariant.1 c.shared.invariant.3 ahead failed
+    c.show_put-told.ensures.shown c.show_put-told.ensures.hidden in
     let log = c.keep_all.ensures.log
     ∙ ap (λ rs. with_all_unclaimed mid.state rs (map served_answer c.as_slice-3.result.now)) c.as_slice-2.ensures.value
     ∙ ap (λ xs. with_all_unclaimed mid.state lent (map served_answer xs)) c.as_slice-3.ensures.value in
@@ -88,67 +103,73 @@ invariant_of-shared g c =
     let on = group-planned plan s f mid.state members lent ss room it m
     (keeps-starts m plan c.shared.inside.log.state.trace c.shared.invariant.8) in
     let lines = ap (λ (l : LogState). l.trace) log ∙ all-trace mid.state lent (map served_answer ss) in
-    let runs = c.serve_members.ensures.runs in (
+    let done = c.serve_members.ensures in
+    let was = subst (λ (ls : List Line). IsSessionOf g.D.Disk k ls s.session) (sym same) c.shared.invariant.4 in
+    let next = session_group g.D.Disk k mid.state.trace s.session t was done.keeps c.keep_all.new.log.state.trace lent
+    ss ends lines room done.answered done.put on in (
       c.keep_all.ensures.end ∙ rw (c.as_slice-2.ensures.value, c.as_slice-3.ensures.value)
           (ap (λ n. memory_after_all n lent (map served_answer ss)) ends ∙ fits.ends),
       pane.shown_is ∙ ap (λ (l : LogState). shown_by m l.trace) (sym log),
       pane.cells ∙ c.shared.invariant.2,
       pane.ahead,
-      (λ honest. c.shared.invariant.4 (runs.honest honest)),
-      (λ honest began.
-          let begun = g.K.Name.origin.begun in let held = held_of m mid.state.trace mid.times in
-          let before = subst (λ (ts : List ℕ). KeepsSince g.D.Disk begun m plan mid.state.trace ts e)
+      next,
+      (λ honest.
+          let before = subst (λ (ts : List ℕ). KeepsSince g.D.Disk k mid.state.trace ts s.session)
           (sym c.admit-lent.ensures.times)
-          (subst (λ (ls : List Line). KeepsSince g.D.Disk begun m plan ls c.shared.inside.log.times e) (sym same)
-          (c.shared.invariant.5 (runs.honest honest) began)) in
-          keeps_at g.D.Disk begun m plan (length (g.D.Disk.past c.disk.result.now)) mid c.keep_all.new.log f
-          (ap (λ d. length (g.D.Disk.past d)) c.disk.ensures) before.whole before.order c.keep_all.ensures.times
-          (kept_on g.D.Disk begun m plan held e f mid.state.trace c.keep_all.new.log.state.trace
-          (lines_all lent (map served_answer ss)) lines ends
-          (kept_members g.D.Disk begun m plan held e f (accepted_in m mid.state.trace)
-          (since_of g.D.Disk begun m plan mid.state.trace mid.times e before)
-          (sym (accepted-after m mid.state.trace ∙ ends)) lent ss runs.faults
-          (λ alive. (runs.leaves honest alive).within) (λ alive. (runs.leaves honest alive).after)
-          (runs.means honest) room c.serve_members.ensures.answered on))),
+          (subst (λ (ls : List Line). KeepsSince g.D.Disk k ls c.shared.inside.log.times s.session) (sym same)
+          (c.shared.invariant.5 (done.keeps.honest honest))) in
+          times_at g.D.Disk k (length (g.D.Disk.past c.disk.result.now)) mid c.keep_all.new.log t
+          (ap (λ d. length (g.D.Disk.past d))
+          (c.disk.ensures ∙ ap (λ (x : EngineState g.row.D.Denot). x.disk) c.engine-after.ensures.state))
+          c.keep_all.ensures.times c.engine-after.ensures.kept next honest
+          (times_on g.D.Disk k mid.state.trace mid.times s.session t was done.keeps honest before)),
       c.shared.invariant.6,
       c.shared.invariant.7,
       subst (λ (ls : List Line). KeepsTo m plan ls) (sym lines)
           (keeps-members m plan e f lent ss mid.state.trace
           (subst (λ (ls : List Line). KeepsTo m plan ls) (sym same) c.shared.invariant.8)
-          room c.serve_members.ensures.answered on),
+          room done.answered on),
     )
 
 pub returns : goal.returns
 returns g c =
     let m = g.K.Name.origin.memory in let plan = g.K.Name.origin.plan in
     let s : SharedState g.row.D.Denot = record {
-      engine = c.shared.inside.engine;
+      session = c.shared.inside.session;
       log = c.shared.inside.log.state;
       servers = c.shared.inside.servers;
       shown = c.shared.inside.pane.shown;
     } in
-    let e = c.shared.inside.engine in let f = c.serve_members.new.engine in let mid = c.admit-lent.new.log in
-    let members = c.args.members.now.items in let lent = c.admit-lent.result.items in
-    let ss = c.serve_members.new.served.items in let room = c.room-room.result in
-    let it = group-is plan c.shared.inside.plan s c.args.shared.now f mid.state members c.as_slice.result.now lent ss
-    room c.shared.view_is c.admit-lent.ensures.admits c.shared.invariant.7 c.as_slice.ensures.value
-    c.serve_members.ensures.answered c.room-room.ensures.room c.room-room.ensures.few
-    (subst WaitingAgrees c.memory-memory.ensures c.cells-cells.ensures.memory.agrees)
-    c.requires.cut c.requires.apart c.requires.sure c.requires.free c.requires.room in
-    let pane = group-pane plan s f mid.state members lent ss room it m c.shared.inside.pane c.admit-lent.new.pane
-    c.show_put-told.new.pane c.failed.result c.shared.invariant.0 c.shared.invariant.1 c.shared.invariant.3
-    c.admit-lent.ensures.ahead c.failed.ensures.failed c.show_put-told.ensures.shown c.show_put-told.ensures.hidden in
+    let t = c.serve_members.new.session in let e = s.session.engine in let f = t.engine in
+    let mid = c.admit-lent.new.log in let members = c.args.members.now.items in
+    let lent = c.admit-lent.result.items in let ss = c.serve_members.new.served.items in
+    let room = c.room-room.result in
+    let it = group-is plan c.shared.inside.plan s c.args.shared.now c.engine-engine.result.now f
+    c.memory-memory.result.now.contents mid.state members c.as_slice.result.now lent ss room c.shared.view_is
+    c.engine-engine.ensures.state c.admit-lent.ensures.admits c.shared.invariant.7 c.as_slice.ensures.value
+    c.serve_members.ensures.answered c.room-room.ensures.room c.room-room.ensures.few c.memory-memory.ensures
+    c.cells-cells.ensures.memory.agrees c.requires.cut c.requires.apart c.requires.sure c.requires.free
+    c.requires.room in
+    let p = c.shared.inside.pane in
+    let ahead = c.admit-lent.ensures.ahead ∙ ap (λ (x : EngineState g.row.D.Denot). record p {
+      ahead = p.ahead ++ changes_put_all x.memory (places_with x (free_lines s.log)) lent;
+    }) c.engine-engine.ensures.state in
+    let failed = c.failed.ensures.failed
+    ∙ ap (λ (x : EngineState g.row.D.Denot). x.failed) c.engine-after.ensures.state in
+    let pane = group-pane plan s f mid.state members lent ss room it m p c.admit-lent.new.pane c.show_put-told.new.pane
+    c.failed.result c.shared.invariant.0 c.shared.invariant.1 c.shared.invariant.3 ahead failed
+    c.show_put-told.ensures.shown c.show_put-told.ensures.hidden in
     let log = c.keep_all.ensures.log
     ∙ ap (λ rs. with_all_unclaimed mid.state rs (map served_answer c.as_slice-3.result.now)) c.as_slice-2.ensures.value
     ∙ ap (λ xs. with_all_unclaimed mid.state lent (map served_answer xs)) c.as_slice-3.ensures.value in
     let s' : SharedState g.row.D.Denot = record {
-      engine = f;
+      session = t;
       log = c.keep_all.new.log.state;
       servers = c.shared.inside.servers;
       shown = c.show_put-told.new.pane.shown;
     } in
     record {
       lends = subst (λ (u : SharedState g.row.D.Denot). LendsGroup g.D.Disk plan u members s') c.shared.view_is
-          (lends-group plan s f mid.state members lent ss room it g.D.Disk s' refl log refl pane.alive pane.dead
-          c.serve_members.ensures.runs);
+          (lends-group plan s f mid.state members lent ss room it g.D.Disk s' refl c.serve_members.ensures.put
+          c.serve_members.ensures.keeps c.serve_members.ensures.few log refl pane.alive pane.dead);
     }

@@ -1,6 +1,7 @@
 use Rattle.std.proofs.Common.{◌≡◌, List, length, sym, ap, subst, ◌∙◌, ◌++◌}
 use Rattle.im_types.specs.declared.commands.Line.{Line}
 use Rattle.im_types.specs.declared.commands.Call.TheVariants.{Collect}
+use Rattle.im_engine.specs.State.{EngineState}
 use Rattle.im_trace.specs.Lines.{left_lines}
 use Rattle.im_trace.specs.Log.{LogState}
 use Rattle.im_types.specs.Trace.{told, end_of}
@@ -9,7 +10,7 @@ use Rattle.im_controller.specs.Planned.{KeepsTo}
 use Rattle.im_controller.proofs.PlannedLemmas.{keeps-line, question-on}
 use Rattle.im_trace.proofs.LogLemmas.{last-told}
 use Rattle.im_controller.proofs.ShownLemmas.{looked-shown, memory-same}
-use Rattle.im_controller.proofs.KeptLemmas.{held_of, kept_looked, keeps_at, since_of}
+use Rattle.im_controller.proofs.KeptLemmas.{looked-same, session_same, times_at}
 use Rattle.im_controller.proofs.looks.look.Goals as goal
 
 pub returns-clause-last : goal.returns-clause-last
@@ -22,34 +23,29 @@ returns-clause-last g c =
 pub invariant_of-shared : goal.invariant_of-shared
 invariant_of-shared g c =
     let call = Collect c.args.element c.args.number in
-    let is : c.leave.new.self.state.trace ≡ c.shared.inside.log.state.trace
-    ++ left_lines call (told c.collect-answer.result) =
+    let k = g.K.Name.origin in let m = k.memory in let s = c.shared.inside.session in
+    let trace = c.shared.inside.log.state.trace in
+    let is : c.leave.new.self.state.trace ≡ trace ++ left_lines call (told c.collect-answer.result) =
     ap (λ (l : LogState). l.trace) c.leave.ensures.log
-    ∙ ap (λ a. c.shared.inside.log.state.trace ++ left_lines call a) c.as_outcome.ensures in
+    ∙ ap (λ a. trace ++ left_lines call a) c.as_outcome.ensures in
     let shown = c.shared.invariant.1
-    ∙ looked-shown g.K.Name.origin.memory c.shared.inside.log.state.trace c.args.element c.args.number
-    (told c.collect-answer.result) ∙ ap (shown_by g.K.Name.origin.memory) (sym is) in (
-      c.leave.ensures.end
-          ∙ memory-same (end_of g.K.Name.origin.memory c.shared.inside.log.state.trace) c.args.element c.args.number
-          c.as_outcome.result ∙ c.shared.invariant.0,
+    ∙ looked-shown m trace c.args.element c.args.number (told c.collect-answer.result) ∙ ap (shown_by m) (sym is) in
+    let next = session_same g.D.Disk k trace c.leave.new.self.state.trace s
+    (looked-same m trace c.leave.new.self.state.trace c.args.element c.args.number (told c.collect-answer.result) is)
+    c.shared.invariant.4 in (
+      c.leave.ensures.end ∙ memory-same (end_of m trace) c.args.element c.args.number c.as_outcome.result
+          ∙ c.shared.invariant.0,
       shown,
       c.shared.invariant.2,
       c.shared.invariant.3,
-      c.shared.invariant.4,
-      (λ honest began.
-          let old = c.shared.inside.log in let e = c.shared.inside.engine in let m = g.K.Name.origin.memory in
-          let plan = g.K.Name.origin.plan in
-          let before = c.shared.invariant.5 honest began in
-          keeps_at g.D.Disk g.K.Name.origin.begun m plan
-          (length (g.D.Disk.past c.disk.result.now)) old c.leave.new.self e
-          (ap (λ d. length (g.D.Disk.past d)) c.disk.ensures) before.whole before.order c.leave.ensures.times
-          (kept_looked g.D.Disk g.K.Name.origin.begun m plan (held_of m old.state.trace old.times) e old.state.trace
-          c.leave.new.self.state.trace c.args.element c.args.number (told c.collect-answer.result) is
-          (since_of g.D.Disk g.K.Name.origin.begun m plan old.state.trace old.times e before))),
+      next,
+      (λ honest. times_at g.D.Disk k (length (g.D.Disk.past c.disk.result.now)) c.shared.inside.log c.leave.new.self s
+          (ap (λ d. length (g.D.Disk.past d))
+          (c.disk.ensures ∙ ap (λ (x : EngineState g.row.D.Denot). x.disk) c.engine-engine.ensures.state))
+          c.leave.ensures.times c.engine-engine.ensures.kept next honest (c.shared.invariant.5 honest)),
       c.shared.invariant.6,
       c.shared.invariant.7,
-      subst (λ (ls : List Line). KeepsTo g.K.Name.origin.memory g.K.Name.origin.plan ls) (sym is)
-          (keeps-line g.K.Name.origin.memory c.shared.inside.log.state.trace call
-          (told c.collect-answer.result) g.K.Name.origin.plan c.shared.invariant.8
-          (question-on g.K.Name.origin.plan c.args.element c.args.number)),
+      subst (λ (ls : List Line). KeepsTo m k.plan ls) (sym is)
+          (keeps-line m trace call (told c.collect-answer.result) k.plan c.shared.invariant.8
+          (question-on k.plan c.args.element c.args.number)),
     )

@@ -12,4 +12,4 @@ returns-clause-known g c =
 
 pub returns-clause-end : goal.returns-clause-end
 returns-clause-end g c =
-    c.seen_all.ensures.end ∙ ap (λ (s : SharedState g.row.D.Denot). s.engine.memory) c.know.ensures.same
+    c.seen_all.ensures.end ∙ ap (λ (s : SharedState g.row.D.Denot). s.session.engine.memory) c.know.ensures.same

@@ -5,7 +5,7 @@ use Rattle.im_types.specs.declared.commands.Command.TheVariants.{Request as Asks
 use Rattle.im_types.specs.declared.groups.Served.TheVariants.{Unserved}
 use Rattle.im_trace.specs.Log.{LogState, with_unclaimed}
 use Rattle.im_trace.proofs.TimeLemmas.{goes-on-at}
-use Rattle.im_controller.specs.Groups.{served_answer}
+use Rattle.im_session.specs.Serving.{served_answer}
 use Rattle.im_controller.proofs.Keeping.{Keeps, keeps_next, keeps_cons}
 use Rattle.im_controller.proofs.members.keep_all.Goals as goal
 
@@ -20,7 +20,7 @@ loop-i-preserved g c =
     (drop (i + 1) rs) (map served_answer (drop (i + 1) ss)) k in
     let same : c.keep.new.self.state
     ≡ with_unclaimed c.loop-i.log.state (get_or rs i first) (served_answer (get_or ss i Unserved)) = c.keep.ensures.log
-    ∙ ap (λ x. with_unclaimed c.loop-i.log.state (get_or rs i first) x) c.answer_in.ensures in (
+    ∙ ap (λ x. with_unclaimed c.loop-i.log.state (get_or rs i first) x) c.served_answer.ensures in (
       subst (λ (l : LogState). Keeps m l0 rs xs l (drop (i + 1) rs) (map served_answer (drop (i + 1) ss)))
           (sym same) next,
       goes-on-at _ c.args.log.now c.loop-i.log c.keep.new.self c.loop-i.invariant.1 c.keep.ensures.times,

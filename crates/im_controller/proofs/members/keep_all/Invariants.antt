@@ -1,6 +1,6 @@
 use Rattle.std.proofs.Common.{drop, length, map}
 use Rattle.im_trace.specs.Log.{GoesOnAt}
-use Rattle.im_controller.specs.Groups.{served_answer}
+use Rattle.im_session.specs.Serving.{served_answer}
 use Rattle.im_controller.proofs.Keeping.{Keeps}
 use Rattle.im_controller.proofs.members.keep_all.Given as goal
 

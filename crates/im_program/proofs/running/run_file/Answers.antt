@@ -25,8 +25,7 @@ returns-then-running-clause-ran g c = rw c.if-running.true (record {
   read = text_as _ c.in_ok-text.text.items c.in_ok-script.script
       (c.in_ok-script.ensures.text ∙ c.as_slice.ensures.value)
       (rw c.parts-input.ensures.input at c.in_ok-text.ensures.text);
-  run = c.run_once_on.ensures.run;
-  plan = rw c.mode_of.ensures.planned at c.run_once_on.ensures.planned;
+  run = rw c.mode_of.ensures.planned at c.run_once_on.ensures.run;
 })
 
 pub returns-clause-ran : goal.returns-clause-ran
@@ -38,8 +37,7 @@ returns-clause-ran g c = rw c.if-running.false (record {
   read = text_as _ c.in_ok-text.text.items c.in_ok-script.script
       (c.in_ok-script.ensures.text ∙ c.as_slice.ensures.value)
       (rw c.parts-input.ensures.input at c.in_ok-text.ensures.text);
-  run = c.run_on.ensures.run;
-  plan = rw c.mode_of.ensures.planned at c.run_on.ensures.planned;
+  run = rw c.mode_of.ensures.planned at c.run_on.ensures.run;
 })
 
 pub returns-then-running-clause-recorded : goal.returns-then-running-clause-recorded
@@ -48,6 +46,3 @@ returns-then-running-clause-recorded g c = λ asked.
 
 pub returns-clause-recorded : goal.returns-clause-recorded
 returns-clause-recorded g c = λ asked. c.run_on.ensures.recorded (c.mode_of.ensures.recorded ∙ asked)
-
-pub returns-then-running-clause-named : goal.returns-then-running-clause-named
-returns-then-running-clause-named g c = λ honest. c.in_ok-disk.ensures.named (c.run_once_on.ensures.run honest).0

@@ -2,7 +2,7 @@ use Rattle.std.proofs.Common.{◌∙◌, sym, ap, subst}
 use mathlib.Core.List.{IsPrefix}
 use Rattle.im_trace.specs.Ends.{RecordingState}
 use Rattle.im_controller.specs.Lines.{time_at}
-use Rattle.im_controller.specs.Kept.{KeptSince}
+use Rattle.im_controller.specs.Kept.{IsSessionOf, KeptSince}
 use Rattle.im_receipts.proofs.durable.finish_with.Goals as goal
 
 pub returns-clause-begins : goal.returns-clause-begins
@@ -16,6 +16,10 @@ returns-clause-time g c = c.times.ensures.time
 
 pub returns-clause-keeps : goal.returns-clause-keeps
 returns-clause-keeps g c =
-    subst (λ (r : RecordingState). KeptSince _ g.K.Name.origin r.items r.times
-    c.finish-engine.result.engine)
-    (sym (c.times.ensures.same ∙ c.knows.ensures.same)) c.finish-engine.ensures.keeps
+    subst (λ (r : RecordingState). KeptSince _ g.K.Name.origin r.items r.times c.finish_kept-session.result.session)
+    (sym (c.times.ensures.same ∙ c.knows.ensures.same)) c.finish_kept-session.ensures.keeps
+
+pub returns-clause-put : goal.returns-clause-put
+returns-clause-put g c =
+    subst (λ (r : RecordingState). IsSessionOf g.D.Disk g.K.Name.origin r.items c.finish_kept-session.result.session)
+    (sym (c.times.ensures.same ∙ c.knows.ensures.same)) c.finish_kept-session.ensures.put

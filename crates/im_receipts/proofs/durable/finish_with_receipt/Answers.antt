@@ -1,19 +1,23 @@
 use Rattle.std.proofs.Common.{◌∙◌, List, sym, ap, subst}
 use mathlib.Core.List.{IsPrefix}
 use Rattle.im_types.specs.declared.commands.Line.{Line}
+use Rattle.im_types.specs.Contents.{Contents}
+use Rattle.im_laws.specs.Entries.{IsToldAgainOrForgotten}
 use Rattle.im_controller.specs.Lines.{time_at}
-use Rattle.im_receipts.proofs.DurableLemmas.{means_past, told_later, is_left_at}
+use Rattle.im_receipts.proofs.DurableLemmas.{means_past, memory_with, told_later, is_left_at}
 use Rattle.im_receipts.proofs.durable.finish_with_receipt.Goals as goal
 
 pub returns : goal.returns
 returns g c = record {
-  keeps = λ honest began.
-      let m = g.K.Name.origin.memory in
+  keeps = λ honest.
+      let k = g.K.Name.origin in
+      let m = k.memory in
       let receipt = c.args.receipt.now in
       let trace = c.finish_with.result.trace in
       let it = c.outcome-outcome.ensures in
       let ends = c.finish_with.ensures in
-      let kept = ends.keeps honest began in
+      let kept = ends.keeps honest in
+      let s = c.finish_with.result.session in
       let begins = subst (λ (h : List Line). IsPrefix h trace.items) c.history.ensures ends.begins in
       let time = sym c.when.ensures.time ∙ ends.time ∙ ap (λ n. time_at trace.times n) c.when.ensures.lines in
       let left = is_left_at trace.items trace.times receipt.history _ receipt.time begins it.last time in
@@ -21,12 +25,15 @@ returns g c = record {
         begins = begins;
         by = kept.by receipt.history receipt.time left;
         since = λ file since.
-            let past = means_past m g.K.Name.origin.begun.count receipt.history trace.items kept.kept.doubt file begins
+            let past = means_past g.D.Disk k receipt.history trace.items s ends.put file begins
             (kept.since receipt.history receipt.time left file since) in
             record {
               later = past.later;
               means = past.means;
-              again = told_later c.repeat_is_told_again.ensures m ends.memory.agrees receipt it.legal it.last past.later;
+              again = λ r entry gives. subst (λ (n : Contents). IsToldAgainOrForgotten n r entry)
+                  (sym (memory_with g.D.Disk k receipt.history trace.items s ends.put past.later))
+                  (told_later c.repeat_is_told_again.ensures m ends.memory.agrees receipt it.legal it.last past.later r
+                  entry gives);
             };
       };
 }

@@ -9,11 +9,11 @@ use Rattle.im_receipts.proofs.timed.finish_with_two.Goals as goal
 
 pub returns : goal.returns
 returns g c = record {
-  order = λ honest began begins.
+  order = λ honest begins.
       let one = c.args.one.now in
       let two = c.args.two.now in
-      let trace = c.finish-engine.result.trace in
-      let kept = c.finish-engine.ensures.keeps honest began in
+      let trace = c.finish_kept-session.result.trace in
+      let kept = c.finish_kept-session.ensures.keeps honest in
       let same = c.knows.ensures.same in
       let later = subst (λ (h : List Line). IsPrefix h trace.items) c.history.ensures c.knows.ensures.known in
       both-at one.time two.time (time_at trace.times (length one.history)) (time_at trace.times (length two.history))

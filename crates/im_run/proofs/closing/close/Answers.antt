@@ -6,9 +6,6 @@ use Rattle.im_run.specs.Running.{Closes}
 use Rattle.im_run.proofs.RunningLemmas.{closed_by}
 use Rattle.im_run.proofs.closing.close.Goals as goal
 
-pub returns-clause-means : goal.returns-clause-means
-returns-clause-means g c = λ honest works. c.close.ensures.means honest works
-
 pub returns-clause-printed : goal.returns-clause-printed
 returns-clause-printed g c =
     let t = c.print_finals-told in

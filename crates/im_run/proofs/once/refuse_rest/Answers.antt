@@ -1,4 +1,5 @@
 use Rattle.std.proofs.Common.{◌++◌, subst, sym}
+use Rattle.im_session.specs.Kept.{Kept, SessionState}
 use Rattle.im_text.specs.declared.lines.Lines.{Lines}
 use Rattle.im_text.specs.Printing.{Prints}
 use Rattle.im_text.proofs.PrintingLemmas.{prints_begins}
@@ -10,3 +11,7 @@ returns-clause-last g c = λ start text it.
     let end = f.ensures.last start text (subst (λ (l : Lines). Prints start (g.W.Write.contents c.args.out.now) l text)
     (sym c.leave-session.ensures.lines) it) in
     (end.0, (end.1.0, prints_begins start (g.W.Write.contents f.new.out) f.new.lines (text ++ end.0) end.1.1))
+
+pub returns-clause-kept : goal.returns-clause-kept
+returns-clause-kept g c = subst (λ (s : SessionState g.row.D.Denot). Kept g.D.Disk s) c.leave-session.ensures.session
+    c.close.ensures.kept

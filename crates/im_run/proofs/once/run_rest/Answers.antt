@@ -1,5 +1,4 @@
-use Rattle.std.proofs.Common.{◌∙◌, inl, inr, ap, refl, subst}
-use Rattle.im_session.specs.Kept.{SessionState}
+use Rattle.std.proofs.Common.{inl, inr, refl}
 use Rattle.im_serial.specs.Asked.{wanted_of}
 use Rattle.im_serial.specs.Serving.{seen_by}
 use Rattle.im_run.proofs.RestLemmas.{bases_rest, ready_rest, rest_by, unrun_by}
@@ -13,7 +12,7 @@ run_server-requires-clause-ready g c κs within =
     let s = c.show_past.new.self in
     let mid = seen_by s (g.W.Write.contents c.show_past.new.out) in
     ready_rest g.D.Disk (wanted_of c.args.asked.script.now) old mid was.bases.items c.requires.ready s.bases.items
-    c.in-Ok.ensures.shown c.requires.fresh c.new-none.result.items c.new-none.ensures.items
+    c.in-Ok.ensures.shown c.new-none.result.items c.new-none.ensures.items
 
 pub run_server-requires-clause-bases : goal.run_server-requires-clause-bases
 run_server-requires-clause-bases g c κs within =
@@ -26,32 +25,25 @@ run_server-requires-clause-bases g c κs within =
     c.in-Ok.ensures.shown c.args.asked.script.now refl
 
 pub returns-in-Ok-clause-ends : goal.returns-in-Ok-clause-ends
-returns-in-Ok-clause-ends g c = λ honest.
+returns-in-Ok-clause-ends g c =
     let was = c.args.server in
     let old = seen_by was (g.W.Write.contents c.args.out.now)
     in
     let s = c.show_past.new.self in
     let mid = seen_by s (g.W.Write.contents c.show_past.new.out) in
-    let r = c.run_server in (
-      subst (λ (x : SessionState g.row.D.Denot). g.D.Disk.honest x.engine.disk) c.show_past.ensures.session
-          (r.ensures.honest honest),
-      inr (rest_by g.D.Disk (wanted_of c.args.asked.script.now) old mid was.bases.items c.requires.ready s.bases.items
-          c.in-Ok.ensures.shown c.args.asked.mode.planned c.args.asked.script.now refl c.in-Ok.ensures.fit r.result.1
-          (g.W.Write.contents r.new.out) r.result.2 r.result.0 (r.ensures.run honest)),
-    )
+    let r = c.run_server in
+    inr (rest_by g.D.Disk (wanted_of c.args.asked.script.now) old mid was.bases.items c.requires.ready s.bases.items
+    c.in-Ok.ensures.shown c.args.asked.mode.planned c.args.asked.script.now refl c.in-Ok.ensures.fit r.result.1
+    (g.W.Write.contents r.new.out) r.result.2 r.result.0 r.ensures.run)
 
 pub returns-in-Err-clause-ends : goal.returns-in-Err-clause-ends
-returns-in-Err-clause-ends g c = λ honest.
+returns-in-Err-clause-ends g c =
     let was = c.args.server in
     let old = seen_by was (g.W.Write.contents c.args.out.now)
     in
     let s = c.show_past.new.self in
     let mid = seen_by s (g.W.Write.contents c.show_past.new.out) in
-    let k = c.refuse_rest-status in (
-      subst g.D.Disk.honest (k.ensures.disk ∙ ap (λ (x : SessionState g.row.D.Denot). x.engine.disk)
-          c.show_past.ensures.session) honest,
-      inl (unrun_by g.D.Disk (wanted_of c.args.asked.script.now) old mid was.bases.items c.requires.ready
-          c.show_past.ensures.session c.in-Err.ensures.shown c.in-Err.ensures.fit k.result.1
-          (g.W.Write.contents k.new.out) c.new.result k.result.0 k.ensures.status k.ensures.disk k.ensures.last
-          c.new.ensures),
-    )
+    let k = c.refuse_rest-status in
+    inl (unrun_by g.D.Disk (wanted_of c.args.asked.script.now) old mid was.bases.items c.requires.ready
+    c.show_past.ensures.session k.ensures.kept c.in-Err.ensures.shown c.in-Err.ensures.fit k.result.1
+    (g.W.Write.contents k.new.out) c.new.result k.result.0 k.ensures.status k.ensures.disk k.ensures.last c.new.ensures)

@@ -1,11 +1,11 @@
 -- Where the controller begins, over a disk that is always honest.
-use Rattle.std.specs.Prelude.{false}
+use Rattle.std.specs.Prelude.{false, length}
 use Rattle.im_stories_threads.proofs.acts.act_on.Given as goal
 
 abbrev pub ghosts-act_named : goal.ghosts-act_named
-ghosts-act_named g a = let e = a.opening.engine in record {
+ghosts-act_named g a = let s = a.opening.session in record {
   origin = record {
-    memory = e.memory;
+    memory = s.engine.memory;
     plan = a.opening.plan;
     marks = λ _. false;
     lines_name = a.opening.lines_name;
@@ -13,12 +13,15 @@ ghosts-act_named g a = let e = a.opening.engine in record {
     ports = a.opening.ports;
     book = a.opening.book;
     begun = record {
-      now = e.disk.disk.moment;
-      past = e.disk.disk.past;
-      failures = e.disk.disk.failures;
-      count = e.count;
-      failed = e.failed;
+      now = s.start.disk.disk.moment;
+      past = s.start.disk.disk.past;
+      failures = s.start.disk.disk.failures;
+      memory = s.start.memory;
+      count = s.start.count;
     };
+    first = s.put;
+    time = length s.engine.disk.disk.past;
+    failed = s.engine.failed;
     honest = Unit {0};
   };
 }

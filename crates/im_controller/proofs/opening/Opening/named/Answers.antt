@@ -2,18 +2,21 @@ use Rattle.std.proofs.Common.{◌≡◌, ◌∙◌, List, Option, ap, rules, sub
 use Rattle.im_types.specs.declared.commands.Line.{Line}
 use Rattle.im_types.specs.declared.commands.Request.{Request}
 use Rattle.im_types.specs.Contents.{Contents}
-use Rattle.im_controller.specs.Kept.{Begun}
+use Rattle.im_engine.specs.State.{EngineState}
 use Rattle.im_trace.specs.Books.{BookNames}
 use Rattle.im_trace.specs.Chains.{IsOpened}
 use Rattle.im_controller.specs.Planned.{StartsBy, KeepsTo}
+use Rattle.im_controller.specs.State.{OpeningState}
 use Rattle.im_controller.proofs.PlannedLemmas.{keeps-start}
-use Rattle.im_controller.proofs.KeptLemmas.{keeps_first, origin-by}
+use Rattle.im_controller.proofs.KeptLemmas.{origin-by, session_first, times_first}
 use Rattle.im_controller.proofs.opening.Opening.named.Goals as goal
 
 pub named-log-requires : goal.named-log-requires
 named-log-requires g c =
     let from = origin-by g.D.Disk _ _ g.K.Name.origin c.self.view_is c.requires.origin in record {
-      memory = subst IsOpened (c.memory.ensures ∙ from.memory) c.cells-cells.ensures.memory;
+      memory = subst IsOpened
+          (c.memory.ensures ∙ ap (λ (x : EngineState g.row.D.Denot). x.memory) c.engine.ensures.state ∙ from.memory)
+          c.cells-cells.ensures.memory;
       lines = from.lines;
       marked = from.marked;
       ports = from.ports;
@@ -27,19 +30,31 @@ named-pane-requires g c =
 
 pub invariant_of-shared : goal.invariant_of-shared
 invariant_of-shared g c =
-    let i = c.self.invariant in let begins = c.named-log.ensures.trace in let e = c.self.inside.engine in
-    let k = g.K.Name.origin in let m = g.K.Name.origin.memory in
-    let from = origin-by g.D.Disk _ _ g.K.Name.origin c.self.view_is c.requires.origin in
-    let memory : c.self.inside.engine.memory ≡ g.K.Name.origin.memory = from.memory in (
+    let i = c.self.invariant in let begins = c.named-log.ensures.trace in
+    let k = g.K.Name.origin in let m = k.memory in
+    let opening : OpeningState g.row.D.Denot = record {
+      session = c.self.inside.session;
+      limit = c.self.inside.parts.log.limit;
+      ports = c.self.inside.parts.log.ports;
+      lines_name = c.self.inside.parts.log.lines_name;
+      marked_name = c.self.inside.parts.log.marked_name;
+      book = record {
+        shown = c.self.inside.pane.book;
+        lines = c.self.inside.parts.log.book;
+        recorded = c.self.inside.parts.log.recorded;
+      };
+      plan = c.self.inside.plan;
+    } in
+    let from = origin-by g.D.Disk opening _ k c.self.view_is c.requires.origin in
+    let kept = c.engine.ensures.kept in
+    let memory : c.self.inside.session.engine.memory ≡ m = from.memory in (
       search rules,
       search rules,
       search rules,
       search rules,
-      from.honest,
-      (λ honest began.
-          let alive = ap (λ (b : Begun). b.failed) from.begun ∙ began in
-          keeps_first g.D.Disk k.begun m k.plan c.named-log.result.0.state.trace c.named-log.result.0.times e begins.0
-          begins.1 from.begun memory alive (c.failed-failed.ensures.means honest alive)),
+      session_first g.D.Disk k c.named-log.result.0.state.trace opening begins.0 from kept,
+      (λ honest. times_first g.D.Disk k c.named-log.result.0.state.trace c.named-log.result.0.times opening begins.0
+          begins.1 from kept honest),
       c.named-log.ensures.reserve ∙ sym from.ports ∙ i.2,
       from.plan,
       subst (λ (ls : List Line). KeepsTo m k.plan ls) (sym begins.0)

@@ -1,7 +1,7 @@
 use Rattle.std.proofs.Common.{refl}
 use Rattle.im_session.proofs.CallLemmas.{sweep_goes}
-use Rattle.im_session.proofs.KeptLemmas.{count_stays, kept_still, memory_stays}
-use Rattle.im_session.proofs.session.Session.sweep.Goals as goal
+use Rattle.im_session.proofs.KeptLemmas.{count_stays, keeps_still, kept_still, memory_stays}
+use Rattle.im_session.proofs.session.Session.sweep_kept.Goals as goal
 
 pub invariant_of-self : goal.invariant_of-self
 invariant_of-self g c =
@@ -24,3 +24,10 @@ returns-clause-same g c =
       memory = memory_stays g.D.Disk c.self.inside.engine c.sweep.new.self goes;
       count = count_stays g.D.Disk c.self.inside.engine c.sweep.new.self goes;
     })
+
+pub returns-clause-keeps : goal.returns-clause-keeps
+returns-clause-keeps g c = let e = c.sweep.ensures in rw (← c.self.view_is) (keeps_still g.D.Disk c.self.inside.start
+    c.self.inside.calls.sure c.self.inside.calls.doubt c.self.inside.engine c.sweep.new.self c.self.invariant
+    (sweep_goes g.D.Disk c.self.inside.engine c.sweep.new.self
+    (record { since = e.leaves; now = e.now; means = e.means; honest = e.honest }) c.args.most c.sweep.result e.answered
+    e.faults))

@@ -8,9 +8,9 @@ use Rattle.im_trace.specs.Ends.{RecordingState}
 use Rattle.im_trace.specs.Lines.{LineCounts}
 use Rattle.im_controller.specs.Planned.{EndsBy}
 use Rattle.im_controller.specs.State.{PortState}
-use Rattle.im_controller.specs.Kept.{HasKept, KeepsSince, accepted_in}
+use Rattle.im_controller.specs.Kept.{IsSessionOf, KeepsSince}
 use Rattle.im_controller.proofs.PlannedLemmas.{ends-by}
-use Rattle.im_controller.proofs.finishing.finish.Goals as goal
+use Rattle.im_controller.proofs.finishing.finish_kept.Goals as goal
 
 pub returns-clause-came : goal.returns-clause-came
 returns-clause-came g c =
@@ -62,32 +62,29 @@ returns-clause-came g c =
           };
     }
 
-pub returns-clause-kept : goal.returns-clause-kept
-returns-clause-kept g c = λ honest began.
-    let s = c.engine.inside in
+pub returns-clause-put : goal.returns-clause-put
+returns-clause-put g c =
+    let s = c.session.inside in
     let items = ap (λ (r : RecordingState). r.items) c.close-trace.ensures.trace ∙ c.take_all_back.ensures.trace.0
     ∙ c.of-log.ensures.trace.0 in
-    subst (λ (ls : List Line). HasKept g.D.Disk.now g.D.Disk.past g.D.Disk.failures g.K.Name.origin.begun
-    g.K.Name.origin.memory
-    g.K.Name.origin.plan (accepted_in g.K.Name.origin.memory ls) s.engine) (sym items)
-    (c.engine.invariant.5 honest began).kept
+    subst (λ (ls : List Line). IsSessionOf g.D.Disk g.K.Name.origin ls s.session) (sym items) c.session.invariant.4
 
 pub returns-clause-keeps : goal.returns-clause-keeps
-returns-clause-keeps g c = λ honest began.
-    let s = c.engine.inside in
+returns-clause-keeps g c = λ honest.
+    let s = c.session.inside in
     let items = ap (λ (r : RecordingState). r.items) c.close-trace.ensures.trace ∙ c.take_all_back.ensures.trace.0
     ∙ c.of-log.ensures.trace.0 in
     let times = ap (λ (r : RecordingState). r.times) c.close-trace.ensures.trace ∙ c.take_all_back.ensures.trace.1
     ∙ c.of-log.ensures.trace.1 in
-    subst (λ (ls : List Line). KeepsSince g.D.Disk g.K.Name.origin.begun g.K.Name.origin.memory
-    g.K.Name.origin.plan ls c.close-trace.result.0.times s.engine) (sym items)
-    (subst (λ (ts : List ℕ). KeepsSince g.D.Disk g.K.Name.origin.begun g.K.Name.origin.memory
-    g.K.Name.origin.plan s.log.state.trace ts s.engine) (sym times) (c.engine.invariant.5 honest began))
+    subst (λ (ls : List Line). KeepsSince g.D.Disk g.K.Name.origin ls c.close-trace.result.0.times s.session)
+    (sym items)
+    (subst (λ (ts : List ℕ). KeepsSince g.D.Disk g.K.Name.origin s.log.state.trace ts s.session) (sym times)
+    (c.session.invariant.5 honest))
 
 pub returns-clause-planned : goal.returns-clause-planned
 returns-clause-planned g c =
-    let s = c.engine.inside in let i = c.engine.invariant in
+    let s = c.session.inside in let i = c.session.invariant in
     let same = ap (λ (r : RecordingState). r.items) c.close-trace.ensures.trace ∙ c.take_all_back.ensures.trace.0
     ∙ c.of-log.ensures.trace.0 in
-    subst (λ (ls : List Line). EndsBy g.K.Name.origin.memory g.K.Name.origin.plan ls s.engine.memory) (sym same)
-    (ends-by g.K.Name.origin.memory g.K.Name.origin.plan s.log.state.trace s.engine.memory i.8 i.0)
+    subst (λ (ls : List Line). EndsBy g.K.Name.origin.memory g.K.Name.origin.plan ls s.session.engine.memory) (sym same)
+    (ends-by g.K.Name.origin.memory g.K.Name.origin.plan s.log.state.trace s.session.engine.memory i.8 i.0)
