@@ -196,9 +196,9 @@ told_nothing (answer.About about) = refl
 told_nothing (answer.Backup name kept) = refl
 told_nothing (answer.Wrong number fault) = refl
 
-back : (a : Result Outcome Refusal) → served_answer (as_served a) ≡ a
-back (Ok outcome) = refl
-back (Err refusal) = refl
+member_answered : (s : Served) (a : Result Outcome Refusal) → s ≡ as_served a → served_answer s ≡ a
+member_answered s (Ok outcome) is = ap served_answer is
+member_answered s (Err refusal) is = ap served_answer is
 
 pub mapped_none : {X Y : Type 0} (f : X → Y) (xs : List X) → length xs ≡ 0 → length (map f xs) ≡ 0
 mapped_none f [] none = refl
@@ -309,7 +309,7 @@ module _ (watch : Bool) (b : GroupStart) where
         on rest all k first are =
             let head : a ≡ as_served (answer_with M L c) = cc in
             let tail : answers ≡ map as_served (answers_with (contents_with M L c) (places_behind M L c) rest) = cc in
-            let result : served_answer a ≡ answer_with M L c = ap served_answer head ∙ back (answer_with M L c) in
+            let result : served_answer a ≡ answer_with M L c = member_answered a (answer_with M L c) head in
             record {
               ahead = telling.ahead ++ c ∷ [];
               shown = telling.shown ++ Member c ∷ [];
