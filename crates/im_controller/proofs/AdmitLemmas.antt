@@ -26,7 +26,8 @@ use Rattle.im_trace.specs.Lines.{leaves_line, line_of, left_lines, times_of}
 use Rattle.im_trace.specs.Log.{sender_of, LogState, TimedLog, GoesOnAt, with_unclaimed}
 use Rattle.im_queue.specs.Members.{AreOfOthers, AreOneOfEach, AreSureBehind, IsSure, IsCut, are_joined, AreFreeFor}
 use Rattle.im_controller.specs.Lends.{changes_put}
-use Rattle.im_controller.specs.Groups.{served_answer, changes_put_all, MembersAnswered}
+use Rattle.im_session.specs.Serving.{served_answer}
+use Rattle.im_controller.specs.Groups.{changes_put_all, MembersAnswered}
 use Rattle.im_controller.specs.Planned.{has_command, AreOnPlan, StartsBy, KeepsTo}
 use Rattle.im_controller.specs.Admitted.{free_lines, places_with, is_asked, is_off, IsVerdict, places_after}
 use Rattle.im_controller.specs.Admitted.{AreVerdicts, lent_of, with_refused, Admits}

@@ -21,7 +21,8 @@ use Rattle.im_groups.specs.Commands.{contents_after_all}
 use Rattle.im_groups.proofs.CommandLemmas.{at-after}
 use Rattle.im_engine.specs.Commands.{commands_put, after_commands, each_refused, answers_in_turn, CommandsAnswered}
 use Rattle.im_trace.specs.Lines.{leaves_line, memory_after}
-use Rattle.im_controller.specs.Groups.{served_answer, IsAnswerTo, AreAnswersTo, memory_after_all, lines_left}
+use Rattle.im_session.specs.Serving.{served_answer}
+use Rattle.im_controller.specs.Groups.{IsAnswerTo, AreAnswersTo, memory_after_all, lines_left}
 use Rattle.im_controller.specs.Groups.{MembersAnswered}
 use Rattle.im_controller.proofs.LendLemmas.{ok-leaves, same_by}
 

@@ -38,13 +38,13 @@ use Rattle.im_groups.specs.Commands.{commands_at, takes_place}
 use Rattle.im_session.specs.Put.{sure_by, doubted_by, sure_of, doubted_of}
 use Rattle.im_session.specs.Kept.{Kept, SessionStart, SessionState}
 use Rattle.im_session.specs.Keeping.{KeepsPut, KeptFrom}
-use Rattle.im_session.specs.Serving.{Rests, served_one, served_together}
+use Rattle.im_session.specs.Serving.{Rests, served_one, served_together, served_answer}
 use Rattle.im_session.proofs.ServedLemmas.{unsure}
 use Rattle.im_session.proofs.KeepingLemmas.{now_kept, still_kept}
 use Rattle.im_trace.specs.Lines.{leaves_line, line_of, left_lines, time_at, times_of, NeverGoBack}
 use Rattle.im_trace.specs.Log.{TimedLog, GoesOnAt}
 use Rattle.im_trace.proofs.TimeLemmas.{time-later, time-new, none-back, more-back}
-use Rattle.im_controller.specs.Groups.{served_answer, MembersAnswered, MembersPut}
+use Rattle.im_controller.specs.Groups.{MembersAnswered, MembersPut}
 use Rattle.im_controller.specs.Lends.{IsTurnFault, told_turn}
 use Rattle.im_controller.specs.Kept.{begun_by, accepted_in, IsSessionOf}
 use Rattle.im_controller.specs.Kept.{IsLeftAt, KeepsSince, IsOriginOf}

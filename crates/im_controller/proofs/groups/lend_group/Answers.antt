@@ -9,7 +9,8 @@ use Rattle.im_controller.specs.Admitted.{Admits, free_lines, places_with}
 use Rattle.im_controller.specs.State.{SharedState}
 use Rattle.im_controller.specs.Kept.{IsSessionOf, KeepsSince}
 use Rattle.im_controller.specs.Planned.{KeepsTo}
-use Rattle.im_controller.specs.Groups.{served_answer, with_all_unclaimed, memory_after_all, LendsGroup, changes_put_all}
+use Rattle.im_session.specs.Serving.{served_answer}
+use Rattle.im_controller.specs.Groups.{with_all_unclaimed, memory_after_all, LendsGroup, changes_put_all}
 use Rattle.im_controller.proofs.AdmitLemmas.{admit-sure, keeps-members}
 use Rattle.im_controller.proofs.ShownLemmas.{end-cells}
 use Rattle.im_controller.proofs.PlannedLemmas.{keeps-starts}
