@@ -107,13 +107,13 @@ module _ {D : Type 0} (disk : Ghosts D) (limits : Limits) (planned : Bool) (text
         (planned_stops earlier holds).run many)).after
 
     plan_ends : status ≡ 0 → LeavesNow (disk.now it.run.engine.disk) (MeansPlanDone limits text)
-    plan_ends zero =
+    plan_ends well =
         let found = planned_found in
-        let works = it.run.works (inl zero) in
+        let works = it.run.works (inl well) in
         ends_with disk run_session it.run.kept h works (HasDoneByPlan limits text) found.earlier found.count
         (subst (λ (l : List Command). HasDoneByPlan limits text (found.earlier ++ l) (after start.memory l))
         (all_sure disk run_session it.run.kept h works)
-        ((planned_stops found.earlier found.holds).done zero (it.run.kept.sure works)))
+        ((planned_stops found.earlier found.holds).done well (it.run.kept.sure works)))
 
   -- by a plan or freely
   module _ (before : LeavesNow (disk.now start.disk) (MeansAccepted limits)) where
@@ -125,21 +125,21 @@ module _ {D : Type 0} (disk : Ghosts D) (limits : Limits) (planned : Bool) (text
         (accept_both (new_memory limits) start.memory (after start.memory all) earlier all holds accepts) many)).after
 
     run_ends : status ≡ 0 → LeavesNow (disk.now it.run.engine.disk) (MeansServed limits text)
-    run_ends zero =
+    run_ends well =
         let found = began_with disk (LeadTo limits) run_session it.run.kept h before in
-        let works = it.run.works (inl zero) in
+        let works = it.run.works (inl well) in
         ends_with disk run_session it.run.kept h works (HasAll limits text) found.earlier found.count
         (has_all limits text found.earlier start.memory found.holds it.fit planned it.run.setup it.run.put calls.served
         status it.run.printed.did
         (subst (λ (l : List Command). accept_each start.memory l ≡ Some (after start.memory l))
-        (all_sure disk run_session it.run.kept h works) accepts) it.run.put_is it.run.doubt zero it.run.tells)
+        (all_sure disk run_session it.run.kept h works) accepts) it.run.put_is it.run.doubt well it.run.tells)
 
 -- ---- one run more
 
 module _ {D : Type 0} (disk : Ghosts D) (planned : Bool) (text : List ℕ) (was is : Option (List ℕ))
     (calls : TraceState) (status : ℕ) where
   no_end : status ≡ 1 → status ≡ 0 → ⊥
-  no_end one zero = omega (arith, one, zero)
+  no_end one well = omega (arith, one, well)
 
   -- a crash leaves what it could leave before, or what the same commands lead to
   keeps_all : (old new : D) → status ≡ 1 → ((P : List Command → Contents → Type 0)

@@ -1,5 +1,5 @@
 -- What a run of element servers prints, and what its session puts on a disk. (Own.)
-use Rattle.std.specs.Prelude.{◌≡◌, ◌⊎◌, ℕ, Bool, ◌<◌, ◌≤◌, List, [], ◌++◌, codes, decimal, false, true}
+use Rattle.std.specs.Prelude.{◌≡◌, ◌⊎◌, ℕ, Bool, ◌<◌, ◌≤◌, List, [], ◌∷◌, ◌++◌, codes, decimal, false, true}
 use Rattle.std.specs.Prelude.{length, Option, None, Some, Result, Ok, Err, slice_get}
 use Rattle.std.specs.Io.KnownBytes.{Appends}
 use Rattle.im_damage.specs.declared.damage.Damage.TheVariants.{Unknown}
