@@ -95,7 +95,6 @@ impl Arena {
     }
 
     /// Returns the number of nodes that hold no waiter.
-    #[inline(always)]
     pub fn free_count(&self) -> u32
         ensures free { result ≡ free self.now.held }
         ensures sum { result + sum_by length self.now.held.lists ≡ self.now.held.nodes }
@@ -104,7 +103,6 @@ impl Arena {
     }
 
     /// Returns whether no node is free.
-    #[inline(always)]
     pub fn is_full(&self) -> bool
         ensures { IsTrue result ↔ (free self.now.held ≡ 0) }
     {
@@ -112,7 +110,6 @@ impl Arena {
     }
 
     /// Returns whether a list has no waiter.
-    #[inline(always)]
     pub fn is_empty(&self, list: u32) -> bool
         requires { list < length self.now.held.lists }
         ensures { IsTrue result ↔ (list_at self.now.held list ≡ []) }

@@ -39,7 +39,6 @@ pub(crate) struct Row {
 const _: () = prove!(size_of::<Row>() == 8);
 
 impl Node {
-    #[inline(always)]
     pub(crate) fn with(waiter: Waiter) -> Node
         ensures { result ≡ used_node waiter }
     {
@@ -51,7 +50,6 @@ impl Node {
         }
     }
 
-    #[inline(always)]
     pub(crate) fn free() -> Node
         ensures { result ≡ free_node }
     {
@@ -63,7 +61,6 @@ impl Node {
         }
     }
 
-    #[inline(always)]
     pub(crate) fn waiter(&self) -> Waiter
         ensures { result ≡ waiter_in self.now }
     {
@@ -125,7 +122,6 @@ impl Row {
     }
 
     // Returns the row without its first node, whose link was `next`.
-    #[inline(always)]
     fn without_first(self, next: u32) -> Row
         ensures { Detached self.last next result }
     {
@@ -137,7 +133,6 @@ impl Row {
 }
 
 // Links a node behind the last one of a row, and returns the longer row.
-#[inline(always)]
 fn attach(nodes: &mut [Node], row: Row, node: u32) -> Row
     requires { row.last ≢ NONE → row.last < length nodes.old }
     ensures { Attached nodes.old nodes.new row.first row.last node result }

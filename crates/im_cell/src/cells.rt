@@ -107,7 +107,6 @@ impl Cells {
     }
 
     /// Returns the base of a cell's block.
-    #[inline(always)]
     pub(crate) fn base(&self, at: usize) -> u32
         requires { IsSome (slot_at self.now at) }
         ensures { result ≡ base_in (slot_at self.now at) }
@@ -116,7 +115,6 @@ impl Cells {
     }
 
     /// Puts another content into a cell in a block. Returns whether requests waited for it before.
-    #[inline(always)]
     pub(crate) fn set(&mut self, at: usize, cell: Cell) -> bool
         requires { IsSome (slot_at self.old at) }
         ensures set { self.new ≡ slice_set self.old at (with_cell cell (slot_at self.old at)) }

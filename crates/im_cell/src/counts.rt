@@ -13,7 +13,6 @@ use im_holes::Holes;
 use im_types::{Block, Cell};
 
 // Adds 1 to the count of the block with this base, or takes 1 from it.
-#[inline(always)]
 fn recount(holes: &mut Holes, base: u32, more: bool)
     requires held { (n : ℕ) × (holder_at holes.old base ≡ Some n) × CanMove more n }
     ensures { (n : ℕ) → holder_at holes.old base ≡ Some n
@@ -23,7 +22,6 @@ fn recount(holes: &mut Holes, base: u32, more: bool)
     holes.set_number(base, next_number(number, more));
 }
 
-#[inline(always)]
 fn next_number(number: u32, more: bool) -> u32
     requires { CanMove more number }
     ensures { result ≡ moved more number }

@@ -11,7 +11,6 @@ use crate::unit::{UNIT, Unit};
 use im_types::Cell;
 
 /// Returns what stands for the cells of a unit.
-#[inline(always)]
 pub(crate) fn unit_of(units: &[Unit], j: usize) -> Unit
     requires { j < length units.now }
     ensures { result ≡ unit_at units.now j }
@@ -109,7 +108,6 @@ fn write_out_around(units: &mut [Unit], cells: &mut Cells, at: usize)
 }
 
 // Gives each cell of the unit of a cell its own record, unless it has one.
-#[inline(always)]
 fn give_records(units: &mut [Unit], cells: &mut Cells, at: usize)
     requires inside { at / UNIT < length units.old }
     requires few { length units.old < 2 ^ 32 }

@@ -38,7 +38,6 @@ pub(crate) struct Extent {
 
 impl Extent {
     /// Returns the block of this kind at this place.
-    #[inline(always)]
     pub(crate) fn block(self, kind: Kind) -> Block
         ensures { result ≡ block_by_extent self kind }
     {
@@ -53,7 +52,6 @@ pub(crate) const NOWHERE: Extent = Extent { base: 0, length: 0 };
 const _: () = prove!(size_of::<State>() <= 1);
 
 /// Returns the state of a cell in a block of this kind.
-#[inline(always)]
 pub(crate) fn state_of(kind: Kind, cell: Cell) -> State
     ensures { result ≡ state_for kind cell }
 {
@@ -74,7 +72,6 @@ pub(crate) fn state_of(kind: Kind, cell: Cell) -> State
 }
 
 /// Returns the value in a cell, or 0 if it has none.
-#[inline(always)]
 pub(crate) fn value_in(cell: Cell) -> u64
     ensures { result ≡ value_of cell }
 {
@@ -85,7 +82,6 @@ pub(crate) fn value_in(cell: Cell) -> u64
 }
 
 /// Returns whether requests wait for a cell.
-#[inline(always)]
 pub(crate) fn is_waited_for(cell: Cell) -> bool
     ensures { result ≡ cell_waits cell }
 {
@@ -94,7 +90,6 @@ pub(crate) fn is_waited_for(cell: Cell) -> bool
 
 impl State {
     /// Returns the kind of the cell's block, or I for a free cell.
-    #[inline(always)]
     pub(crate) fn kind(self) -> Kind
         ensures { result ≡ tag_kind self }
     {
@@ -113,7 +108,6 @@ impl State {
     }
 
     /// Returns whether requests wait for the cell.
-    #[inline(always)]
     pub(crate) fn is_waiting(self) -> bool
         ensures { (value : ℕ) (extent : Extent) → result ≡ is_waiting_slot (state_slot self value extent) }
     {
@@ -121,7 +115,6 @@ impl State {
     }
 
     /// Returns the slot of a cell with this state, in a block at this place. Returns `None` for a free cell.
-    #[inline(always)]
     pub(crate) fn slot(self, value: u64, extent: Extent) -> Option<Slot>
         ensures { result ≡ state_slot self value extent }
     {

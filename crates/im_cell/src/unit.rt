@@ -39,7 +39,6 @@ impl Unit {
     }
 
     /// Returns whether each cell has its own record.
-    #[inline(always)]
     pub(crate) fn is_own(self) -> bool
         ensures { result ≡ is_own self }
     {

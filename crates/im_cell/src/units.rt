@@ -82,7 +82,6 @@ impl CellUnits {
     }
 
     /// Returns the base of the block at an address.
-    #[inline(always)]
     pub(crate) fn base(&self, a: u32) -> u32
         requires { IsSome (slot_at self.now a) }
         ensures { result ≡ base_in (slot_at self.now a) }

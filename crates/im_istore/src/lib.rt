@@ -27,7 +27,6 @@ use im_cell::{CellTable, Slot};
 use im_types::{Cell, Entry, Kind, Reply, Waiter};
 
 // Returns the cell of a slot in a block of this kind.
-#[inline(always)]
 fn cell_for(found: Option<Slot>, kind: Kind) -> Result<Cell, Reply>
     ensures { result ≡ access_in kind found }
 {

@@ -4,6 +4,7 @@ ghost use Rattle.im_types.specs.declared.operations.Kind.TheVariants.{I, M};
 ghost use Rattle.im_types.specs.Act.{act, allocate, at_cell, block_with_base, put, release_block, reset_block, store};
 ghost use Rattle.im_types.specs.Contents.{held_at};
 ghost use Rattle.im_types.specs.declared.commands.Judged.TheVariants.{Fresh};
+ghost use Rattle.im_types.specs.declared.operations.Entry.TheVariants.{Answered};
 ghost use Rattle.im_types.specs.Window.{judge, note, answer_each};
 ghost use Rattle.im_laws.specs.Blocks.{TellsOnly};
 ghost use Rattle.im_cell.specs.declared.slots.Slot.{Slot};
@@ -41,7 +42,6 @@ pub struct Acted {
 }
 
 // Returns the effect of an operation that answers no waiting request.
-#[inline(always)]
 fn told(entry: Entry) -> Acted
     ensures { result ≡ record { entry = entry; resumed = Resumed.Nobody } }
 {
@@ -165,6 +165,26 @@ fn keep(sessions: &mut Sessions, request: &Request, entry: Entry) -> Acted
     told(entry)
 }
 
+// Keeps the reply of an operation on a block. It takes a copy of the request, so that an access has its own in
+// registers.
+#[inline(never)]
+fn note_reply(sessions: &mut Sessions, request: Request, reply: Reply)
+    requires { judge sessions.old request ≡ Ok Fresh }
+    ensures { sessions.new ≡ note sessions.old request (Answered reply) }
+{
+    sessions.note(&request, Entry::Answered(reply));
+}
+
+// Does what `keep` does for the reply of an operation on a block. These are rarer than accesses.
+fn keep_reply(sessions: &mut Sessions, request: &Request, reply: Reply) -> Acted
+    requires fresh { judge sessions.old request.now ≡ Ok Fresh }
+    ensures told { result ≡ telling reply }
+    ensures noted { sessions.new ≡ note sessions.old request.now result.entry }
+{
+    note_reply(sessions, *request, reply);
+    told(Entry::Answered(reply))
+}
+
 /// Does an asker's operation on the cells, and keeps the new request with its entry. A free node must be there, in case
 /// the asker waits.
 ///
@@ -189,13 +209,9 @@ pub fn act(
     ensures among { AreAmong (places_in table.old arena.old request.now.op) result.resumed arena.new }
 {
     match request.op {
-        Op::Alloc(kind, n) => keep(
-            sessions,
-            request,
-            Entry::Answered(allocate(table, arena, kind, n)),
-        ),
-        Op::Release(a) => keep(sessions, request, Entry::Answered(release(table, arena, a))),
-        Op::Reset(a) => keep(sessions, request, Entry::Answered(reset(table, arena, a))),
+        Op::Alloc(kind, n) => keep_reply(sessions, request, allocate(table, arena, kind, n)),
+        Op::Release(a) => keep_reply(sessions, request, release(table, arena, a)),
+        Op::Reset(a) => keep_reply(sessions, request, reset(table, arena, a)),
         Op::Fetch(a) => keep(sessions, request, fetch(table, arena, a, who)),
         Op::Store(a, value) => {
             let acted = store(table, arena, a, value);

@@ -26,7 +26,6 @@ use im_istore::{look_to_write, wait};
 use im_types::{Cell, Entry, Kind, Reply, Waiter};
 
 // Returns the cell without a value whose waiters are on this list.
-#[inline(always)]
 fn open_cell(arena: &Arena, list: u32) -> Cell
     requires { list < length arena.now.held.lists }
     ensures { result ≡ open_cell (list_at arena.now.held list) }

@@ -145,7 +145,6 @@ impl Sessions {
     }
 
     // Returns an element's window, or `NoElement`.
-    #[inline(always)]
     fn ring(&self, element: u16) -> Result<&Ring, Refusal>
         ensures { MatchResult result
             (λ ring. slice_get self.now element ≡ Some ring.now)

@@ -48,7 +48,6 @@ impl Model for RingPlace {
 const _: () = prove!(size_of::<RingPlace>() == 32);
 
 // Returns a reply as a flat variant.
-#[inline(always)]
 fn held_by(reply: Reply) -> Held
     ensures { result ≡ held_by reply }
 {
@@ -69,7 +68,6 @@ fn held_by(reply: Reply) -> Held
 }
 
 // Returns an entry as a flat variant.
-#[inline(always)]
 fn held_of(entry: Entry) -> Held
     ensures { result ≡ held_form entry }
 {
@@ -80,7 +78,6 @@ fn held_of(entry: Entry) -> Held
 }
 
 // Returns the entry that a flat variant stands for.
-#[inline(always)]
 fn entry_of(held: Held) -> Entry
     ensures { result ≡ held_entry held }
 {
@@ -103,7 +100,6 @@ fn entry_of(held: Held) -> Entry
 
 impl RingPlace {
     /// Makes a place with this operation and this entry.
-    #[inline(always)]
     pub fn new(op: Op, entry: Entry) -> RingPlace
         ensures { result ≡ record { op = op; entry = entry } }
     {
@@ -114,7 +110,6 @@ impl RingPlace {
     }
 
     /// Returns the operation of this place.
-    #[inline(always)]
     pub fn op(&self) -> &Op
         ensures { result.now ≡ self.now.op }
     {

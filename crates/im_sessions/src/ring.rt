@@ -34,7 +34,6 @@ impl Model for Ring {
 }
 
 // Returns the place of the entry with this number.
-#[inline(always)]
 fn place_of(number: u64) -> usize
     ensures { result ≡ ring_place number }
 {
@@ -86,7 +85,6 @@ impl Ring {
     }
 
     /// Returns the base, and the number of the next new request.
-    #[inline(always)]
     pub fn bounds(&self) -> (u64, u64)
         ensures { result ≡ (self.now.base, next_number self.now) }
     {
@@ -207,7 +205,6 @@ impl Ring {
     }
 
     // Returns the place of a number that the window has.
-    #[inline(always)]
     fn at(&self, number: u64) -> &RingPlace
         requires from_base { self.now.base ≤ number }
         requires below_next { number < next_number self.now }
