@@ -18,8 +18,10 @@ doesn't ask again. A refusal raises a subclass of `Refused`. A reply which says 
 impossible raises a subclass of `Answered`. A file's errors are `OSError`. `version()` says which library it is, and
 whether it was proved.
 """
+from ._helpers import Block, Counter, Queue, fetch_bytes, fetch_range, layout, store_bytes
 from ._library import version
 from ._memories import Deferred, Element, ElementAnew, Image, Memory, answered, create, inspect, open, open_or_create
+from ._requests import Lanes
 from ._shared import Shared, SharedElement, SharedElementAnew
 from ._words import (
     Answer,
@@ -61,10 +63,11 @@ from ._words import (
 )
 
 __all__ = [
-    "Answer", "Answered", "BadHeader", "BadLength", "BadLimits", "BadPage", "BadRecord", "Clash", "Deferred",
-    "Device", "Element", "ElementAnew", "Failed", "Forgotten", "Gap", "Image", "JournalFull", "Memory", "Mismatch",
-    "NoBlock", "NoCall", "NoCell", "NoElement", "NoHeader", "NoMemory", "NoSpace", "NotAnswered", "OldVersion",
-    "Refused", "Reply", "Request", "Shared", "SharedElement", "SharedElementAnew", "StillWaiting", "SyncFailed",
-    "Tag", "Unserved", "Waiting", "Window", "WindowFull", "Work", "WrongKind", "WrongLength", "answered", "create",
-    "inspect", "open", "open_or_create", "version",
+    "Answer", "Answered", "BadHeader", "BadLength", "BadLimits", "BadPage", "BadRecord", "Block", "Clash",
+    "Counter", "Deferred", "Device", "Element", "ElementAnew", "Failed", "Forgotten", "Gap", "Image", "JournalFull",
+    "Lanes", "Memory", "Mismatch", "NoBlock", "NoCall", "NoCell", "NoElement", "NoHeader", "NoMemory", "NoSpace",
+    "NotAnswered", "OldVersion", "Queue", "Refused", "Reply", "Request", "Shared", "SharedElement",
+    "SharedElementAnew", "StillWaiting", "SyncFailed", "Tag", "Unserved", "Waiting", "Window", "WindowFull", "Work",
+    "WrongKind", "WrongLength", "answered", "create", "fetch_bytes", "fetch_range", "inspect", "layout", "open",
+    "open_or_create", "store_bytes", "version",
 ]

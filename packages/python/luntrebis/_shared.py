@@ -2,15 +2,17 @@
 from __future__ import annotations
 
 import collections
+import itertools
 import queue
 import threading
-from concurrent.futures import CancelledError, Future
-from typing import Any, Callable, NamedTuple, Optional, TypeVar, Union
+from concurrent.futures import Future
+from concurrent.futures import TimeoutError as TimedOut
+from typing import Any, Callable, Hashable, NamedTuple, Optional, TypeVar, Union
 
 from . import _memories
 from ._memories import Image, Path
-from ._requests import FULL, KEPT, Requests, give
-from ._words import Answer, Device, Refused, Reply, Request, Tag, Window, WindowFull, spelled
+from ._requests import ALL_TAKEN, FULL, KEPT, Asking, Lanes, Left, give
+from ._words import Answer, Device, NoElement, Refused, Reply, Request, Tag, Waiting, Window, WindowFull, spelled
 
 T = TypeVar("T")
 MOST = 16  # The most members of a group.
@@ -39,57 +41,59 @@ class Called(NamedTuple):
     future: Future[Any]
 
 
-def valued(asked: Future[Reply]) -> Future[int]:
-    """Returns a future of a reply's value."""
-    value: Future[int] = Future()
-
-    def tell(done: Future[Reply]) -> None:
-        try:
-            give(value, done.result().get())
-        except CancelledError:
-            value.cancel()
-        except BaseException as fault:
-            give(value, fault)
-
-    asked.add_done_callback(tell)
-    return value
-
-
-class SharedElement(Requests["Future[int]"]):
+class SharedElement(Asking["Future[int]"]):
     """Makes the requests of an element, each with a future of its value, its base, or 0. Any thread may ask.
 
     The numbers begin at the first that isn't confirmed. So a program that was killed makes the same requests again from
     its last `done` on. They are answered as before, and act once. It goes on where it was, if it asks the same whenever
-    it gets the same answers. At most 64 requests may follow a `done`.
+    it gets the same answers. At most 64 requests may follow a `done`. If the future of a fetch or a take is cancelled,
+    the request stays, and the same call gets its answer; ask nothing else of the element before.
     """
 
     def __init__(self, shared: Shared, number: int) -> None:
-        self.shared, self.number, self._counted = shared, number, Counted()
+        self.shared, self.number, self._counted, self._left = shared, number, Counted(), shared._left
 
-    def _send(self, request: Request) -> Future[int]:
+    def _key(self, tag: Tag, address: int) -> Hashable:
+        return self.number, tag, address
+
+    def _future(self) -> Future[int]:
+        return Future()
+
+    def _send(self, tag: Tag, address: int, value: int) -> Future[Reply]:
+        request, future = Request(tag, self.number, 0, address, value), Future[Reply]()
         spelled(request)
-        future: Future[Reply] = Future()
         self.shared._send(Asked(request, future, True, True, self._counted))
-        return valued(future)
-
-    def _ask(self, tag: Tag, address: int, value: int = 0) -> Future[int]:
-        return self._send(Request(tag, self.number, 0, address, value))
+        return future
 
     def done(self) -> Future[int]:
         """A unit of work is over: the next run begins here. All that was asked has to be answered. Nobody has to wait
         for the future."""
-        return self._send(Request(Tag.CONFIRM, self.number, 0))
+        return self._ask(Tag.CONFIRM, 0)
 
 
-class SharedElementAnew(Requests["Future[int]"]):
+class SharedElementAnew(Asking["Future[int]"]):
     """Makes requests of an element under new numbers, each with a future of its value, its base, or 0. Answered entries
-    are confirmed when the window is full. Any thread may ask."""
+    are confirmed when the window is full. Any thread may ask. If the future of a take is cancelled, the next take of
+    the cell gets the value, or it is put back."""
+
+    _goes_back = True
 
     def __init__(self, shared: Shared, number: int) -> None:
-        self.shared, self.number = shared, number
+        self.shared, self.number, self._left = shared, number, shared._left
 
-    def _ask(self, tag: Tag, address: int, value: int = 0) -> Future[int]:
-        return valued(self.shared.submit(Request(tag, self.number, 0, address, value)))
+    def _key(self, tag: Tag, address: int) -> Hashable:
+        return self.number, tag, address, "anew"
+
+    def _future(self) -> Future[int]:
+        return Future()
+
+    def _send(self, tag: Tag, address: int, value: int) -> Future[Reply]:
+        return self.shared.submit(Request(tag, self.number, 0, address, value))
+
+
+def is_waiting(image: Image, element: int) -> bool:
+    """Whether a request of an element waits."""
+    return any(image.collect(element, it).answer == Answer.WAITING for it in range(*image.window(element)))
 
 
 class Shared:
@@ -107,6 +111,8 @@ class Shared:
         self._asked: queue.SimpleQueue[Union[Asked, Called, None]] = queue.SimpleQueue()
         self._closed, self._lock = False, threading.Lock()
         self._elements: dict[int, SharedElement] = {}
+        self._taken: set[int] = set()  # The elements that are leased, or that the program uses by number.
+        self._left = Left()
         began: Future[None] = Future()
         owner = Owner(self._asked)
         self._thread = threading.Thread(target=owner.run, args=(make, began), name="luntrebis", daemon=True)
@@ -156,6 +162,21 @@ class Shared:
         """Sends a request, and returns its reply once that is on the disk. WAITING is a reply, too."""
         return self._submit(request, False).result()
 
+    def wait(self, request: Request, timeout: Optional[float] = None) -> Reply:
+        """Sends a request, and waits for its answer, so many seconds once the request is on the disk. If there is none
+        then, raises `Waiting`, whose `request` has the number: wait for that again, as often as you like, also after a
+        kill. A request with the number 0 gets the element's next one."""
+        reply = self.ask(request)
+        if reply.answer != Answer.WAITING:
+            return reply
+        named = request._replace(number=reply.number)
+        later = self.submit(named)
+        try:
+            return later.result(timeout)
+        except TimedOut:
+            later.cancel()
+            raise Waiting(reply.of, named) from None
+
     def confirm(self, element: int, upto: int) -> None:
         """Drops the entries of the element below the number. `submit` takes a request with the tag CONFIRM and that
         number, too, so that nobody has to wait for it."""
@@ -174,12 +195,29 @@ class Shared:
     def element(self, number: int) -> SharedElement:
         """Returns the element, whose requests are numbered here from the first that isn't confirmed on: a program that
         was killed makes them again and goes on where it was. It is the same at each call."""
+        self._taken.add(number)
         return self._elements.setdefault(number, SharedElement(self, number))
 
     def element_anew(self, number: int) -> SharedElementAnew:
         """Returns an element whose requests get new numbers. What a run before asked is not asked again, so a value
         that it had taken when it was killed is lost to the program."""
+        self._taken.add(number)
         return SharedElementAnew(self, number)
+
+    def lease(self, count: int = 1) -> Lanes[Future[int]]:
+        """Leases elements, from the highest number down: none that is leased, that `element` or `element_anew` has
+        named, or of which a request waits. Use `with image.lease() as one`, or `give_back`. Raises `NoElement` if there
+        aren't so many. Of several, each fetch or take goes to the one with the most room."""
+        numbers = self.call(lambda image: self._reserve(image, count)).result()
+        return Lanes(numbers, self.submit, Future, self._taken.difference_update)
+
+    def _reserve(self, image: Image, count: int) -> list[int]:
+        free = (it for it in reversed(range(image.limits[1])) if it not in self._taken and not is_waiting(image, it))
+        numbers = list(itertools.islice(free, count))
+        if len(numbers) < count:
+            raise NoElement(None, image.path, ALL_TAKEN)
+        self._taken.update(numbers)
+        return numbers
 
     def close(self) -> None:
         """Serves the requests that were sent, and closes the image."""
@@ -373,7 +411,8 @@ class Owner:
         """Gives a request its reply. If the request waits, its future is kept instead."""
         if isinstance(reply, Reply) and reply.answer == Answer.WAITING and asked.waits:
             of = command.element, command.number
-            self.waiting.setdefault(of, []).append(asked.future)
+            before = self.waiting.get(of, [])
+            self.waiting[of] = [*(it for it in before if not it.cancelled()), asked.future]
             self.tell_resumed(of)  # It may have been answered with its group.
         else:
             give(asked.future, reply)

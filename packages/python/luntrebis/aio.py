@@ -13,48 +13,52 @@ Kill it at any moment and run it again: each element begins at its last `done`, 
 answers, and goes on. `maker` calls no `done`, so it gets the same block each time. `serve` starts the program again, if
 that is killed. `connect` has the same calls over the socket of a server, and needs no program.
 
-A request that waits can't be withdrawn. `asyncio.wait_for` ends the waiting, but the request stays in the memory, and a
-value that comes goes to it. Put `asyncio.shield` around what you may want to await later.
+Time-outs: a request that waits can't be withdrawn, and stays in the memory. If `asyncio.wait_for` gives up a fetch or a
+take, the same call of the element gets its answer; ask nothing else of the element before. Of a lease the value goes to
+the next take of the cell, or is put back. Await each wait by itself, as `asyncio.gather` loses what was answered, and
+none of a unit's other requests. `image.wait` is for requests that you number.
 """
 from __future__ import annotations
 
 import asyncio
 import ssl
-from typing import Awaitable
+from typing import Awaitable, Hashable
 
 from . import _connection
-from ._dialogue import Path, Served, begin
-from ._requests import Requests
+from ._dialogue import Path, Served, awaited, begin, waited
+from ._requests import Asking, Lanes
 from ._shared import Shared, SharedElement, SharedElementAnew
 from ._words import Reply, Request, Tag, Window
 
 
-class ElementAnew(Requests["Awaitable[int]"]):
+class ElementAnew(Asking["Awaitable[int]"]):
     """Makes requests of an element, under new numbers. Each is sent at its call; awaiting it gives its value, its base,
     or 0."""
 
-    _element: SharedElement | SharedElementAnew
+    _is_awaited = True
 
-    def __init__(self, image: Image, number: int) -> None:
-        self._element, self.number = image.shared.element_anew(number), number
+    def __init__(self, element: SharedElement | SharedElementAnew) -> None:
+        self.number, self._element = element.number, element
+        self._left, self._goes_back = element._left, element._goes_back
 
-    def _ask(self, tag: Tag, address: int, value: int = 0) -> Awaitable[int]:
-        return asyncio.wrap_future(self._element._ask(tag, address, value))
+    def _key(self, tag: Tag, address: int) -> Hashable:
+        return self._element._key(tag, address)
+
+    def _send(self, tag: Tag, address: int, value: int) -> object:
+        return self._element._send(tag, address, value)
+
+    def _future(self) -> Awaitable[int]:
+        return awaited()
 
 
 class Element(ElementAnew):
     """Makes the requests of an element from the first that isn't confirmed on. Each is sent at its call; awaiting it
     gives its value, its base, or 0."""
 
-    _element: SharedElement
-
-    def __init__(self, image: Image, number: int) -> None:
-        self._element, self.number = image.shared.element(number), number
-
     def done(self) -> Awaitable[int]:
         """A unit of work is over: the next run begins here. All that was asked has to be answered. Nobody has to await
         it."""
-        return asyncio.wrap_future(self._element.done())
+        return self._ask(Tag.CONFIRM, 0)
 
 
 class Image:
@@ -85,12 +89,27 @@ class Image:
     def element(self, number: int) -> Element:
         """Returns the element, whose requests are numbered here from the first that isn't confirmed on: a program that
         was killed makes them again and goes on where it was. It is the same at each call."""
-        return Element(self, number)
+        return Element(self.shared.element(number))
 
     def element_anew(self, number: int) -> ElementAnew:
         """Returns an element whose requests get new numbers. What a run before asked is not asked again, so a value
         that it had taken when it was killed is lost to the program."""
-        return ElementAnew(self, number)
+        return ElementAnew(self.shared.element_anew(number))
+
+    async def lease(self, count: int = 1) -> Lanes[Awaitable[int]]:
+        """Leases elements, from the highest number down: none that is leased, that `element` or `element_anew` has
+        named, or of which a request waits. Use `with await image.lease() as one`, or `give_back`. Raises `NoElement` if
+        there aren't so many. Of several, each fetch or take goes to the one with the most room."""
+        shared = self.shared
+        numbers = await asyncio.wrap_future(shared.call(lambda image: shared._reserve(image, count)))
+        return Lanes(numbers, shared.submit, awaited, shared._taken.difference_update)
+
+    async def wait(self, request: Request, timeout: float | None = None) -> Reply:
+        """Sends a request, and waits for its answer, so many seconds once the request is on the disk. If there is none
+        then, raises `Waiting`, whose `request` has the number: wait for that again, as often as you like, also after a
+        kill. A request with the number 0 gets the element's next one."""
+        reply = await asyncio.wrap_future(self.shared._submit(request, False))
+        return await waited(reply, request, timeout, self.ask)
 
     async def close(self) -> None:
         """Serves the requests that were sent, and closes the image. Those that still wait are cancelled."""
