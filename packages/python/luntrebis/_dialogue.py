@@ -8,7 +8,7 @@ import errno
 import os
 import pathlib
 import shutil
-from typing import Awaitable, Callable, Hashable, Optional, Union
+from typing import Awaitable, Callable, Optional, Union
 
 from ._requests import ALL_TAKEN, FULL, KEPT, Asking, Awaited, Lanes, Left, give
 from ._words import Answer, NoElement, Reply, Request, SyncFailed, Tag, Waiting, Window, WindowFull, refusal, spelled
@@ -282,6 +282,7 @@ class Served:
         if request.tag != Tag.CONFIRM and request.number == 0:
             return self._counted(request, True, waits)
         spelled(request)
+        self._taken.add(request.element)
         reply: asyncio.Future[Reply] = asyncio.get_running_loop().create_future()
         self._send(request, reply, waits)
         return reply
@@ -301,9 +302,9 @@ class Served:
         return asyncio.shield(self._later[of])
 
     async def lease(self, count: int = 1) -> Lanes[Awaitable[int]]:
-        """Leases elements, from the highest number down: none that is leased, that `element` or `element_anew` has
-        named, or of which a request waits. Use `with await image.lease() as one`, or `give_back`. Raises `NoElement` if
-        there aren't so many. Of several, each fetch or take goes to the one with the most room. Other clients of a
+        """Leases elements, from the highest number down: none that is leased, that this program has used by its number,
+        or of which a request waits. Use `with await image.lease() as one`, or `give_back`. Raises `NoElement` if there
+        aren't so many. Of several, each fetch or take goes to the one with the most room. Other clients of a
         server don't know of the lease."""
         numbers: list[int] = []
         for number in reversed(range(self.elements)):
@@ -439,9 +440,6 @@ class ServedElement(Asking["Awaitable[int]"]):
         self.image, self.number, self._goes_back = image, number, anew
         self._left = image._numbers_of(number, anew).left
 
-    def _key(self, tag: Tag, address: int) -> Hashable:
-        return tag, address
-
     def _send(self, tag: Tag, address: int, value: int) -> asyncio.Future[Reply]:
         return self.image._counted(Request(tag, self.number, 0, address, value), self._goes_back)
 
@@ -451,6 +449,7 @@ class ServedElement(Asking["Awaitable[int]"]):
     def done(self) -> Awaitable[int]:
         """A unit of work is over: the next run begins here. All that was asked has to be answered. Nobody has to await
         it."""
+        self._left.check(f"{self.image.path}: element {self.number}")
         return self._ask(Tag.CONFIRM, 0)
 
 

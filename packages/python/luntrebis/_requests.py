@@ -7,9 +7,9 @@ import concurrent.futures
 import contextlib
 import threading
 from concurrent.futures import InvalidStateError
-from typing import Any, Callable, Generator, Generic, Hashable, Optional, TypeVar
+from typing import Any, Callable, Generator, Generic, Optional, TypeVar
 
-from ._words import Answer, Request, Tag
+from ._words import Answer, NotAnswered, Request, Tag
 
 T = TypeVar("T")
 KEPT = 64
@@ -44,12 +44,12 @@ class Left:
 
     def __init__(self) -> None:
         self.lock = threading.RLock()
-        self._kept: dict[Hashable, collections.deque[Open]] = {}
+        self._kept: dict[tuple[Tag, int], collections.deque[Open]] = {}
 
-    def keep(self, opened: Open) -> None:
-        self._kept.setdefault(opened.key, collections.deque()).append(opened)
+    def keep(self, opened: Open, key: tuple[Tag, int]) -> None:
+        self._kept.setdefault(key, collections.deque()).append(opened)
 
-    def find(self, key: Hashable) -> Optional[Open]:
+    def find(self, key: tuple[Tag, int]) -> Optional[Open]:
         """Takes out the oldest of these requests, if there is one."""
         with self.lock:
             kept = self._kept.get(key)
@@ -61,17 +61,26 @@ class Left:
     def drop(self, opened: Open) -> bool:
         """Takes out a request. Returns whether it was there."""
         with self.lock:
-            kept = self._kept.get(opened.key, collections.deque())
-            is_there = opened in kept
-            if is_there:
-                kept.remove(opened)
-        return is_there
+            for key, kept in list(self._kept.items()):
+                if opened in kept:
+                    kept.remove(opened)
+                    if not kept:
+                        del self._kept[key]
+                    return True
+        return False
+
+    def check(self, of: str) -> None:
+        """Raises `NotAnswered` if a request was given up: its answer would be lost."""
+        if self._kept:
+            raise NotAnswered(None, of, "a fetch or a take was given up: ask the same again before `done`")
 
 
 class Open:
     """A request, and the future that is to have its answer."""
 
-    def __init__(self, left: Left, key: Hashable, asked: Any, back: Optional[Callable[[int], None]]) -> None:
+    def __init__(
+        self, left: Left, key: Optional[tuple[Tag, int]], asked: Any, back: Optional[Callable[[int], object]]
+    ) -> None:
         self.left, self.key, self.asked, self.back = left, key, asked, back
         self.holder: Any = None
 
@@ -89,7 +98,7 @@ class Open:
             if self.holder is not holder or self.key is None:
                 return
             self.holder = None
-            self.left.keep(self)
+            self.left.keep(self, self.key)
         if self.asked.done():
             self.tell()
 
@@ -105,7 +114,7 @@ class Open:
         else:
             hand_over(self.asked, holder)
 
-    def _put_back(self, back: Callable[[int], None]) -> None:
+    def _put_back(self, back: Callable[[int], object]) -> None:
         if not self.asked.cancelled() and not self.asked.exception():
             reply = self.asked.result()
             if reply.answer == Answer.VALUE:
@@ -175,9 +184,6 @@ class Asking(Requests[T]):
     _goes_back = False  # Whether a value that was taken for nobody is put back.
     _is_awaited = False  # Whether the futures are those of asyncio.
 
-    def _key(self, tag: Tag, address: int) -> Hashable:
-        raise NotImplementedError
-
     def _send(self, tag: Tag, address: int, value: int) -> Any:
         """Sends a request. Returns a future of its reply."""
         raise NotImplementedError
@@ -186,16 +192,22 @@ class Asking(Requests[T]):
         raise NotImplementedError
 
     def _ask(self, tag: Tag, address: int, value: int = 0) -> T:
-        key = self._key(tag, address) if tag in WAITS else None
+        key = (tag, address) if tag in WAITS else None
         opened, holder = self._left.find(key) if key else None, self._future()
         if opened:
             opened.held_by(holder)
             return holder
-        back = (lambda it: self._send(Tag.PUT, address, it)) if self._goes_back and tag == Tag.TAKE else None
-        opened = Open(self._left, key, self._send(tag, address, value), back)
+        opened = Open(self._left, key, self._send(tag, address, value), self._back(tag, address))
         opened.held_by(holder)
         opened.asked.add_done_callback(opened.tell)
         return holder
+
+
+    def _back(self, tag: Tag, address: int) -> Optional[Callable[[int], object]]:
+        """Returns what is done with a value that nobody is to have, or None if it is kept."""
+        if not self._goes_back:
+            return None
+        return lambda value: self._send(Tag.PUT, address, value) if tag == Tag.TAKE else None
 
 
 class Lane:
@@ -240,9 +252,6 @@ class Lanes(Asking[T]):
 
     def __exit__(self, *fault: object) -> None:
         self.give_back()
-
-    def _key(self, tag: Tag, address: int) -> Hashable:
-        return tag, address
 
     def _future(self) -> T:
         return self._new()

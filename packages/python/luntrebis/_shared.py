@@ -7,7 +7,7 @@ import queue
 import threading
 from concurrent.futures import Future
 from concurrent.futures import TimeoutError as TimedOut
-from typing import Any, Callable, Hashable, NamedTuple, Optional, TypeVar, Union
+from typing import Any, Callable, NamedTuple, Optional, TypeVar, Union
 
 from . import _memories
 from ._memories import Image, Path
@@ -51,10 +51,7 @@ class SharedElement(Asking["Future[int]"]):
     """
 
     def __init__(self, shared: Shared, number: int) -> None:
-        self.shared, self.number, self._counted, self._left = shared, number, Counted(), shared._left
-
-    def _key(self, tag: Tag, address: int) -> Hashable:
-        return self.number, tag, address
+        self.shared, self.number, self._counted, self._left = shared, number, Counted(), Left()
 
     def _future(self) -> Future[int]:
         return Future()
@@ -68,6 +65,7 @@ class SharedElement(Asking["Future[int]"]):
     def done(self) -> Future[int]:
         """A unit of work is over: the next run begins here. All that was asked has to be answered. Nobody has to wait
         for the future."""
+        self._left.check(f"element {self.number}")
         return self._ask(Tag.CONFIRM, 0)
 
 
@@ -79,10 +77,7 @@ class SharedElementAnew(Asking["Future[int]"]):
     _goes_back = True
 
     def __init__(self, shared: Shared, number: int) -> None:
-        self.shared, self.number, self._left = shared, number, shared._left
-
-    def _key(self, tag: Tag, address: int) -> Hashable:
-        return self.number, tag, address, "anew"
+        self.shared, self.number, self._left = shared, number, shared._left.setdefault(number, Left())
 
     def _future(self) -> Future[int]:
         return Future()
@@ -112,7 +107,7 @@ class Shared:
         self._closed, self._lock = False, threading.Lock()
         self._elements: dict[int, SharedElement] = {}
         self._taken: set[int] = set()  # The elements that are leased, or that the program uses by number.
-        self._left = Left()
+        self._left: dict[int, Left] = {}  # Of the elements that number anew.
         began: Future[None] = Future()
         owner = Owner(self._asked)
         self._thread = threading.Thread(target=owner.run, args=(make, began), name="luntrebis", daemon=True)
@@ -154,6 +149,8 @@ class Shared:
     def _submit(self, request: Request, waits: bool) -> Future[Reply]:
         spelled(request)
         is_numbered = Tag(request.tag) == Tag.CONFIRM or request.number > 0
+        if is_numbered:
+            self._taken.add(request.element)
         future: Future[Reply] = Future()
         self._send(Asked(request, future, waits, is_numbered))
         return future
@@ -205,9 +202,9 @@ class Shared:
         return SharedElementAnew(self, number)
 
     def lease(self, count: int = 1) -> Lanes[Future[int]]:
-        """Leases elements, from the highest number down: none that is leased, that `element` or `element_anew` has
-        named, or of which a request waits. Use `with image.lease() as one`, or `give_back`. Raises `NoElement` if there
-        aren't so many. Of several, each fetch or take goes to the one with the most room."""
+        """Leases elements, from the highest number down: none that is leased, that this program has used by its number,
+        or of which a request waits. Use `with image.lease() as one`, or `give_back`. Raises `NoElement` if there aren't
+        so many. Of several, each fetch or take goes to the one with the most room."""
         numbers = self.call(lambda image: self._reserve(image, count)).result()
         return Lanes(numbers, self.submit, Future, self._taken.difference_update)
 

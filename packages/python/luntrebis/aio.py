@@ -22,7 +22,7 @@ from __future__ import annotations
 
 import asyncio
 import ssl
-from typing import Awaitable, Hashable
+from typing import Awaitable
 
 from . import _connection
 from ._dialogue import Path, Served, awaited, begin, waited
@@ -41,9 +41,6 @@ class ElementAnew(Asking["Awaitable[int]"]):
         self.number, self._element = element.number, element
         self._left, self._goes_back = element._left, element._goes_back
 
-    def _key(self, tag: Tag, address: int) -> Hashable:
-        return self._element._key(tag, address)
-
     def _send(self, tag: Tag, address: int, value: int) -> object:
         return self._element._send(tag, address, value)
 
@@ -58,6 +55,7 @@ class Element(ElementAnew):
     def done(self) -> Awaitable[int]:
         """A unit of work is over: the next run begins here. All that was asked has to be answered. Nobody has to await
         it."""
+        self._left.check(f"element {self.number}")
         return self._ask(Tag.CONFIRM, 0)
 
 
@@ -97,9 +95,9 @@ class Image:
         return ElementAnew(self.shared.element_anew(number))
 
     async def lease(self, count: int = 1) -> Lanes[Awaitable[int]]:
-        """Leases elements, from the highest number down: none that is leased, that `element` or `element_anew` has
-        named, or of which a request waits. Use `with await image.lease() as one`, or `give_back`. Raises `NoElement` if
-        there aren't so many. Of several, each fetch or take goes to the one with the most room."""
+        """Leases elements, from the highest number down: none that is leased, that this program has used by its number,
+        or of which a request waits. Use `with await image.lease() as one`, or `give_back`. Raises `NoElement` if there
+        aren't so many. Of several, each fetch or take goes to the one with the most room."""
         shared = self.shared
         numbers = await asyncio.wrap_future(shared.call(lambda image: shared._reserve(image, count)))
         return Lanes(numbers, shared.submit, awaited, shared._taken.difference_update)

@@ -213,6 +213,6 @@ pub fn store_bytes(one: &Element, block: Block, place: Block, data: &[u8]) -> Re
 /// Fetches the bytes of [`store_bytes`], once they are there.
 pub fn fetch_bytes(one: &impl Asks, block: Block) -> Result<Vec<u8>> {
     let length = one.ask(Op::Fetch(block.at(0))).wait()? as usize;
-    let words = fetch_range(one, block.base + 1, length.div_ceil(8) as u32)?;
+    let words = fetch_range(one, block.base + 1, ((length + 7) / 8) as u32)?;
     Ok(words.iter().flat_map(|it| it.to_le_bytes()).take(length).collect())
 }

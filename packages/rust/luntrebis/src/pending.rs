@@ -53,6 +53,15 @@ impl Pending {
     }
 }
 
+impl From<Error> for Pending {
+    /// What is answered already.
+    fn from(error: Error) -> Pending {
+        let told = Arc::<Told>::default();
+        Teller { told: told.clone() }.tell(Err(error));
+        Pending { told }
+    }
+}
+
 impl Future for Pending {
     type Output = Result<Reply>;
 
@@ -113,19 +122,26 @@ impl Future for Value {
     }
 }
 
-/// The fetches and takes that were given up, by the element and what was asked. The same request, made again, is one of
-/// these.
+/// An element and what it asked.
+pub(crate) type Key = (u16, Op);
+
+/// The fetches and takes that were given up. The same request, made again, is one of these.
 #[derive(Debug, Default)]
 pub(crate) struct Left {
-    kept: Mutex<HashMap<(u16, Op), VecDeque<Arc<Told>>>>,
+    kept: Mutex<HashMap<Key, VecDeque<Arc<Told>>>>,
 }
 
 impl Left {
     /// Takes out the oldest of these requests, if there is one.
-    pub(crate) fn find(&self, key: (u16, Op)) -> Option<Pending> {
+    pub(crate) fn find(&self, key: Key) -> Option<Pending> {
         let told = lock(&self.kept).get_mut(&key)?.pop_front()?;
         lock(&told.slot).is_left = false;
         Some(Pending { told })
+    }
+
+    /// Whether a request of an element was given up.
+    pub(crate) fn has_of(&self, element: u16) -> bool {
+        lock(&self.kept).iter().any(|(key, kept)| key.0 == element && !kept.is_empty())
     }
 
     pub(crate) fn clear(&self) {
@@ -137,7 +153,7 @@ impl Left {
 #[derive(Debug)]
 pub(crate) struct Home {
     pub(crate) left: Arc<Left>,
-    pub(crate) key: (u16, Op),
+    pub(crate) key: Key,
     /// Of a request under a new number, by which element a value is put back.
     pub(crate) back: Option<(Weak<Inner>, u16)>,
 }
@@ -152,16 +168,20 @@ impl Home {
         }
         (slot.is_left, slot.waker) = (true, None);
         if self.back.is_some() && slot.answer.is_some() {
-            self.put_back(slot.get());
+            let answer = slot.get();
+            drop((slot, kept));
+            self.put_back(answer);
         } else {
             kept.entry(self.key).or_default().push_back(told.clone());
         }
     }
 
+    /// Puts a value back that was taken. No lock is held meanwhile: the image may end here.
     fn put_back(&self, answer: Option<Result<Reply>>) {
-        let inner = self.back.as_ref().and_then(|(inner, element)| Some((inner.upgrade()?, *element)));
-        if let (Some((inner, element)), Op::Take(address), Some(Ok(Reply::Value(value)))) = (inner, self.key.1, answer) {
-            inner.put_back(element, address, value);
+        if let (Some((inner, element)), Some(Ok(Reply::Value(value)))) = (&self.back, answer) {
+            if let (Some(inner), Op::Take(address)) = (inner.upgrade(), self.key.1) {
+                inner.put_back(*element, address, value);
+            }
         }
     }
 }
@@ -232,12 +252,16 @@ impl Teller {
             return;
         }
         (slot.answer, slot.is_told) = (Some(answer), true);
-        if let (true, Some(home), Some(kept)) = (slot.is_left, home.filter(|it| it.back.is_some()), &mut kept) {
+        let back = home.filter(|it| slot.is_left && it.back.is_some());
+        let unwanted = if back.is_some() { slot.get() } else { None };
+        if let (Some(home), Some(kept)) = (back, &mut kept) {
             kept.entry(home.key).or_default().retain(|it| !Arc::ptr_eq(it, &self.told));
-            home.put_back(slot.get());
         }
         let waker = slot.waker.take();
         drop((slot, kept));
+        if let Some(home) = back {
+            home.put_back(unwanted);
+        }
         self.told.there.notify_all();
         if let Some(waker) = waker {
             waker.wake();

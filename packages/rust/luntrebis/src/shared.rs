@@ -3,7 +3,7 @@
 use crate::lanes::Lanes;
 use crate::memories::{Image, Limits};
 use crate::owner::{is_waiting, Message, Owner};
-use crate::pending::{Home, Left, Pending, Teller, Told, Value};
+use crate::pending::{Home, Key, Left, Pending, Teller, Told, Value};
 use crate::words::{confirmation, Error, Of, Op, Refusal, Reply, Request, Result};
 use std::collections::{HashMap, HashSet};
 use std::ops::Range;
@@ -160,9 +160,9 @@ impl Shared {
         ElementAnew { shared: self.clone(), number }
     }
 
-    /// Leases elements, from the highest number down: none that is leased, that `element` or `element_anew` has named, or
-    /// of which a request waits. They are given back when the [`Lanes`] are dropped. Of several, each fetch or take goes
-    /// to the one with the most room. If there aren't so many, returns [`Refusal::NoElement`].
+    /// Leases elements, from the highest number down: none that is leased, that this program has used by its number, or of
+    /// which a request waits. They are given back when the [`Lanes`] are dropped. Of several, each fetch or take goes to
+    /// the one with the most room. If there aren't so many, returns [`Refusal::NoElement`].
     pub fn lease(&self, count: usize) -> Result<Lanes> {
         let mut taken = lock(&self.inner.taken);
         let others = taken.clone();
@@ -180,6 +180,7 @@ impl Shared {
     }
 
     fn send(&self, request: Request, numbered: Numbered, waits: bool) -> Pending {
+        lock(&self.inner.taken).insert(request.element);
         self.inner.send(request, numbered, waits, Told::default())
     }
 
@@ -191,7 +192,7 @@ impl Shared {
     }
 
     /// Sends a request. If it is a fetch or a take that is given up, it is kept there.
-    pub(crate) fn send_to_keep(&self, request: Request, numbered: Numbered, left: &Arc<Left>, key: (u16, Op)) -> Pending {
+    pub(crate) fn send_to_keep(&self, request: Request, numbered: Numbered, left: &Arc<Left>, key: Key) -> Pending {
         let goes_back = matches!(numbered, Numbered::Anew);
         let back = goes_back.then(|| (Arc::downgrade(&self.inner), request.element));
         let may_wait = matches!(request.op, Op::Fetch(_) | Op::Take(_));
@@ -276,6 +277,11 @@ impl Element {
     /// A unit of work is over: the next run begins here. All that was asked has to be answered. Nobody has to wait for
     /// it.
     pub fn done(&self) -> Value {
+        if self.shared.inner.left[0].has_of(self.number) {
+            let why = "a fetch or a take was given up: ask the same again before `done`";
+            let of = Of::new(format_args!("element {}: {why}", self.number));
+            return Value(Error::Refused(Refusal::NotAnswered, of).into());
+        }
         self.ask(Op::Confirm)
     }
 

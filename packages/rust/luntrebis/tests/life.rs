@@ -240,6 +240,7 @@ fn a_thousand_time_outs_lose_nothing() {
         assert!(one.take(cell).wait_for(SOON).is_none());
     }
     assert_eq!(shared.window(3).unwrap(), 1..2, "each is the same request");
+    assert!(matches!(one.done().wait(), Err(Error::Refused(Refusal::NotAnswered, _))));
     put(6);
     assert_eq!(one.take(cell).wait_for(LATE).unwrap().unwrap(), 6);
     one.done().wait().unwrap();
