@@ -48,7 +48,7 @@ def report(image, blocks):
 
 
 def main(path, jobs="40"):
-    with luntrebis.Shared.open_or_create(path, cells=64, elements=8, slots=64) as image:
+    with luntrebis.Shared.open_or_create(path, cells=64, elements=16, slots=64) as image:
         counters = {it: Counter.cells() for it in ("made", "total", "over", "stored")}
         blocks = luntrebis.layout(image, queue=Queue.cells(8), text=("i", 16), end=("i", 1), **counters)
         calls = [(make, 1), *((work, it) for it in WORKERS)]

@@ -64,7 +64,7 @@ fn main() -> Result<()> {
     let mut words = std::env::args().skip(1);
     let path = words.next().expect("usage: jobs IMAGE [JOBS]");
     let jobs = words.next().map_or(40, |it| it.parse().expect("a number of jobs"));
-    let image = Shared::open_or_create(path, Limits { cells: 64, elements: 8, slots: 64 })?;
+    let image = Shared::open_or_create(path, Limits { cells: 64, elements: 16, slots: 64 })?;
     let counters = [Cells::counter(), Cells::counter(), Cells::counter(), Cells::counter()];
     let [made, total, over, stored] = counters;
     let cells = [Cells::queue(8), Cells::i(16), Cells::i(1), made, total, over, stored];

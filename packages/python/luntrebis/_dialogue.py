@@ -10,7 +10,7 @@ import pathlib
 import shutil
 from typing import Awaitable, Callable, Optional, Union
 
-from ._requests import ALL_TAKEN, FULL, KEPT, Asking, Awaited, Lanes, Left, give
+from ._requests import ALL_TAKEN, FOR_LEASES, FULL, KEPT, Asking, Awaited, Lanes, Left, give
 from ._words import Answer, NoElement, Reply, Request, SyncFailed, Tag, Waiting, Window, WindowFull, refusal, spelled
 
 Path = Union[str, "os.PathLike[str]"]
@@ -251,7 +251,10 @@ class Served:
         self.path, self.dialogue = path, dialogue
         self.elements = 0
         self._numbers: dict[tuple[int, bool], Numbers] = {}
-        self._taken: set[int] = set()  # The elements that are leased, or that the program uses by number.
+        self._used: set[int] = set()  # The elements that the program uses by number.
+        self._pool: set[int] = set()  # Those for leases.
+        self._leased: set[int] = set()
+        self._lent = Left()
         self._later: dict[tuple[int, int], asyncio.Future[Reply]] = {}  # What `wait` waits for.
 
     async def __aenter__(self) -> Served:
@@ -276,13 +279,18 @@ class Served:
     def ask(self, request: Request) -> Awaitable[Reply]:
         """Sends a request under its own number at this call. Awaiting it gives the answer. The same request again is
         answered as before. A request with the number 0 gets the element's next one."""
+        self._use(request.element)
         return self._asked(request, True)
+
+    def _use(self, element: int) -> None:
+        if element in self._pool:
+            raise ValueError(f"element {element}: {FOR_LEASES}")
+        self._used.add(element)
 
     def _asked(self, request: Request, waits: bool) -> asyncio.Future[Reply]:
         if request.tag != Tag.CONFIRM and request.number == 0:
             return self._counted(request, True, waits)
         spelled(request)
-        self._taken.add(request.element)
         reply: asyncio.Future[Reply] = asyncio.get_running_loop().create_future()
         self._send(request, reply, waits)
         return reply
@@ -291,6 +299,7 @@ class Served:
         """Sends a request, and waits for its answer, so many seconds once the request is on the disk. If there is none
         then, raises `Waiting`, whose `request` has the number: wait for that again, as often as you like, also after a
         kill. A request with the number 0 gets the element's next one."""
+        self._use(request.element)
         return await waited(await self._asked(request, False), request, timeout, self._ask_once)
 
     def _ask_once(self, request: Request) -> Awaitable[Reply]:
@@ -301,30 +310,43 @@ class Served:
             self._later[of].add_done_callback(lambda _: self._later.pop(of, None))
         return asyncio.shield(self._later[of])
 
-    async def lease(self, count: int = 1) -> Lanes[Awaitable[int]]:
-        """Leases elements, from the highest number down: none that is leased, that this program has used by its number,
-        or of which a request waits. Use `with await image.lease() as one`, or `give_back`. Raises `NoElement` if there
-        aren't so many. Of several, each fetch or take goes to the one with the most room. Other clients of a
-        server don't know of the lease."""
+    async def lease(self, count: int = 1, first: Optional[int] = None) -> Lanes[Awaitable[int]]:
+        """Leases elements of the upper half, or from the number `first` on: none that is leased, or of which a request
+        waits. The program uses none of these by its number, in no run. Use `with await image.lease() as one`, or
+        `give_back`. Raises `NoElement` if there aren't so many. Of several, each fetch or take goes to the one with the
+        most room. Other clients of a server don't know of the lease, and have to use other elements."""
         numbers: list[int] = []
-        for number in reversed(range(self.elements)):
-            if number in self._taken or len(numbers) == count:
+        for number in reversed(range(self.elements // 2 if first is None else first, self.elements)):
+            if number in self._used | self._leased or len(numbers) == count:
                 continue
-            self._taken.add(number)
+            self._leased.add(number)  # Another task may ask meanwhile.
             if await self._is_waiting(number):
-                self._taken.remove(number)
+                self._leased.remove(number)
             else:
                 numbers.append(number)
         if len(numbers) < count:
-            self._taken.difference_update(numbers)
+            self._leased.difference_update(numbers)
             raise NoElement(None, self.path, ALL_TAKEN)
-        return Lanes(numbers, self.ask, awaited, self._taken.difference_update)
+        return Lanes(numbers, self._lent, self._lent_asks, awaited, self._leased.difference_update)
+
+    def _lent_asks(self, request: Request) -> asyncio.Future[Reply]:
+        return self._asked(request, True)
 
     async def _is_waiting(self, element: int) -> bool:
-        """Whether a request of an element waits."""
+        """Whether a request of an element waits. Takes over what waited at the end of an earlier run."""
         kept = range(*await self.window(element))
-        told = await asyncio.gather(*(self.line(f"collect {element}.{it}") for it in kept))
-        return any(it[1] == "waiting" for it in told)
+        entries = await asyncio.gather(*(self.line(f"entry {element}.{it}") for it in kept))
+        waiting = [(it, *words[2:4]) for it, words in zip(kept, entries) if words[-1] == "waiting"]
+        if element not in self._pool:
+            self._pool.add(element)
+            for number, word, address in waiting:
+                asked = Request(Tag[word.upper()], element, number, int(address))
+                self._lent.adopt(asked, self._asked(asked, True), self._back(asked))
+        return bool(waiting)
+
+    def _back(self, taken: Request) -> Callable[[int], object]:
+        put = taken._replace(tag=Tag.PUT, number=0)
+        return lambda value: self._asked(put._replace(value=value), True) if taken.tag == Tag.TAKE else None
 
     def confirm(self, element: int, upto: int) -> Awaitable[Reply]:
         """Drops the entries of the element below the number. It is sent at this call, and nobody has to await it."""
@@ -333,13 +355,13 @@ class Served:
     def element(self, number: int) -> ServedElement:
         """Returns the element, whose requests are numbered here from the first that isn't confirmed on: a program that
         was killed makes them again and goes on where it was. It is the same at each call."""
-        self._taken.add(number)
+        self._use(number)
         return ServedElement(self, number, False)
 
     def element_anew(self, number: int) -> ServedElement:
         """Returns an element whose requests get new numbers. What a run before asked is not asked again, so a value
         that it had taken when it was killed is lost to the program."""
-        self._taken.add(number)
+        self._use(number)
         return ServedElement(self, number, True)
 
     async def window(self, element: int) -> Window:

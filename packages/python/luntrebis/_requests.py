@@ -13,7 +13,8 @@ from ._words import Answer, NotAnswered, Request, Tag
 
 T = TypeVar("T")
 KEPT = 64
-ALL_TAKEN = "each element is leased or in use, or a request of it waits"
+ALL_TAKEN = "each element for leases is leased, or a request of it waits"
+FOR_LEASES = "it is for leases, of which `lease` was called"
 WAITS = (Tag.FETCH, Tag.TAKE)
 FULL = "64 of its requests aren't confirmed: call `done` once a unit of work is over, and let no request wait that long"
 
@@ -68,6 +69,13 @@ class Left:
                         del self._kept[key]
                     return True
         return False
+
+    def adopt(self, request: Request, asked: Any, back: Callable[[int], object]) -> None:
+        """Keeps a fetch or a take of an earlier run, whose lease ended with it."""
+        opened = Open(self, (request.tag, request.address), asked, back)
+        with self.lock:
+            self.keep(opened, (request.tag, request.address))
+        asked.add_done_callback(opened.tell)
 
     def check(self, of: str) -> None:
         """Raises `NotAnswered` if a request was given up: its answer would be lost."""
@@ -228,8 +236,9 @@ class Lanes(Asking[T]):
     """Elements by lease: nobody else gets them before they are given back. Their requests get new numbers.
 
     If there are several, the first has what is answered at once, and the others share what may wait: a fetch or a take
-    goes to the one with the most room in its window. If a take is given up, the next take of its cell gets the value. If
-    none is made before the value comes, it is put back. So a time-out loses nothing.
+    goes to the one with the most room in its window. If a take is given up, the next take of its cell by a lease gets the
+    value. If none is made before the value comes, it is put back. So a time-out loses nothing, and of what waited when
+    the program was killed nothing is lost either. A value that it had by then is lost to it.
     """
 
     _goes_back = True
@@ -237,13 +246,14 @@ class Lanes(Asking[T]):
     def __init__(
         self,
         numbers: list[int],
+        left: Left,
         submit: Callable[[Request], Any],
         future: Callable[[], T],
         free: Callable[[list[int]], None],
     ) -> None:
         """Use `lease` of the image instead."""
         self.numbers, self._submit, self._new, self._free = numbers, submit, future, free
-        self._lanes, self._left, self._is_over = [Lane(it) for it in numbers], Left(), False
+        self._lanes, self._left, self._is_over = [Lane(it) for it in numbers], left, False
         self._held: set[Any] = set()
         self._is_awaited = future is not concurrent.futures.Future
 

@@ -11,7 +11,7 @@ from typing import Any, Callable, NamedTuple, Optional, TypeVar, Union
 
 from . import _memories
 from ._memories import Image, Path
-from ._requests import ALL_TAKEN, FULL, KEPT, Asking, Lanes, Left, give
+from ._requests import ALL_TAKEN, FOR_LEASES, FULL, KEPT, Asking, Lanes, Left, give
 from ._words import Answer, Device, NoElement, Refused, Reply, Request, Tag, Waiting, Window, WindowFull, spelled
 
 T = TypeVar("T")
@@ -83,12 +83,13 @@ class SharedElementAnew(Asking["Future[int]"]):
         return Future()
 
     def _send(self, tag: Tag, address: int, value: int) -> Future[Reply]:
-        return self.shared.submit(Request(tag, self.number, 0, address, value))
+        return self.shared._submit(Request(tag, self.number, 0, address, value), True)
 
 
-def is_waiting(image: Image, element: int) -> bool:
-    """Whether a request of an element waits."""
-    return any(image.collect(element, it).answer == Answer.WAITING for it in range(*image.window(element)))
+def waiting(image: Image, element: int) -> list[Request]:
+    """Returns the requests of an element that wait."""
+    numbers = (it for it in range(*image.window(element)) if image.collect(element, it).answer == Answer.WAITING)
+    return [asked for asked in (image.entry(element, it) for it in numbers) if asked]
 
 
 class Shared:
@@ -106,7 +107,10 @@ class Shared:
         self._asked: queue.SimpleQueue[Union[Asked, Called, None]] = queue.SimpleQueue()
         self._closed, self._lock = False, threading.Lock()
         self._elements: dict[int, SharedElement] = {}
-        self._taken: set[int] = set()  # The elements that are leased, or that the program uses by number.
+        self._used: set[int] = set()  # The elements that the program uses by number.
+        self._pool: set[int] = set()  # Those for leases.
+        self._leased: set[int] = set()
+        self._lent = Left()
         self._left: dict[int, Left] = {}  # Of the elements that number anew.
         began: Future[None] = Future()
         owner = Owner(self._asked)
@@ -144,19 +148,24 @@ class Shared:
     def submit(self, request: Request) -> Future[Reply]:
         """Sends a request, and returns a future of its answer. A request with the number 0 gets the element's next one.
         Answered entries of that element are then confirmed when its window is full, together with other requests."""
+        self._use(request.element)
         return self._submit(request, True)
+
+    def _use(self, element: int) -> None:
+        if element in self._pool:
+            raise ValueError(f"element {element}: {FOR_LEASES}")
+        self._used.add(element)
 
     def _submit(self, request: Request, waits: bool) -> Future[Reply]:
         spelled(request)
         is_numbered = Tag(request.tag) == Tag.CONFIRM or request.number > 0
-        if is_numbered:
-            self._taken.add(request.element)
         future: Future[Reply] = Future()
         self._send(Asked(request, future, waits, is_numbered))
         return future
 
     def ask(self, request: Request) -> Reply:
         """Sends a request, and returns its reply once that is on the disk. WAITING is a reply, too."""
+        self._use(request.element)
         return self._submit(request, False).result()
 
     def wait(self, request: Request, timeout: Optional[float] = None) -> Reply:
@@ -192,29 +201,44 @@ class Shared:
     def element(self, number: int) -> SharedElement:
         """Returns the element, whose requests are numbered here from the first that isn't confirmed on: a program that
         was killed makes them again and goes on where it was. It is the same at each call."""
-        self._taken.add(number)
+        self._use(number)
         return self._elements.setdefault(number, SharedElement(self, number))
 
     def element_anew(self, number: int) -> SharedElementAnew:
         """Returns an element whose requests get new numbers. What a run before asked is not asked again, so a value
         that it had taken when it was killed is lost to the program."""
-        self._taken.add(number)
+        self._use(number)
         return SharedElementAnew(self, number)
 
-    def lease(self, count: int = 1) -> Lanes[Future[int]]:
-        """Leases elements, from the highest number down: none that is leased, that this program has used by its number,
-        or of which a request waits. Use `with image.lease() as one`, or `give_back`. Raises `NoElement` if there aren't
-        so many. Of several, each fetch or take goes to the one with the most room."""
-        numbers = self.call(lambda image: self._reserve(image, count)).result()
-        return Lanes(numbers, self.submit, Future, self._taken.difference_update)
+    def lease(self, count: int = 1, first: Optional[int] = None) -> Lanes[Future[int]]:
+        """Leases elements of the upper half, or from the number `first` on: none that is leased, or of which a request
+        waits. The program uses none of these by its number, in no run. Use `with image.lease() as one`, or `give_back`.
+        Raises `NoElement` if there aren't so many. Of several, each fetch or take goes to the one with the most room."""
+        return self._lend(self.call(lambda image: self._reserve(image, count, first)).result(), Future)
 
-    def _reserve(self, image: Image, count: int) -> list[int]:
-        free = (it for it in reversed(range(image.limits[1])) if it not in self._taken and not is_waiting(image, it))
-        numbers = list(itertools.islice(free, count))
+    def _lend(self, numbers: list[int], future: Callable[[], T]) -> Lanes[T]:
+        return Lanes(numbers, self._lent, self._lent_asks, future, self._leased.difference_update)
+
+    def _lent_asks(self, request: Request) -> Future[Reply]:
+        return self._submit(request, True)
+
+    def _reserve(self, image: Image, count: int, first: Optional[int]) -> list[int]:
+        """Finds elements for a lease. Takes over what waited at the end of an earlier run."""
+        elements = image.limits[1]
+        pool = [it for it in reversed(range(elements // 2 if first is None else first, elements)) if it not in self._used]
+        for request in (asked for it in pool if it not in self._pool for asked in waiting(image, it)):
+            self._lent.adopt(request, self._submit(request, True), self._back(request))
+        self._pool.update(pool)
+        free = (it for it in pool if it not in self._leased and not waiting(image, it))
+        numbers = list(itertools.islice(free, max(1, count)))
         if len(numbers) < count:
             raise NoElement(None, image.path, ALL_TAKEN)
-        self._taken.update(numbers)
+        self._leased.update(numbers)
         return numbers
+
+    def _back(self, taken: Request) -> Callable[[int], object]:
+        put = taken._replace(tag=Tag.PUT, number=0)
+        return lambda value: self._submit(put._replace(value=value), True) if taken.tag == Tag.TAKE else None
 
     def close(self) -> None:
         """Serves the requests that were sent, and closes the image."""

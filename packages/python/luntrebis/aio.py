@@ -94,18 +94,20 @@ class Image:
         that it had taken when it was killed is lost to the program."""
         return ElementAnew(self.shared.element_anew(number))
 
-    async def lease(self, count: int = 1) -> Lanes[Awaitable[int]]:
-        """Leases elements, from the highest number down: none that is leased, that this program has used by its number,
-        or of which a request waits. Use `with await image.lease() as one`, or `give_back`. Raises `NoElement` if there
-        aren't so many. Of several, each fetch or take goes to the one with the most room."""
+    async def lease(self, count: int = 1, first: int | None = None) -> Lanes[Awaitable[int]]:
+        """Leases elements of the upper half, or from the number `first` on: none that is leased, or of which a request
+        waits. The program uses none of these by its number, in no run. Use `with await image.lease() as one`, or
+        `give_back`. Raises `NoElement` if there aren't so many. Of several, each fetch or take goes to the one with the
+        most room."""
         shared = self.shared
-        numbers = await asyncio.wrap_future(shared.call(lambda image: shared._reserve(image, count)))
-        return Lanes(numbers, shared.submit, awaited, shared._taken.difference_update)
+        found = shared.call(lambda image: shared._reserve(image, count, first))
+        return shared._lend(await asyncio.wrap_future(found), awaited)
 
     async def wait(self, request: Request, timeout: float | None = None) -> Reply:
         """Sends a request, and waits for its answer, so many seconds once the request is on the disk. If there is none
         then, raises `Waiting`, whose `request` has the number: wait for that again, as often as you like, also after a
         kill. A request with the number 0 gets the element's next one."""
+        self.shared._use(request.element)
         reply = await asyncio.wrap_future(self.shared._submit(request, False))
         return await waited(reply, request, timeout, self.ask)
 

@@ -1,7 +1,7 @@
 //! Elements by lease.
 
-use crate::pending::{Left, Told, Value};
-use crate::shared::{lock, Numbered, Shared};
+use crate::pending::{Told, Value};
+use crate::shared::{lock, Numbered, Shared, LENT};
 use crate::words::{Op, Request};
 use std::collections::VecDeque;
 use std::sync::{Arc, Mutex};
@@ -11,11 +11,11 @@ use std::sync::{Arc, Mutex};
 ///
 /// If there are several, the first has what is answered at once, and the others share what may wait: a fetch or a take
 /// goes to the one with the most room in its window. If a take is given up, as its [`Value`] is dropped, the next take of
-/// its cell gets the value. If none is made before the value comes, it is put back. So a time-out loses nothing.
+/// its cell by a lease gets the value. If none is made before the value comes, it is put back. So a time-out loses nothing,
+/// and of what waited when the program was killed nothing is lost either. A value that it had by then is lost to it.
 #[derive(Debug)]
 pub struct Lanes {
     shared: Shared,
-    left: Arc<Left>,
     lanes: Mutex<Vec<Lane>>,
 }
 
@@ -41,7 +41,7 @@ impl Lanes {
 
     pub(crate) fn new(shared: Shared, numbers: Vec<u16>) -> Lanes {
         let lanes = numbers.into_iter().map(|number| Lane { number, asked: VecDeque::new() }).collect();
-        Lanes { shared, left: Arc::default(), lanes: Mutex::new(lanes) }
+        Lanes { shared, lanes: Mutex::new(lanes) }
     }
 
     /// Returns the numbers of its elements.
@@ -50,7 +50,8 @@ impl Lanes {
     }
 
     pub(crate) fn ask(&self, op: Op) -> Value {
-        if let Some(found) = self.left.find((0, op)) {
+        let left = &self.shared.inner.left[LENT];
+        if let Some(found) = left.find((0, op)) {
             return Value(found);
         }
         let mut lanes = lock(&self.lanes);
@@ -59,7 +60,7 @@ impl Lanes {
         let used = lanes[first..last].iter_mut().map(|it| (it.used(), it));
         let (_, lane) = used.min_by_key(|(used, _)| *used).expect("a lease has an element");
         let request = Request { element: lane.number, number: 0, op };
-        let pending = self.shared.send_to_keep(request, Numbered::Anew, &self.left, (0, op));
+        let pending = self.shared.send_to_keep(request, Numbered::Anew, left, (0, op), true);
         lane.asked.push_back(pending.told.clone());
         Value(pending)
     }
@@ -67,9 +68,9 @@ impl Lanes {
 
 impl Drop for Lanes {
     fn drop(&mut self) {
-        let mut taken = lock(&self.shared.inner.taken);
+        let mut elements = lock(&self.shared.inner.elements);
         for number in self.numbers() {
-            taken.remove(&number);
+            elements.leased.remove(&number);
         }
     }
 }

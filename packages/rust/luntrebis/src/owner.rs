@@ -123,10 +123,11 @@ impl Group {
     }
 }
 
-/// Whether a request of an element waits.
-pub(crate) fn is_waiting(image: &Image, element: u16) -> bool {
-    let mut kept = image.window(element).unwrap_or(0..0);
-    kept.any(|it| matches!(image.collect(element, it), Ok(Reply::Waiting)))
+/// Returns the requests of an element that wait.
+pub(crate) fn waiting(image: &Image, element: u16) -> Vec<Request> {
+    let kept = image.window(element).unwrap_or(0..0);
+    let waiting = kept.filter(|it| matches!(image.collect(element, *it), Ok(Reply::Waiting)));
+    waiting.filter_map(|it| image.entry(element, it)).collect()
 }
 
 /// Returns the first number from this one on that waits, or wasn't asked before this group.

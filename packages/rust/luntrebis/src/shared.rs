@@ -2,7 +2,7 @@
 
 use crate::lanes::Lanes;
 use crate::memories::{Image, Limits};
-use crate::owner::{is_waiting, Message, Owner};
+use crate::owner::{waiting, Message, Owner};
 use crate::pending::{Home, Key, Left, Pending, Teller, Told, Value};
 use crate::words::{confirmation, Error, Of, Op, Refusal, Reply, Request, Result};
 use std::collections::{HashMap, HashSet};
@@ -29,15 +29,29 @@ pub(crate) struct Inner {
     asked: Mutex<Sender<Message>>,
     /// The numbers of the elements that ask again.
     counted: Mutex<HashMap<u16, Arc<Counted>>>,
-    /// The elements that are leased, or that the program uses by number.
-    pub(crate) taken: Mutex<HashSet<u16>>,
-    /// What was given up, of elements that ask again and of others.
-    left: [Arc<Left>; 2],
+    pub(crate) elements: Mutex<Elements>,
+    /// What was given up, of elements that ask again, of others, and of leases.
+    pub(crate) left: [Arc<Left>; 3],
     thread: Option<JoinHandle<()>>,
 }
 
+/// Who uses an element.
+#[derive(Debug, Default)]
+pub(crate) struct Elements {
+    /// The program, by its number.
+    used: HashSet<u16>,
+    /// Leases, now or later.
+    pool: HashSet<u16>,
+    pub(crate) leased: HashSet<u16>,
+}
+
+const FOR_LEASES: &str = "it is for leases, of which `lease` was called";
+
+/// Of which part of `left` a lease is.
+pub(crate) const LENT: usize = 2;
+
 impl Inner {
-    fn send(&self, request: Request, numbered: Numbered, waits: bool, told: Told) -> Pending {
+    pub(crate) fn send(&self, request: Request, numbered: Numbered, waits: bool, told: Told) -> Pending {
         let told = Arc::new(told);
         let asked = Asked { request, numbered, waits, teller: Teller { told: told.clone() } };
         // If nobody listens any longer, the request is dropped, and its teller says so.
@@ -93,8 +107,8 @@ impl Shared {
             }
         })?;
         begins.recv().unwrap_or(Err(Error::Closed))?;
-        let (asked, counted, taken) = (Mutex::new(sender), Mutex::default(), Mutex::default());
-        let inner = Inner { asked, counted, taken, left: Default::default(), thread: Some(thread) };
+        let (asked, counted, elements) = (Mutex::new(sender), Mutex::default(), Mutex::default());
+        let inner = Inner { asked, counted, elements, left: Default::default(), thread: Some(thread) };
         Ok(Shared { inner: Arc::new(inner) })
     }
 
@@ -146,41 +160,72 @@ impl Shared {
     }
 
     /// Returns the element, whose requests are numbered here from the first that isn't confirmed on: a program that was
-    /// killed makes them again and goes on where it was. It is the same at each call.
+    /// killed makes them again and goes on where it was. It is the same at each call. Panics if it is one for leases.
     pub fn element(&self, number: u16) -> Element {
         let counted = lock(&self.inner.counted).entry(number).or_default().clone();
-        lock(&self.inner.taken).insert(number);
+        assert!(self.may_use(number), "element {number}: {FOR_LEASES}");
         Element { shared: self.clone(), number, counted }
     }
 
     /// Returns an element whose requests get new numbers. What a run before asked is not asked again, so a value that it
-    /// had taken when it was killed is lost to the program.
+    /// had taken when it was killed is lost to the program. Panics if it is one for leases.
     pub fn element_anew(&self, number: u16) -> ElementAnew {
-        lock(&self.inner.taken).insert(number);
+        assert!(self.may_use(number), "element {number}: {FOR_LEASES}");
         ElementAnew { shared: self.clone(), number }
     }
 
-    /// Leases elements, from the highest number down: none that is leased, that this program has used by its number, or of
-    /// which a request waits. They are given back when the [`Lanes`] are dropped. Of several, each fetch or take goes to
+    /// Leases elements of the upper half: none that is leased, or of which a request waits. The program uses none of these
+    /// by its number, in no run. They are given back when the [`Lanes`] are dropped. Of several, each fetch or take goes to
     /// the one with the most room. If there aren't so many, returns [`Refusal::NoElement`].
     pub fn lease(&self, count: usize) -> Result<Lanes> {
-        let mut taken = lock(&self.inner.taken);
-        let others = taken.clone();
-        let free: Vec<u16> = self.call(move |image| {
-            let free = (0..image.limits().elements).rev().filter(|it| !others.contains(it) && !is_waiting(image, *it));
-            free.take(count.max(1)).collect()
+        let half = self.call(|image| image.limits().elements / 2)?;
+        self.lease_from(half, count)
+    }
+
+    /// The same, of the elements from this number on.
+    pub fn lease_from(&self, first: u16, count: usize) -> Result<Lanes> {
+        let mut elements = lock(&self.inner.elements);
+        let used = elements.used.clone();
+        let found: Vec<(u16, Vec<Request>)> = self.call(move |image| {
+            let pool = (first..image.limits().elements).rev().filter(|it| !used.contains(it));
+            pool.map(|it| (it, waiting(image, it))).collect()
         })?;
+        for (number, waiting) in &found {
+            if elements.pool.insert(*number) {
+                waiting.iter().for_each(|it| self.take_over(*it));
+            }
+        }
+        let free = found.iter().filter(|(it, waiting)| waiting.is_empty() && !elements.leased.contains(it));
+        let free: Vec<u16> = free.map(|(it, _)| *it).take(count.max(1)).collect();
         if free.len() < count.max(1) {
-            let why = "each element is leased or in use, or a request of it waits";
+            let why = "each element for leases is leased, or a request of it waits";
             return Err(Error::Refused(Refusal::NoElement, Of::new(why)));
         }
-        taken.extend(&free);
-        drop(taken);
+        elements.leased.extend(&free);
+        drop(elements);
         Ok(Lanes::new(self.clone(), free))
     }
 
+    /// Takes over a request that waited at the end of an earlier run.
+    fn take_over(&self, request: Request) {
+        let key = (0, request.op);
+        drop(self.send_to_keep(request, Numbered::Here, &self.inner.left[LENT], key, true));
+    }
+
+    /// Notes that the program uses an element by its number. Returns whether it may: the element isn't for leases.
+    fn may_use(&self, number: u16) -> bool {
+        let mut elements = lock(&self.inner.elements);
+        let is_free = !elements.pool.contains(&number);
+        if is_free {
+            elements.used.insert(number);
+        }
+        is_free
+    }
+
     fn send(&self, request: Request, numbered: Numbered, waits: bool) -> Pending {
-        lock(&self.inner.taken).insert(request.element);
+        if !self.may_use(request.element) {
+            return Error::Refused(Refusal::NoElement, Of::new(format_args!("{request}: {FOR_LEASES}"))).into();
+        }
         self.inner.send(request, numbered, waits, Told::default())
     }
 
@@ -188,12 +233,18 @@ impl Shared {
     fn send_of(&self, request: Request, numbered: Numbered) -> Pending {
         let goes_back = matches!(numbered, Numbered::Anew);
         let (left, key) = (&self.inner.left[usize::from(goes_back)], (request.element, request.op));
-        left.find(key).unwrap_or_else(|| self.send_to_keep(request, numbered, left, key))
+        left.find(key).unwrap_or_else(|| self.send_to_keep(request, numbered, left, key, goes_back))
     }
 
-    /// Sends a request. If it is a fetch or a take that is given up, it is kept there.
-    pub(crate) fn send_to_keep(&self, request: Request, numbered: Numbered, left: &Arc<Left>, key: Key) -> Pending {
-        let goes_back = matches!(numbered, Numbered::Anew);
+    /// Sends a request. If it is a fetch or a take that is given up, it is kept there, or its value goes back.
+    pub(crate) fn send_to_keep(
+        &self,
+        request: Request,
+        numbered: Numbered,
+        left: &Arc<Left>,
+        key: Key,
+        goes_back: bool,
+    ) -> Pending {
         let back = goes_back.then(|| (Arc::downgrade(&self.inner), request.element));
         let may_wait = matches!(request.op, Op::Fetch(_) | Op::Take(_));
         let home = may_wait.then(|| Home { left: left.clone(), key, back });

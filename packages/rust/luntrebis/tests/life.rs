@@ -250,28 +250,35 @@ fn a_thousand_time_outs_lose_nothing() {
     put(7);
     assert_eq!(behind.wait().unwrap(), 7, "what nobody has is put back");
 
-    let lanes = shared.lease(3).unwrap();
+    let lanes = shared.lease_from(5, 3).unwrap();
     assert_eq!(lanes.numbers(), [7, 6, 5]);
     for _ in 0..1000 {
         assert!(lanes.take(cell).wait_for(SOON).is_none());
     }
     drop(lanes);
-    assert_eq!(shared.lease(2).unwrap().numbers(), [7, 5], "a take of 6 waits");
-    assert!(matches!(shared.lease(3), Err(Error::Refused(Refusal::NoElement, _))));
+    assert_eq!(shared.lease_from(5, 2).unwrap().numbers(), [7, 5], "a take of 6 waits");
+    assert!(matches!(shared.lease_from(5, 3), Err(Error::Refused(Refusal::NoElement, _))));
     put(8);
     assert_eq!(other.take(cell).wait().unwrap(), 8);
-    assert_eq!(shared.lease(3).unwrap().numbers(), [7, 6, 5]);
+    assert_eq!(shared.lease_from(5, 3).unwrap().numbers(), [7, 6, 5]);
 
-    let late = shared.lease(1).unwrap().take(cell);
+    let late = shared.lease_from(5, 1).unwrap().take(cell);
     drop((one, other, anew, shared));
     assert!(matches!(late.wait(), Err(Error::Closed)));
+    let shared = Shared::open(&path).unwrap();
+    let lanes = shared.lease_from(5, 1).unwrap();
+    assert_eq!(lanes.numbers(), [6], "the take of 7 waits");
+    assert!(matches!(shared.ask(asked(7, 1, Op::Take(cell))), Err(Error::Refused(Refusal::NoElement, _))));
+    shared.element_anew(1).put(cell, 9).wait().unwrap();
+    assert_eq!(lanes.take(cell).wait().unwrap(), 9, "what waited at the end of the run before is taken over");
+    drop((lanes, shared));
     std::fs::remove_file(path).unwrap();
 }
 
 #[test]
 fn lanes_have_more_than_sixty_four_waits() {
     let path = place("lanes");
-    let shared = Shared::create(&path, Limits { cells: 512, elements: 8, slots: 256 }).unwrap();
+    let shared = Shared::create(&path, Limits { cells: 512, elements: 16, slots: 256 }).unwrap();
     let [cells] = layout(&shared, [Cells::i(300)]).unwrap();
     let lanes = shared.lease(6).unwrap();
     let fetches: Vec<_> = (0..300).map(|it| lanes.fetch(cells.at(it))).collect();
