@@ -1,4 +1,4 @@
-"""The requests of an element, whatever serves them, and who is to have each answer."""
+"""The requests of an element, whatever serves them, and who is to have each answer (decision 880)."""
 from __future__ import annotations
 
 import asyncio

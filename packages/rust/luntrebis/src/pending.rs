@@ -1,4 +1,4 @@
-//! The answer that comes later, and what becomes of it if nobody has it.
+//! The answer that comes later, and what becomes of it if nobody has it (decision 880).
 
 use crate::shared::{lock, Inner};
 use crate::words::{Error, Op, Reply, Result};
