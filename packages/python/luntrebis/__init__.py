@@ -12,6 +12,12 @@
 Kill it at any moment and run it again: each element begins at its last `done`, asks the same again, gets the same
 answers, and goes on. `maker` calls no `done`, so it gets the same block each time.
 
+`layout` makes blocks with names. `Counter`, `Queue`, `store_bytes`, `fetch_bytes` and `fetch_range` work on them.
+
+A wait can't be withdrawn. After `result(0.2)` keep the future, or cancel it: then the same call of the element gets the
+answer. `Shared.wait` says after a time under which number to wait again. `Shared.lease` gives elements that nobody else
+has, and what one of these takes after a time-out is put back.
+
 `Shared` is for many threads, with futures. `luntrebis.aio` is for tasks of an event loop, and its `serve` needs the
 program `imem` alone, no library. `Image` is for one thread. `Memory` has no disk. `element_anew` numbers anew: it
 doesn't ask again. A refusal raises a subclass of `Refused`. A reply which says that the program asked for something

@@ -116,7 +116,7 @@ class Queue:
     """A queue of numbers, for any number of elements that put and get: `Queue(one, layout.jobs)`.
 
     A `put` waits while all places are taken, a `get` while there is nothing. Each is at most four requests, and one that
-    has begun has its place in the queue. So await it to its end; for a time-out keep its task (`asyncio.wait`).
+    has begun has its place in the queue. So don't give it up half way; for a time-out keep its task (`asyncio.wait`).
     """
 
     def __init__(self, one: Any, block: Block) -> None:

@@ -39,6 +39,15 @@ def hand_over(asked: Any, holder: Any) -> None:
         give(holder, fault)
 
 
+def deliver(asked: Any, holder: Any) -> None:
+    """The same, in the thread of the future's loop if it has one and another thread asks."""
+    if isinstance(holder, asyncio.Future) and isinstance(asked, concurrent.futures.Future):
+        with contextlib.suppress(RuntimeError):  # Its loop is closed.
+            holder.get_loop().call_soon_threadsafe(hand_over, asked, holder)
+    else:
+        hand_over(asked, holder)
+
+
 class Left:
     """The fetches and takes that were given up: the future was cancelled, or the task that awaited it. They stay in the
     memory. The same request, made again, is one of these."""
@@ -52,6 +61,8 @@ class Left:
 
     def find(self, key: tuple[Tag, int]) -> Optional[Open]:
         """Takes out the oldest of these requests, if there is one."""
+        if not self._kept:
+            return None
         with self.lock:
             kept = self._kept.get(key)
             opened = kept.popleft() if kept else None
@@ -84,10 +95,10 @@ class Left:
 
 
 class Open:
-    """A request, and the future that is to have its answer."""
+    """A fetch or a take, and the future that is to have its answer."""
 
     def __init__(
-        self, left: Left, key: Optional[tuple[Tag, int]], asked: Any, back: Optional[Callable[[int], object]]
+        self, left: Left, key: tuple[Tag, int], asked: Any, back: Optional[Callable[[int], object]]
     ) -> None:
         self.left, self.key, self.asked, self.back = left, key, asked, back
         self.holder: Any = None
@@ -103,7 +114,7 @@ class Open:
     def give_up(self, holder: Any) -> None:
         """Keeps a fetch or a take for whoever asks the same. Does nothing if another future has it by now."""
         with self.left.lock:
-            if self.holder is not holder or self.key is None:
+            if self.holder is not holder:
                 return
             self.holder = None
             self.left.keep(self, self.key)
@@ -116,11 +127,8 @@ class Open:
         if holder is None:
             if self.back and self.left.drop(self):
                 self._put_back(self.back)
-        elif isinstance(holder, asyncio.Future) and isinstance(self.asked, concurrent.futures.Future):
-            with contextlib.suppress(RuntimeError):  # Its loop is closed.
-                holder.get_loop().call_soon_threadsafe(hand_over, self.asked, holder)
         else:
-            hand_over(self.asked, holder)
+            deliver(self.asked, holder)
 
     def _put_back(self, back: Callable[[int], object]) -> None:
         if not self.asked.cancelled() and not self.asked.exception():
@@ -200,14 +208,15 @@ class Asking(Requests[T]):
         raise NotImplementedError
 
     def _ask(self, tag: Tag, address: int, value: int = 0) -> T:
-        key = (tag, address) if tag in WAITS else None
-        opened, holder = self._left.find(key) if key else None, self._future()
-        if opened:
-            opened.held_by(holder)
+        holder = self._future()
+        if tag not in WAITS:
+            self._send(tag, address, value).add_done_callback(lambda asked: deliver(asked, holder))
             return holder
-        opened = Open(self._left, key, self._send(tag, address, value), self._back(tag, address))
+        found = self._left.find((tag, address))
+        opened = found or Open(self._left, (tag, address), self._send(tag, address, value), self._back(tag, address))
         opened.held_by(holder)
-        opened.asked.add_done_callback(opened.tell)
+        if not found:
+            opened.asked.add_done_callback(opened.tell)
         return holder
 
 

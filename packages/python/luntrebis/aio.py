@@ -15,8 +15,8 @@ that is killed. `connect` has the same calls over the socket of a server, and ne
 
 Time-outs: a request that waits can't be withdrawn, and stays in the memory. If `asyncio.wait_for` gives up a fetch or a
 take, the same call of the element gets its answer; ask nothing else of the element before. Of a lease the value goes to
-the next take of the cell, or is put back. Await each wait by itself, as `asyncio.gather` loses what was answered, and
-none of a unit's other requests. `image.wait` is for requests that you number.
+the next take of the cell, or is put back. Give up one wait at a time: a `gather` loses what was answered, and a helper
+isn't given up half way. `image.wait` is for requests that you number.
 """
 from __future__ import annotations
 
