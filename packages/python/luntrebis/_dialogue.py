@@ -336,7 +336,7 @@ class Served:
         """Whether a request of an element waits. Takes over what waited at the end of an earlier run."""
         kept = range(*await self.window(element))
         entries = await asyncio.gather(*(self.line(f"entry {element}.{it}") for it in kept))
-        waiting = [(it, *words[2:4]) for it, words in zip(kept, entries) if words[-1] == "waiting"]
+        waiting = [(it, words[2], words[3]) for it, words in zip(kept, entries) if words[-1] == "waiting"]
         if element not in self._pool:
             self._pool.add(element)
             for number, word, address in waiting:

@@ -285,10 +285,11 @@ class Lanes(Asking[T]):
     def _ask(self, tag: Tag, address: int, value: int = 0) -> T:
         if self._is_over:
             raise ValueError("given back")
-        holder: Any = super()._ask(tag, address, value)
-        self._held.add(holder)
-        holder.add_done_callback(self._held.discard)
-        return holder  # type: ignore[no-any-return]
+        holder = super()._ask(tag, address, value)
+        held: Any = holder
+        self._held.add(held)
+        held.add_done_callback(self._held.discard)
+        return holder
 
     def give_back(self) -> None:
         """Lets others lease the elements, each as soon as none of its requests waits. What isn't answered is given up:
