@@ -36,21 +36,23 @@ def work(one, blocks, jobs):
 
 
 def report(image, blocks):
-    """Keeps a text with the result, once all is added, and returns it."""
+    """Keeps a text with the result twenty times, once all is added, and returns a line of it."""
     with image.lease() as one:
         jobs = one.fetch(blocks.end[0]).result()
     reader, writer = image.element(5), image.element(6)
-    text = f"the squares of {jobs} numbers are {Counter(reader, blocks.total).read()}"
+    text = f"the squares of {jobs} numbers are {Counter(reader, blocks.total).read()}\n" * 20
     reader.done()
     luntrebis.store_bytes(writer, blocks.text, blocks.stored, text.encode())
     with image.lease() as one:
-        return luntrebis.fetch_bytes(one, blocks.text).decode()
+        kept = luntrebis.fetch_bytes(one, blocks.text).decode()
+    assert kept == text, kept
+    return kept.splitlines()[0]
 
 
 def main(path, jobs="40"):
-    with luntrebis.Shared.open_or_create(path, cells=64, elements=16, slots=64) as image:
+    with luntrebis.Shared.open_or_create(path, cells=512, elements=16, slots=64) as image:
         counters = {it: Counter.cells() for it in ("made", "total", "over", "stored")}
-        blocks = luntrebis.layout(image, queue=Queue.cells(8), text=("i", 16), end=("i", 1), **counters)
+        blocks = luntrebis.layout(image, queue=Queue.cells(8), text=("i", 256), end=("i", 1), **counters)
         calls = [(make, 1), *((work, it) for it in WORKERS)]
         for call, number in calls:
             threading.Thread(target=call, args=(image.element(number), blocks, int(jobs)), daemon=True).start()

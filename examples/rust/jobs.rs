@@ -48,26 +48,27 @@ fn work(one: &Element, blocks: Blocks, jobs: u64) -> Result<()> {
     }
 }
 
-/// Keeps a text with the result, once all is added, and returns it.
+/// Keeps a text with the result twenty times, once all is added, and returns a line of it.
 fn report(image: &Shared, blocks: Blocks) -> Result<String> {
     let jobs = image.lease(1)?.fetch(blocks.end.at(0)).wait()?;
     let reader = image.element(5);
     let total = Counter::new(&reader, blocks.total).read()?;
     reader.done().wait()?;
-    let text = format!("the squares of {jobs} numbers are {total}");
+    let text = format!("the squares of {jobs} numbers are {total}\n").repeat(20);
     store_bytes(&image.element(6), blocks.text, blocks.stored, text.as_bytes())?;
     let kept = fetch_bytes(&image.lease(1)?, blocks.text)?;
-    Ok(String::from_utf8_lossy(&kept).into_owned())
+    assert_eq!(kept, text.as_bytes());
+    Ok(text.lines().next().unwrap_or_default().to_owned())
 }
 
 fn main() -> Result<()> {
     let mut words = std::env::args().skip(1);
     let path = words.next().expect("usage: jobs IMAGE [JOBS]");
     let jobs = words.next().map_or(40, |it| it.parse().expect("a number of jobs"));
-    let image = Shared::open_or_create(path, Limits { cells: 64, elements: 16, slots: 64 })?;
+    let image = Shared::open_or_create(path, Limits { cells: 512, elements: 16, slots: 64 })?;
     let counters = [Cells::counter(), Cells::counter(), Cells::counter(), Cells::counter()];
     let [made, total, over, stored] = counters;
-    let cells = [Cells::queue(8), Cells::i(16), Cells::i(1), made, total, over, stored];
+    let cells = [Cells::queue(8), Cells::i(256), Cells::i(1), made, total, over, stored];
     let [queue, text, end, made, total, over, stored] = layout(&image, cells)?;
     let blocks = Blocks { queue, text, end, made, total, over, stored };
     for number in 1..5 {
