@@ -127,10 +127,23 @@ async def by_helpers(image, blocks):
         assert await luntrebis.fetch_bytes(lease, blocks.text) == text
 
 
+async def by_next_run(image, cell, number):
+    """What waited by a lease at the end of the run before is taken over."""
+    with await image.lease() as one:
+        assert one.numbers != [number]
+        await image.element_anew(4).put(cell, 9)
+        assert await asyncio.wait_for(one.take(cell), LATE) == 9
+    with await image.lease() as one:
+        assert one.numbers == [number]
+
+
 async def main(path, imem=None):
     sizes = {"cells": 512, "elements": 16, "slots": 256}
-    opening = luntrebis.aio.serve(path, imem, **sizes) if imem else luntrebis.aio.create(path, **sizes)
-    async with await opening as image:
+
+    def opened():
+        return luntrebis.aio.serve(path, imem, **sizes) if imem else luntrebis.aio.open_or_create(path, **sizes)
+
+    async with await opened() as image:
         counters = {it: Counter.cells() for it in ("total", "stored")}
         blocks = await layout(image, cell=("m", 1), i=("i", 201), jobs=Queue.cells(4), text=("i", 100), **counters)
         putter, cell = image.element_anew(4), blocks.cell[0]
@@ -138,6 +151,14 @@ async def main(path, imem=None):
             await trial(image, cell, lambda value: putter.put(cell, value))
         await by_helpers(image, blocks)
         await by_lanes(image, range(blocks.i[0], blocks.i[0] + 150))
+    async with await opened() as image:  # The fetches of `by_lanes` still wait.
+        lease = await image.lease()
+        window = await image.window(*lease.numbers)
+        lease.take(cell)
+        while await image.window(*lease.numbers) == window:
+            await asyncio.sleep(SOON)
+    async with await opened() as image:
+        await by_next_run(image, cell, *lease.numbers)
     print("nothing lost")
 
 
