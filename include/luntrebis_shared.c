@@ -147,7 +147,8 @@ static void send(struct lts_queue *queue, struct parcel *parcel) {
 static void tell(struct lts *shared, struct ticket *ticket, int later) {
     struct lts_answer answer = {ticket->command, ticket->outcome, ticket->mark, later};
     struct lane *lane = &shared->lanes[ticket->command.element % ELEMENTS];
-    if (ticket->leased && is_last(&ticket->outcome)) lane->open[ticket->command.number % KEPT] = 0;
+    int is_kept = ticket->leased || (ticket->kind == AWAITS && !ticket->outcome.refusal);
+    if (is_kept && is_last(&ticket->outcome)) lane->open[ticket->command.number % KEPT] = 0;
     if (ticket->queue) {
         struct parcel *parcel = later ? &ticket->later : &ticket->first;
         parcel->answer = answer;
@@ -258,10 +259,22 @@ static int number(struct lts *shared, struct group *group, struct ticket *ticket
     return 1;
 }
 
-/* Leases the lowest element that isn't leased. */
+/* Whether an element is leased, or one of its requests waits. */
+static int is_taken(struct lts *shared, uint16_t element) {
+    struct lt_bounds window = ltf_window(shared->file, element);
+    struct lt_outcome outcome = {0, 0, 0};
+    int taken = shared->lanes[element].leased;
+    for (uint64_t number = window.base; number < window.next && !taken; number++) {
+        ltf_collect(shared->file, element, number, &outcome);
+        taken = !is_last(&outcome);
+    }
+    return taken;
+}
+
+/* Leases the lowest element that isn't taken. */
 static void lease(struct lts *shared, struct ticket *ticket) {
     uint16_t element = 0;
-    while (element < shared->elements && shared->lanes[element].leased) element++;
+    while (element < shared->elements && is_taken(shared, element)) element++;
     ticket->outcome = (struct lt_outcome){LT_NO_ELEMENT, 0, 0};
     if (element < shared->elements) {
         shared->lanes[element] = (struct lane){.leased = 1};
@@ -491,10 +504,17 @@ struct lt_outcome lts_await(struct lts *shared, uint16_t element, uint64_t numbe
     return lts_await_until(shared, element, number, NULL);
 }
 
-struct lt_outcome lts_call(struct lts *shared, uint16_t element, uint8_t tag, uint32_t address, uint64_t value) {
+struct lt_outcome lts_call_until(struct lts *shared, uint16_t element, uint8_t tag, uint32_t address, uint64_t value,
+                                 const struct timespec *end, uint64_t *number) {
     struct ticket ticket = {.kind = ASKS, .command = {tag, element, address, 0, value}};
-    ask_and_wait(shared, &ticket, NULL);
+    ask_and_wait(shared, &ticket, end);
+    *number = ticket.command.number;
     return ticket.outcome;
+}
+
+struct lt_outcome lts_call(struct lts *shared, uint16_t element, uint8_t tag, uint32_t address, uint64_t value) {
+    uint64_t number;
+    return lts_call_until(shared, element, tag, address, value, NULL, &number);
 }
 
 struct lt_bounds lts_window(struct lts *shared, uint16_t element) {

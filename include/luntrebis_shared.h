@@ -32,7 +32,8 @@ void lts_close(struct lts *shared);
 struct lt_outcome lts_ask(struct lts *shared, const struct lt_command *command);
 
 /* Waits until the request that is kept under an element's number is answered. Returns the answer, or why there is none.
- * lts_await_until returns LT_WAITING if there is no answer at a time of CLOCK_MONOTONIC. */
+ * lts_await_until returns LT_WAITING if there is no answer at a time of CLOCK_MONOTONIC. The request stays in the memory,
+ * and its answer is got under its number, as often as you like. */
 struct lt_outcome lts_await(struct lts *shared, uint16_t element, uint64_t number);
 struct lt_outcome lts_await_until(struct lts *shared, uint16_t element, uint64_t number, const struct timespec *end);
 
@@ -72,11 +73,18 @@ void lts_queue_free(struct lts_queue *queue);
  * command of the element with the number 0 gets its number here, and its entry is confirmed here once its last answer
  * was delivered. At most 64 entries are kept, counted from the oldest one whose last answer wasn't delivered; a further
  * command gets LT_WINDOW_FULL. A program that asks again after a crash numbers its requests itself. */
-int lts_lease(struct lts *shared, uint16_t *element); /* 0, LT_NO_ELEMENT if each is leased, or LT_DEVICE */
+int lts_lease(struct lts *shared, uint16_t *element); /* 0, LT_NO_ELEMENT if there is none, or LT_DEVICE */
+
+/* Gives an element back. It isn't leased again while one of its requests waits. */
 void lts_give_back(struct lts *shared, uint16_t element);
 
 /* Makes one request of a leased element. Returns its last answer, for which it may wait long. */
 struct lt_outcome lts_call(struct lts *shared, uint16_t element, uint8_t tag, uint32_t address, uint64_t value);
+
+/* The same, but returns LT_WAITING if there is no last answer at a time of CLOCK_MONOTONIC. The request's number is at
+ * `number`, and lts_await_until goes on waiting for it, as often as you like. The number is 0 if it wasn't asked. */
+struct lt_outcome lts_call_until(struct lts *shared, uint16_t element, uint8_t tag, uint32_t address, uint64_t value,
+                                 const struct timespec *end, uint64_t *number);
 
 /* ---- What is kept, and what was done */
 

@@ -10,8 +10,8 @@ import pathlib
 import shutil
 from typing import Awaitable, Callable, Optional, Union
 
-from ._requests import FULL, KEPT, Requests, give
-from ._words import Answer, NoElement, Reply, Request, SyncFailed, Tag, Window, WindowFull, refusal, spelled
+from ._requests import ALL_TAKEN, FOR_LEASES, FULL, KEPT, Asking, Awaited, Lanes, Left, give
+from ._words import Answer, NoElement, Reply, Request, SyncFailed, Tag, Waiting, Window, WindowFull, refusal, spelled
 
 Path = Union[str, "os.PathLike[str]"]
 ANSWERS = {it.name.lower().replace("_", ""): it for it in Answer}
@@ -222,6 +222,7 @@ class Numbers:
     def __init__(self, window: asyncio.Future[Window], anew: bool) -> None:
         self.base = self.next = 0
         self.answered: set[int] = set()
+        self.left = Left()
         self.held: Optional[list[Callable[[Optional[BaseException]], None]]] = []
         self.anew = anew
         window.add_done_callback(self._know)
@@ -250,6 +251,11 @@ class Served:
         self.path, self.dialogue = path, dialogue
         self.elements = 0
         self._numbers: dict[tuple[int, bool], Numbers] = {}
+        self._used: set[int] = set()  # The elements that the program uses by number.
+        self._pool: set[int] = set()  # Those for leases.
+        self._leased: set[int] = set()
+        self._lent = Left()
+        self._later: dict[tuple[int, int], asyncio.Future[Reply]] = {}  # What `wait` waits for.
 
     async def __aenter__(self) -> Served:
         return self
@@ -273,12 +279,74 @@ class Served:
     def ask(self, request: Request) -> Awaitable[Reply]:
         """Sends a request under its own number at this call. Awaiting it gives the answer. The same request again is
         answered as before. A request with the number 0 gets the element's next one."""
+        self._use(request.element)
+        return self._asked(request, True)
+
+    def _use(self, element: int) -> None:
+        if element in self._pool:
+            raise ValueError(f"element {element}: {FOR_LEASES}")
+        self._used.add(element)
+
+    def _asked(self, request: Request, waits: bool) -> asyncio.Future[Reply]:
         if request.tag != Tag.CONFIRM and request.number == 0:
-            return self._counted(request, True)
+            return self._counted(request, True, waits)
         spelled(request)
         reply: asyncio.Future[Reply] = asyncio.get_running_loop().create_future()
-        self._send(request, reply)
+        self._send(request, reply, waits)
         return reply
+
+    async def wait(self, request: Request, timeout: Optional[float] = None) -> Reply:
+        """Sends a request, and waits for its answer, so many seconds once the request is on the disk. If there is none
+        then, raises `Waiting`, whose `request` has the number: wait for that again, as often as you like, also after a
+        kill. A request with the number 0 gets the element's next one."""
+        self._use(request.element)
+        return await waited(await self._asked(request, False), request, timeout, self._ask_once)
+
+    def _ask_once(self, request: Request) -> Awaitable[Reply]:
+        """Asks for the answer to a request that waits, once for all who want it."""
+        of = request.element, request.number
+        if of not in self._later:
+            self._later[of] = self._asked(request, True)
+            self._later[of].add_done_callback(lambda _: self._later.pop(of, None))
+        return asyncio.shield(self._later[of])
+
+    async def lease(self, count: int = 1, first: Optional[int] = None) -> Lanes[Awaitable[int]]:
+        """Leases elements of the upper half, or from the number `first` on: none that is leased, or of which a request
+        waits. The program uses none of these by its number, in no run. Use `with await image.lease() as one`, or
+        `give_back`. Raises `NoElement` if there aren't so many. Of several, each fetch or take goes to the one with the
+        most room. Other clients of a server don't know of the lease, and have to use other elements."""
+        numbers: list[int] = []
+        for number in reversed(range(self.elements // 2 if first is None else first, self.elements)):
+            if number in self._used | self._leased or len(numbers) == count:
+                continue
+            self._leased.add(number)  # Another task may ask meanwhile.
+            if await self._is_waiting(number):
+                self._leased.remove(number)
+            else:
+                numbers.append(number)
+        if len(numbers) < count:
+            self._leased.difference_update(numbers)
+            raise NoElement(None, self.path, ALL_TAKEN)
+        return Lanes(numbers, self._lent, self._lent_asks, awaited, self._leased.difference_update)
+
+    def _lent_asks(self, request: Request) -> asyncio.Future[Reply]:
+        return self._asked(request, True)
+
+    async def _is_waiting(self, element: int) -> bool:
+        """Whether a request of an element waits. Takes over what waited at the end of an earlier run."""
+        kept = range(*await self.window(element))
+        entries = await asyncio.gather(*(self.line(f"entry {element}.{it}") for it in kept))
+        waiting = [(it, words[2], words[3]) for it, words in zip(kept, entries) if words[-1] == "waiting"]
+        if element not in self._pool:
+            self._pool.add(element)
+            for number, word, address in waiting:
+                asked = Request(Tag[word.upper()], element, number, int(address))
+                self._lent.adopt(asked, self._asked(asked, True), self._back(asked))
+        return bool(waiting)
+
+    def _back(self, taken: Request) -> Callable[[int], object]:
+        put = taken._replace(tag=Tag.PUT, number=0)
+        return lambda value: self._asked(put._replace(value=value), True) if taken.tag == Tag.TAKE else None
 
     def confirm(self, element: int, upto: int) -> Awaitable[Reply]:
         """Drops the entries of the element below the number. It is sent at this call, and nobody has to await it."""
@@ -287,11 +355,13 @@ class Served:
     def element(self, number: int) -> ServedElement:
         """Returns the element, whose requests are numbered here from the first that isn't confirmed on: a program that
         was killed makes them again and goes on where it was. It is the same at each call."""
+        self._use(number)
         return ServedElement(self, number, False)
 
     def element_anew(self, number: int) -> ServedElement:
         """Returns an element whose requests get new numbers. What a run before asked is not asked again, so a value
         that it had taken when it was killed is lost to the program."""
+        self._use(number)
         return ServedElement(self, number, True)
 
     async def window(self, element: int) -> Window:
@@ -306,11 +376,15 @@ class Served:
             return f"its elements are 0 to {self.elements - 1}"
         return FULL if refused == WindowFull.number else ""
 
-    def _send(self, request: Request, reply: asyncio.Future[Reply]) -> None:
+    def _send(self, request: Request, reply: asyncio.Future[Reply], waits: bool = True) -> None:
         is_confirm = request.tag == Tag.CONFIRM
-        asked = self.dialogue.ask(str(request))
+        asked = self.dialogue.ask(str(request), waits)
 
         def tell(done: asyncio.Future[list[str]]) -> None:
+            numbers = self._numbers.get((request.element, True))
+            is_over = not done.cancelled() and not done.exception() and done.result()[1:] != ["waiting"]
+            if numbers and is_over and not is_confirm:
+                numbers.answered.add(request.number)  # Also if it was given up.
             if done.cancelled():
                 reply.cancel()
             elif fault := done.exception():
@@ -323,7 +397,8 @@ class Served:
             else:
                 _, word, *value = done.result()
                 value = [] if is_confirm else value
-                give(reply, Reply(ANSWERS[word], int(value[0]) if value else 0, f"{self.path}: {request}"))
+                said = f"{self.path}: {request}"
+                give(reply, Reply(ANSWERS[word], int(value[0]) if value else 0, said, request.number))
 
         asked.add_done_callback(tell)
 
@@ -333,7 +408,7 @@ class Served:
             self._numbers[element, anew] = Numbers(window, anew)
         return self._numbers[element, anew]
 
-    def _counted(self, request: Request, anew: bool) -> asyncio.Future[Reply]:
+    def _counted(self, request: Request, anew: bool, waits: bool = True) -> asyncio.Future[Reply]:
         """Sends a request under its element's next number, or a confirmation of all that it asked."""
         spelled(request)
         numbers = self._numbers_of(request.element, anew)
@@ -345,12 +420,12 @@ class Served:
             elif fault:
                 give(reply, fault)
             else:
-                self._send_next(request, numbers, reply)
+                self._send_next(request, numbers, reply, waits)
 
         numbers.when_known(send)
         return reply
 
-    def _send_next(self, request: Request, numbers: Numbers, reply: asyncio.Future[Reply]) -> None:
+    def _send_next(self, request: Request, numbers: Numbers, reply: asyncio.Future[Reply], waits: bool) -> None:
         if request.tag == Tag.CONFIRM:
             numbers.base = numbers.next  # If it is refused, the next request says why.
             self._send(request._replace(number=numbers.next), reply)
@@ -362,9 +437,7 @@ class Served:
             give(reply, WindowFull(None, f"{self.path}: {named}", FULL))
             return
         numbers.next += 1
-        if numbers.anew:
-            reply.add_done_callback(lambda _: numbers.answered.add(named.number))
-        self._send(named, reply)
+        self._send(named, reply, waits)
 
     def _make_room(self, element: int, numbers: Numbers) -> None:
         """Confirms what is answered, if the window is full."""
@@ -380,37 +453,44 @@ class Served:
             self._send(Request(Tag.CONFIRM, element, numbers.base), confirmed)
 
 
-class ServedElement(Requests["Awaitable[int]"]):
+class ServedElement(Asking["Awaitable[int]"]):
     """Makes the requests of an element. Each is sent at its call; awaiting it gives its value, its base, or 0."""
 
-    def __init__(self, image: Served, number: int, anew: bool) -> None:
-        self.image, self.number, self._anew = image, number, anew
-        image._numbers_of(number, anew)
+    _is_awaited = True
 
-    def _ask(self, tag: Tag, address: int, value: int = 0) -> Awaitable[int]:
-        return valued(self.image._counted(Request(tag, self.number, 0, address, value), self._anew))
+    def __init__(self, image: Served, number: int, anew: bool) -> None:
+        self.image, self.number, self._goes_back = image, number, anew
+        self._left = image._numbers_of(number, anew).left
+
+    def _send(self, tag: Tag, address: int, value: int) -> asyncio.Future[Reply]:
+        return self.image._counted(Request(tag, self.number, 0, address, value), self._goes_back)
+
+    def _future(self) -> Awaitable[int]:
+        return awaited()
 
     def done(self) -> Awaitable[int]:
         """A unit of work is over: the next run begins here. All that was asked has to be answered. Nobody has to await
         it."""
-        return valued(self.image._counted(Request(Tag.CONFIRM, self.number, 0), self._anew))
+        self._left.check(f"{self.image.path}: element {self.number}")
+        return self._ask(Tag.CONFIRM, 0)
 
 
-def valued(asked: asyncio.Future[Reply]) -> asyncio.Future[int]:
-    """Returns a future of a reply's value."""
-    value: asyncio.Future[int] = asyncio.get_running_loop().create_future()
+def awaited() -> Awaited:
+    """Returns a future of a value, for a task of this loop."""
+    return Awaited(loop=asyncio.get_running_loop())
 
-    def tell(done: asyncio.Future[Reply]) -> None:
-        if done.cancelled():
-            value.cancel()
-            return
-        try:
-            give(value, done.result().get())
-        except Exception as fault:
-            give(value, fault)
 
-    asked.add_done_callback(tell)
-    return value
+async def waited(
+    reply: Reply, request: Request, timeout: Optional[float], ask: Callable[[Request], Awaitable[Reply]]
+) -> Reply:
+    """Returns the answer to a request with this first reply. Raises `Waiting` if there is none in time."""
+    if reply.answer != Answer.WAITING:
+        return reply
+    named = request._replace(number=reply.number)
+    try:
+        return await asyncio.wait_for(ask(named), timeout)
+    except asyncio.TimeoutError:
+        raise Waiting(reply.of, named) from None
 
 
 async def make(program: str, name: str, sizes: list[str]) -> None:

@@ -60,7 +60,7 @@ class Held:
         outcome = self._serve(spelled(request))
         if outcome.refusal:
             raise refusal(outcome.refusal, self._of(request), self._why(request, outcome.refusal))
-        return told(outcome, lambda: self._of(request))
+        return told(outcome, lambda: self._of(request), request.number)
 
     def confirm(self, element: int, upto: int) -> None:
         """Drops the entries of the element below the number. Their replies can't be asked for again."""
@@ -95,7 +95,7 @@ class Memory(Held):
         with self._lock:
             self._check()
             LIB.lt_memory_collect(self._handle, element, number, outcome)
-        return told(outcome, lambda: f"{element}.{number}")
+        return told(outcome, lambda: f"{element}.{number}", number)
 
 
 class Image(Held):
@@ -182,7 +182,7 @@ class Image(Held):
     def _reply(self, request: Request, outcome: lt_outcome) -> Union[Reply, Refused]:
         if outcome.refusal:
             return refusal(outcome.refusal, self._of(request), self._why(request, outcome.refusal))
-        return told(outcome, lambda: self._of(request))
+        return told(outcome, lambda: self._of(request), request.number)
 
     def woken(self) -> list[tuple[int, int]]:
         """Returns the requests that the last `ask`, `ask_all` or `ask_group` resumed: they waited before, and are
@@ -196,7 +196,7 @@ class Image(Held):
         """Returns the reply that is kept under an element's number."""
         outcome = lt_outcome()
         self._call("ltf_collect", element, number, outcome)
-        return told(outcome, lambda: f"{self.path}: {self.entry(element, number) or f'{element}.{number}'}")
+        return told(outcome, lambda: f"{self.path}: {self.entry(element, number) or f'{element}.{number}'}", number)
 
     def entry(self, element: int, number: int) -> Optional[Request]:
         """Returns the request that is kept under an element's number, or None."""

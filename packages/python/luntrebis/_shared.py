@@ -2,15 +2,17 @@
 from __future__ import annotations
 
 import collections
+import itertools
 import queue
 import threading
-from concurrent.futures import CancelledError, Future
+from concurrent.futures import Future
+from concurrent.futures import TimeoutError as TimedOut
 from typing import Any, Callable, NamedTuple, Optional, TypeVar, Union
 
 from . import _memories
 from ._memories import Image, Path
-from ._requests import FULL, KEPT, Requests, give
-from ._words import Answer, Device, Refused, Reply, Request, Tag, Window, WindowFull, spelled
+from ._requests import ALL_TAKEN, FOR_LEASES, FULL, KEPT, Asking, Lanes, Left, give
+from ._words import Answer, Device, NoElement, Refused, Reply, Request, Tag, Waiting, Window, WindowFull, spelled
 
 T = TypeVar("T")
 MOST = 16  # The most members of a group.
@@ -39,57 +41,55 @@ class Called(NamedTuple):
     future: Future[Any]
 
 
-def valued(asked: Future[Reply]) -> Future[int]:
-    """Returns a future of a reply's value."""
-    value: Future[int] = Future()
-
-    def tell(done: Future[Reply]) -> None:
-        try:
-            give(value, done.result().get())
-        except CancelledError:
-            value.cancel()
-        except BaseException as fault:
-            give(value, fault)
-
-    asked.add_done_callback(tell)
-    return value
-
-
-class SharedElement(Requests["Future[int]"]):
+class SharedElement(Asking["Future[int]"]):
     """Makes the requests of an element, each with a future of its value, its base, or 0. Any thread may ask.
 
     The numbers begin at the first that isn't confirmed. So a program that was killed makes the same requests again from
     its last `done` on. They are answered as before, and act once. It goes on where it was, if it asks the same whenever
-    it gets the same answers. At most 64 requests may follow a `done`.
+    it gets the same answers. At most 64 requests may follow a `done`. If the future of a fetch or a take is cancelled,
+    the request stays, and the same call gets its answer; ask nothing else of the element before.
     """
 
     def __init__(self, shared: Shared, number: int) -> None:
-        self.shared, self.number, self._counted = shared, number, Counted()
+        self.shared, self.number, self._counted, self._left = shared, number, Counted(), Left()
 
-    def _send(self, request: Request) -> Future[int]:
+    def _future(self) -> Future[int]:
+        return Future()
+
+    def _send(self, tag: Tag, address: int, value: int) -> Future[Reply]:
+        request, future = Request(tag, self.number, 0, address, value), Future[Reply]()
         spelled(request)
-        future: Future[Reply] = Future()
         self.shared._send(Asked(request, future, True, True, self._counted))
-        return valued(future)
-
-    def _ask(self, tag: Tag, address: int, value: int = 0) -> Future[int]:
-        return self._send(Request(tag, self.number, 0, address, value))
+        return future
 
     def done(self) -> Future[int]:
         """A unit of work is over: the next run begins here. All that was asked has to be answered. Nobody has to wait
         for the future."""
-        return self._send(Request(Tag.CONFIRM, self.number, 0))
+        self._left.check(f"element {self.number}")
+        return self._ask(Tag.CONFIRM, 0)
 
 
-class SharedElementAnew(Requests["Future[int]"]):
+class SharedElementAnew(Asking["Future[int]"]):
     """Makes requests of an element under new numbers, each with a future of its value, its base, or 0. Answered entries
-    are confirmed when the window is full. Any thread may ask."""
+    are confirmed when the window is full. Any thread may ask. If the future of a take is cancelled, the next take of
+    the cell gets the value, or it is put back."""
+
+    _goes_back = True
 
     def __init__(self, shared: Shared, number: int) -> None:
-        self.shared, self.number = shared, number
+        self.shared, self.number, self._left = shared, number, shared._left.setdefault(number, Left())
 
-    def _ask(self, tag: Tag, address: int, value: int = 0) -> Future[int]:
-        return valued(self.shared.submit(Request(tag, self.number, 0, address, value)))
+    def _future(self) -> Future[int]:
+        return Future()
+
+    def _send(self, tag: Tag, address: int, value: int) -> Future[Reply]:
+        return self.shared._submit(Request(tag, self.number, 0, address, value), True)
+
+
+def waiting(image: Image, element: int) -> list[Request]:
+    """Returns the requests of an element that wait."""
+    numbers = (it for it in range(*image.window(element)) if image.collect(element, it).answer == Answer.WAITING)
+    return [asked for asked in (image.entry(element, it) for it in numbers) if asked]
 
 
 class Shared:
@@ -107,6 +107,11 @@ class Shared:
         self._asked: queue.SimpleQueue[Union[Asked, Called, None]] = queue.SimpleQueue()
         self._closed, self._lock = False, threading.Lock()
         self._elements: dict[int, SharedElement] = {}
+        self._used: set[int] = set()  # The elements that the program uses by number.
+        self._pool: set[int] = set()  # Those for leases.
+        self._leased: set[int] = set()
+        self._lent = Left()
+        self._left: dict[int, Left] = {}  # Of the elements that number anew.
         began: Future[None] = Future()
         owner = Owner(self._asked)
         self._thread = threading.Thread(target=owner.run, args=(make, began), name="luntrebis", daemon=True)
@@ -143,7 +148,13 @@ class Shared:
     def submit(self, request: Request) -> Future[Reply]:
         """Sends a request, and returns a future of its answer. A request with the number 0 gets the element's next one.
         Answered entries of that element are then confirmed when its window is full, together with other requests."""
+        self._use(request.element)
         return self._submit(request, True)
+
+    def _use(self, element: int) -> None:
+        if element in self._pool:
+            raise ValueError(f"element {element}: {FOR_LEASES}")
+        self._used.add(element)
 
     def _submit(self, request: Request, waits: bool) -> Future[Reply]:
         spelled(request)
@@ -154,7 +165,23 @@ class Shared:
 
     def ask(self, request: Request) -> Reply:
         """Sends a request, and returns its reply once that is on the disk. WAITING is a reply, too."""
+        self._use(request.element)
         return self._submit(request, False).result()
+
+    def wait(self, request: Request, timeout: Optional[float] = None) -> Reply:
+        """Sends a request, and waits for its answer, so many seconds once the request is on the disk. If there is none
+        then, raises `Waiting`, whose `request` has the number: wait for that again, as often as you like, also after a
+        kill. A request with the number 0 gets the element's next one."""
+        reply = self.ask(request)
+        if reply.answer != Answer.WAITING:
+            return reply
+        named = request._replace(number=reply.number)
+        later = self.submit(named)
+        try:
+            return later.result(timeout)
+        except TimedOut:
+            later.cancel()
+            raise Waiting(reply.of, named) from None
 
     def confirm(self, element: int, upto: int) -> None:
         """Drops the entries of the element below the number. `submit` takes a request with the tag CONFIRM and that
@@ -174,12 +201,44 @@ class Shared:
     def element(self, number: int) -> SharedElement:
         """Returns the element, whose requests are numbered here from the first that isn't confirmed on: a program that
         was killed makes them again and goes on where it was. It is the same at each call."""
+        self._use(number)
         return self._elements.setdefault(number, SharedElement(self, number))
 
     def element_anew(self, number: int) -> SharedElementAnew:
         """Returns an element whose requests get new numbers. What a run before asked is not asked again, so a value
         that it had taken when it was killed is lost to the program."""
+        self._use(number)
         return SharedElementAnew(self, number)
+
+    def lease(self, count: int = 1, first: Optional[int] = None) -> Lanes[Future[int]]:
+        """Leases elements of the upper half, or from the number `first` on: none that is leased, or of which a request
+        waits. The program uses none of these by its number, in no run. Use `with image.lease() as one`, or `give_back`.
+        Raises `NoElement` if there aren't so many. Of several, each fetch or take goes to the one with the most room."""
+        return self._lend(self.call(lambda image: self._reserve(image, count, first)).result(), Future)
+
+    def _lend(self, numbers: list[int], future: Callable[[], T]) -> Lanes[T]:
+        return Lanes(numbers, self._lent, self._lent_asks, future, self._leased.difference_update)
+
+    def _lent_asks(self, request: Request) -> Future[Reply]:
+        return self._submit(request, True)
+
+    def _reserve(self, image: Image, count: int, first: Optional[int]) -> list[int]:
+        """Finds elements for a lease. Takes over what waited at the end of an earlier run."""
+        elements = image.limits[1]
+        pool = [it for it in reversed(range(elements // 2 if first is None else first, elements)) if it not in self._used]
+        for request in (asked for it in pool if it not in self._pool for asked in waiting(image, it)):
+            self._lent.adopt(request, self._submit(request, True), self._back(request))
+        self._pool.update(pool)
+        free = (it for it in pool if it not in self._leased and not waiting(image, it))
+        numbers = list(itertools.islice(free, max(1, count)))
+        if len(numbers) < count:
+            raise NoElement(None, image.path, ALL_TAKEN)
+        self._leased.update(numbers)
+        return numbers
+
+    def _back(self, taken: Request) -> Callable[[int], object]:
+        put = taken._replace(tag=Tag.PUT, number=0)
+        return lambda value: self._submit(put._replace(value=value), True) if taken.tag == Tag.TAKE else None
 
     def close(self) -> None:
         """Serves the requests that were sent, and closes the image."""
@@ -373,7 +432,8 @@ class Owner:
         """Gives a request its reply. If the request waits, its future is kept instead."""
         if isinstance(reply, Reply) and reply.answer == Answer.WAITING and asked.waits:
             of = command.element, command.number
-            self.waiting.setdefault(of, []).append(asked.future)
+            before = self.waiting.get(of, [])
+            self.waiting[of] = [*(it for it in before if not it.cancelled()), asked.future]
             self.tell_resumed(of)  # It may have been answered with its group.
         else:
             give(asked.future, reply)

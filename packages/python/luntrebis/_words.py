@@ -187,7 +187,11 @@ class StillWaiting(Answered):
 
 
 class Waiting(Exception):
-    """The request isn't answered yet."""
+    """The request isn't answered yet. After a time-out `request` has its number: wait for it again."""
+
+    def __init__(self, of: str = "", request: Request | None = None) -> None:
+        self.request = request
+        super().__init__(": ".join(filter(None, [of, said_of(type(self))])))
 
 
 ERRORS: dict[Answer, type[Answered]] = {
@@ -243,11 +247,13 @@ class Work(NamedTuple):
 
 @dataclass(frozen=True)
 class Reply:
-    """The reply to a request. It has a `value` if the answer is VALUE or BASE. `of` says which request of which file."""
+    """The reply to a request. It has a `value` if the answer is VALUE or BASE. `of` says which request of which file,
+    and `number` is the request's number."""
 
     answer: Answer
     value: int = 0
     of: str = field(default="", compare=False, repr=False)
+    number: int = field(default=0, compare=False, repr=False)
 
     def get(self) -> int:
         """Returns the value, the base, or 0. Raises `Waiting`, or the subclass of `Answered` for the reply."""
@@ -285,9 +291,9 @@ def spelled(request: Request) -> lt_command:
     return lt_command(request.tag, request.element, request.address, request.number, request.value)
 
 
-def told(outcome: lt_outcome, of: Callable[[], str]) -> Reply:
+def told(outcome: lt_outcome, of: Callable[[], str], number: int = 0) -> Reply:
     """Returns the reply, or raises the refusal. What it is of is looked up only if it may be said."""
     if outcome.refusal:
         raise refusal(outcome.refusal, of())
     answer = Answer(outcome.tag)
-    return Reply(answer, outcome.value, of() if answer in ERRORS or answer == Answer.WAITING else "")
+    return Reply(answer, outcome.value, of() if answer in ERRORS or answer == Answer.WAITING else "", number)

@@ -13,8 +13,10 @@ Kill it at any moment and run it again: each element begins at its last `done`, 
 answers, and goes on. `maker` calls no `done`, so it gets the same block each time. `serve` starts the program again, if
 that is killed. `connect` has the same calls over the socket of a server, and needs no program.
 
-A request that waits can't be withdrawn. `asyncio.wait_for` ends the waiting, but the request stays in the memory, and a
-value that comes goes to it. Put `asyncio.shield` around what you may want to await later.
+Time-outs: a request that waits can't be withdrawn, and stays in the memory. If `asyncio.wait_for` gives up a fetch or a
+take, the same call of the element gets its answer; ask nothing else of the element before. Of a lease the value goes to
+the next take of the cell, or is put back. Give up one wait at a time: a `gather` loses what was answered, and a helper
+isn't given up half way. `image.wait` is for requests that you number.
 """
 from __future__ import annotations
 
@@ -23,38 +25,38 @@ import ssl
 from typing import Awaitable
 
 from . import _connection
-from ._dialogue import Path, Served, begin
-from ._requests import Requests
+from ._dialogue import Path, Served, awaited, begin, waited
+from ._requests import Asking, Lanes
 from ._shared import Shared, SharedElement, SharedElementAnew
 from ._words import Reply, Request, Tag, Window
 
 
-class ElementAnew(Requests["Awaitable[int]"]):
+class ElementAnew(Asking["Awaitable[int]"]):
     """Makes requests of an element, under new numbers. Each is sent at its call; awaiting it gives its value, its base,
     or 0."""
 
-    _element: SharedElement | SharedElementAnew
+    _is_awaited = True
 
-    def __init__(self, image: Image, number: int) -> None:
-        self._element, self.number = image.shared.element_anew(number), number
+    def __init__(self, element: SharedElement | SharedElementAnew) -> None:
+        self.number, self._element = element.number, element
+        self._left, self._goes_back = element._left, element._goes_back
 
-    def _ask(self, tag: Tag, address: int, value: int = 0) -> Awaitable[int]:
-        return asyncio.wrap_future(self._element._ask(tag, address, value))
+    def _send(self, tag: Tag, address: int, value: int) -> object:
+        return self._element._send(tag, address, value)
+
+    def _future(self) -> Awaitable[int]:
+        return awaited()
 
 
 class Element(ElementAnew):
     """Makes the requests of an element from the first that isn't confirmed on. Each is sent at its call; awaiting it
     gives its value, its base, or 0."""
 
-    _element: SharedElement
-
-    def __init__(self, image: Image, number: int) -> None:
-        self._element, self.number = image.shared.element(number), number
-
     def done(self) -> Awaitable[int]:
         """A unit of work is over: the next run begins here. All that was asked has to be answered. Nobody has to await
         it."""
-        return asyncio.wrap_future(self._element.done())
+        self._left.check(f"element {self.number}")
+        return self._ask(Tag.CONFIRM, 0)
 
 
 class Image:
@@ -85,12 +87,29 @@ class Image:
     def element(self, number: int) -> Element:
         """Returns the element, whose requests are numbered here from the first that isn't confirmed on: a program that
         was killed makes them again and goes on where it was. It is the same at each call."""
-        return Element(self, number)
+        return Element(self.shared.element(number))
 
     def element_anew(self, number: int) -> ElementAnew:
         """Returns an element whose requests get new numbers. What a run before asked is not asked again, so a value
         that it had taken when it was killed is lost to the program."""
-        return ElementAnew(self, number)
+        return ElementAnew(self.shared.element_anew(number))
+
+    async def lease(self, count: int = 1, first: int | None = None) -> Lanes[Awaitable[int]]:
+        """Leases elements of the upper half, or from the number `first` on: none that is leased, or of which a request
+        waits. The program uses none of these by its number, in no run. Use `with await image.lease() as one`, or
+        `give_back`. Raises `NoElement` if there aren't so many. Of several, each fetch or take goes to the one with the
+        most room."""
+        shared = self.shared
+        found = shared.call(lambda image: shared._reserve(image, count, first))
+        return shared._lend(await asyncio.wrap_future(found), awaited)
+
+    async def wait(self, request: Request, timeout: float | None = None) -> Reply:
+        """Sends a request, and waits for its answer, so many seconds once the request is on the disk. If there is none
+        then, raises `Waiting`, whose `request` has the number: wait for that again, as often as you like, also after a
+        kill. A request with the number 0 gets the element's next one."""
+        self.shared._use(request.element)
+        reply = await asyncio.wrap_future(self.shared._submit(request, False))
+        return await waited(reply, request, timeout, self.ask)
 
     async def close(self) -> None:
         """Serves the requests that were sent, and closes the image. Those that still wait are cancelled."""

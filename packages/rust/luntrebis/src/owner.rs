@@ -1,7 +1,8 @@
 //! The thread that makes the calls of a shared image.
 
 use crate::memories::{Image, FULL, KEPT};
-use crate::shared::{Asked, Counted, Numbered, Teller};
+use crate::pending::Teller;
+use crate::shared::{Asked, Counted, Numbered};
 use crate::words::{confirmation, Error, Of, Op, Refusal, Reply, Request, Result};
 use std::collections::{HashMap, HashSet, VecDeque};
 use std::fmt;
@@ -120,6 +121,13 @@ impl Group {
         self.windows.insert(element, window.start..number + 1);
         Ok(Some(number))
     }
+}
+
+/// Returns the requests of an element that wait.
+pub(crate) fn waiting(image: &Image, element: u16) -> Vec<Request> {
+    let kept = image.window(element).unwrap_or(0..0);
+    let waiting = kept.filter(|it| matches!(image.collect(element, *it), Ok(Reply::Waiting)));
+    waiting.filter_map(|it| image.entry(element, it)).collect()
 }
 
 /// Returns the first number from this one on that waits, or wasn't asked before this group.
@@ -246,10 +254,13 @@ impl Owner {
     /// Gives a request its reply. If the request waits, keeps who is to get the reply. A request that was answered
     /// while its group was served gets its reply at once.
     fn tell(&mut self, asked: Asked, command: Request, reply: Result<Reply>) {
+        asked.teller.note(command.number);
         match reply {
             Ok(Reply::Waiting) if asked.waits => {
                 let of = (command.element, command.number);
-                self.waiting.entry(of).or_default().push(asked.teller);
+                let waiting = self.waiting.entry(of).or_default();
+                waiting.retain(Teller::is_wanted);
+                waiting.push(asked.teller);
                 self.tell_resumed(of);
             }
             Ok(it) if it.is_error() => asked.teller.tell_of(reply, self.image.named(&command)),

@@ -1,17 +1,17 @@
 //! An image for any number of threads. A thread of its own makes all calls, and answers are futures.
 
+use crate::lanes::Lanes;
 use crate::memories::{Image, Limits};
-use crate::owner::{Message, Owner};
-use crate::words::{confirmation, Error, Op, Reply, Request, Result};
-use std::collections::HashMap;
-use std::future::Future;
+use crate::owner::{waiting, Message, Owner};
+use crate::pending::{Home, Key, Left, Pending, Teller, Told, Value};
+use crate::words::{confirmation, Error, Of, Op, Refusal, Reply, Request, Result};
+use std::collections::{HashMap, HashSet};
 use std::ops::Range;
 use std::path::Path;
-use std::pin::Pin;
 use std::sync::mpsc::{channel, Sender};
-use std::sync::{Arc, Condvar, Mutex, MutexGuard, PoisonError};
-use std::task::{Context, Poll, Waker};
+use std::sync::{Arc, Mutex, MutexGuard, PoisonError};
 use std::thread::{self, JoinHandle};
+use std::time::Duration;
 
 /// An image for any number of threads. A clone is the same image.
 ///
@@ -21,19 +21,54 @@ use std::thread::{self, JoinHandle};
 /// drop the image, open it again, and ask again under the same numbers.
 #[derive(Clone, Debug)]
 pub struct Shared {
-    inner: Arc<Inner>,
+    pub(crate) inner: Arc<Inner>,
 }
 
 #[derive(Debug)]
-struct Inner {
+pub(crate) struct Inner {
     asked: Mutex<Sender<Message>>,
     /// The numbers of the elements that ask again.
     counted: Mutex<HashMap<u16, Arc<Counted>>>,
+    pub(crate) elements: Mutex<Elements>,
+    /// What was given up, of elements that ask again, of others, and of leases.
+    pub(crate) left: [Arc<Left>; 3],
     thread: Option<JoinHandle<()>>,
+}
+
+/// Who uses an element.
+#[derive(Debug, Default)]
+pub(crate) struct Elements {
+    /// The program, by its number.
+    used: HashSet<u16>,
+    /// Leases, now or later.
+    pool: HashSet<u16>,
+    pub(crate) leased: HashSet<u16>,
+}
+
+const FOR_LEASES: &str = "it is for leases, of which `lease` was called";
+
+/// Of which part of `left` a lease is.
+pub(crate) const LENT: usize = 2;
+
+impl Inner {
+    pub(crate) fn send(&self, request: Request, numbered: Numbered, waits: bool, told: Told) -> Pending {
+        let told = Arc::new(told);
+        let asked = Asked { request, numbered, waits, teller: Teller { told: told.clone() } };
+        // If nobody listens any longer, the request is dropped, and its teller says so.
+        let _sent = lock(&self.asked).send(Message::Ask(asked));
+        Pending { told }
+    }
+
+    /// Puts a value back that was taken for nobody.
+    pub(crate) fn put_back(&self, element: u16, address: u32, value: u64) {
+        let put = Request { element, number: 0, op: Op::Put(address, value) };
+        drop(self.send(put, Numbered::Anew, true, Told::default()));
+    }
 }
 
 impl Drop for Inner {
     fn drop(&mut self) {
+        self.left.iter().for_each(|it| it.clear());
         let _ended = lock(&self.asked).send(Message::End);
         if let Some(thread) = self.thread.take().filter(|it| it.thread().id() != thread::current().id()) {
             let _joined = thread.join();
@@ -72,8 +107,9 @@ impl Shared {
             }
         })?;
         begins.recv().unwrap_or(Err(Error::Closed))?;
-        let (asked, counted) = (Mutex::new(sender), Mutex::default());
-        Ok(Shared { inner: Arc::new(Inner { asked, counted, thread: Some(thread) }) })
+        let (asked, counted, elements) = (Mutex::new(sender), Mutex::default(), Mutex::default());
+        let inner = Inner { asked, counted, elements, left: Default::default(), thread: Some(thread) };
+        Ok(Shared { inner: Arc::new(inner) })
     }
 
     /// Sends a request under its own number, or a confirmation. Its future is done once the request is answered, for a
@@ -86,6 +122,21 @@ impl Shared {
     /// request again is answered as before.
     pub fn ask(&self, request: Request) -> Result<Reply> {
         self.send(request, Numbered::Here, false).wait()
+    }
+
+    /// Sends a request, and waits for its answer, at most so long once the request is on the disk. Returns its number, and
+    /// the reply: [`Reply::Waiting`] if there is no answer yet. Then wait for that number again, as often as you like, also
+    /// after a kill. A request with the number 0 gets the element's next one.
+    pub fn wait(&self, request: Request, timeout: Duration) -> Result<(u64, Reply)> {
+        let is_new = request.number == 0 && request.op != Op::Confirm;
+        let first = self.send(request, if is_new { Numbered::Anew } else { Numbered::Here }, false);
+        let told = first.told.clone();
+        let (reply, number) = (first.wait()?, told.number());
+        if reply != Reply::Waiting {
+            return Ok((number, reply));
+        }
+        let later = self.submit(Request { number, ..request }).wait_for(timeout);
+        Ok((number, later.unwrap_or(Ok(Reply::Waiting))?))
     }
 
     /// Drops the entries of the element below the number.
@@ -109,24 +160,95 @@ impl Shared {
     }
 
     /// Returns the element, whose requests are numbered here from the first that isn't confirmed on: a program that was
-    /// killed makes them again and goes on where it was. It is the same at each call.
+    /// killed makes them again and goes on where it was. It is the same at each call. Panics if it is one for leases.
     pub fn element(&self, number: u16) -> Element {
         let counted = lock(&self.inner.counted).entry(number).or_default().clone();
+        assert!(self.may_use(number), "element {number}: {FOR_LEASES}");
         Element { shared: self.clone(), number, counted }
     }
 
     /// Returns an element whose requests get new numbers. What a run before asked is not asked again, so a value that it
-    /// had taken when it was killed is lost to the program.
+    /// had taken when it was killed is lost to the program. Panics if it is one for leases.
     pub fn element_anew(&self, number: u16) -> ElementAnew {
+        assert!(self.may_use(number), "element {number}: {FOR_LEASES}");
         ElementAnew { shared: self.clone(), number }
     }
 
+    /// Leases elements of the upper half: none that is leased, or of which a request waits. The program uses none of these
+    /// by its number, in no run. They are given back when the [`Lanes`] are dropped. Of several, each fetch or take goes to
+    /// the one with the most room. If there aren't so many, returns [`Refusal::NoElement`].
+    pub fn lease(&self, count: usize) -> Result<Lanes> {
+        let half = self.call(|image| image.limits().elements / 2)?;
+        self.lease_from(half, count)
+    }
+
+    /// The same, of the elements from this number on.
+    pub fn lease_from(&self, first: u16, count: usize) -> Result<Lanes> {
+        let mut elements = lock(&self.inner.elements);
+        let used = elements.used.clone();
+        let found: Vec<(u16, Vec<Request>)> = self.call(move |image| {
+            let pool = (first..image.limits().elements).rev().filter(|it| !used.contains(it));
+            pool.map(|it| (it, waiting(image, it))).collect()
+        })?;
+        for (number, waiting) in &found {
+            if elements.pool.insert(*number) {
+                waiting.iter().for_each(|it| self.take_over(*it));
+            }
+        }
+        let free = found.iter().filter(|(it, waiting)| waiting.is_empty() && !elements.leased.contains(it));
+        let free: Vec<u16> = free.map(|(it, _)| *it).take(count.max(1)).collect();
+        if free.len() < count.max(1) {
+            let why = "each element for leases is leased, or a request of it waits";
+            return Err(Error::Refused(Refusal::NoElement, Of::new(why)));
+        }
+        elements.leased.extend(&free);
+        drop(elements);
+        Ok(Lanes::new(self.clone(), free))
+    }
+
+    /// Takes over a request that waited at the end of an earlier run.
+    fn take_over(&self, request: Request) {
+        let key = (0, request.op);
+        drop(self.send_to_keep(request, Numbered::Here, &self.inner.left[LENT], key, true));
+    }
+
+    /// Notes that the program uses an element by its number. Returns whether it may: the element isn't for leases.
+    fn may_use(&self, number: u16) -> bool {
+        let mut elements = lock(&self.inner.elements);
+        let is_free = !elements.pool.contains(&number);
+        if is_free {
+            elements.used.insert(number);
+        }
+        is_free
+    }
+
     fn send(&self, request: Request, numbered: Numbered, waits: bool) -> Pending {
-        let told = Arc::new(Told::default());
-        let asked = Asked { request, numbered, waits, teller: Teller { told: told.clone() } };
-        // If nobody listens any longer, the request is dropped, and its teller says so.
-        let _sent = lock(&self.inner.asked).send(Message::Ask(asked));
-        Pending { told }
+        if !self.may_use(request.element) {
+            return Error::Refused(Refusal::NoElement, Of::new(format_args!("{request}: {FOR_LEASES}"))).into();
+        }
+        self.inner.send(request, numbered, waits, Told::default())
+    }
+
+    /// Sends a request of an element under a new number, or under its next one if it asks again.
+    fn send_of(&self, request: Request, numbered: Numbered) -> Pending {
+        let goes_back = matches!(numbered, Numbered::Anew);
+        let (left, key) = (&self.inner.left[usize::from(goes_back)], (request.element, request.op));
+        left.find(key).unwrap_or_else(|| self.send_to_keep(request, numbered, left, key, goes_back))
+    }
+
+    /// Sends a request. If it is a fetch or a take that is given up, it is kept there, or its value goes back.
+    pub(crate) fn send_to_keep(
+        &self,
+        request: Request,
+        numbered: Numbered,
+        left: &Arc<Left>,
+        key: Key,
+        goes_back: bool,
+    ) -> Pending {
+        let back = goes_back.then(|| (Arc::downgrade(&self.inner), request.element));
+        let may_wait = matches!(request.op, Op::Fetch(_) | Op::Take(_));
+        let home = may_wait.then(|| Home { left: left.clone(), key, back });
+        self.inner.send(request, numbered, true, Told::of(home))
     }
 }
 
@@ -206,12 +328,17 @@ impl Element {
     /// A unit of work is over: the next run begins here. All that was asked has to be answered. Nobody has to wait for
     /// it.
     pub fn done(&self) -> Value {
+        if self.shared.inner.left[0].has_of(self.number) {
+            let why = "a fetch or a take was given up: ask the same again before `done`";
+            let of = Of::new(format_args!("element {}: {why}", self.number));
+            return Value(Error::Refused(Refusal::NotAnswered, of).into());
+        }
         self.ask(Op::Confirm)
     }
 
-    fn ask(&self, op: Op) -> Value {
+    pub(crate) fn ask(&self, op: Op) -> Value {
         let request = Request { element: self.number, number: 0, op };
-        Value(self.shared.send(request, Numbered::Again(self.counted.clone()), true))
+        Value(self.shared.send_of(request, Numbered::Again(self.counted.clone())))
     }
 }
 
@@ -227,130 +354,8 @@ pub struct ElementAnew {
 impl ElementAnew {
     requests!();
 
-    fn ask(&self, op: Op) -> Value {
-        Value(self.shared.send(Request { element: self.number, number: 0, op }, Numbered::Anew, true))
-    }
-}
-
-/// The answer to a request, which comes later. It is a future, or a thread waits for it.
-#[derive(Debug)]
-#[must_use = "it may be refused"]
-pub struct Pending {
-    told: Arc<Told>,
-}
-
-impl Pending {
-    /// Blocks the thread until the request is answered.
-    pub fn wait(self) -> Result<Reply> {
-        let mut slot = lock(&self.told.slot);
-        loop {
-            if let Some(answer) = slot.answer.take() {
-                return answer;
-            }
-            slot = self.told.there.wait(slot).unwrap_or_else(PoisonError::into_inner);
-        }
-    }
-
-    /// Returns the value of a reply, or the error that says of what it is.
-    fn valued(told: &Told, reply: Result<Reply>) -> Result<u64> {
-        reply?.value().map_err(|it| it.of(&lock(&told.slot).of))
-    }
-
-    /// Whether the request is answered.
-    pub fn is_ready(&self) -> bool {
-        lock(&self.told.slot).answer.is_some()
-    }
-}
-
-impl Future for Pending {
-    type Output = Result<Reply>;
-
-    fn poll(self: Pin<&mut Self>, context: &mut Context<'_>) -> Poll<Result<Reply>> {
-        let mut slot = lock(&self.told.slot);
-        match slot.answer.take() {
-            Some(answer) => Poll::Ready(answer),
-            None => {
-                slot.waker = Some(context.waker().clone());
-                Poll::Pending
-            }
-        }
-    }
-}
-
-/// A value, a base, or 0, which comes later. It is a future, or a thread waits for it. A reply that is an error gives
-/// [`Error::Answered`].
-#[derive(Debug)]
-#[must_use = "it may be refused"]
-pub struct Value(Pending);
-
-impl Value {
-    /// Blocks the thread until the value is there.
-    pub fn wait(self) -> Result<u64> {
-        let told = self.0.told.clone();
-        Pending::valued(&told, self.0.wait())
-    }
-
-    /// Whether the value is there.
-    pub fn is_ready(&self) -> bool {
-        self.0.is_ready()
-    }
-}
-
-impl Future for Value {
-    type Output = Result<u64>;
-
-    fn poll(mut self: Pin<&mut Self>, context: &mut Context<'_>) -> Poll<Result<u64>> {
-        Pin::new(&mut self.0).poll(context).map(|it| Pending::valued(&self.0.told, it))
-    }
-}
-
-/// The place where an answer is left for the one who asked.
-#[derive(Debug, Default)]
-struct Told {
-    slot: Mutex<Slot>,
-    there: Condvar,
-}
-
-#[derive(Debug, Default)]
-struct Slot {
-    answer: Option<Result<Reply>>,
-    waker: Option<Waker>,
-    is_told: bool,
-    /// Which request of which file an answer that is an error is of.
-    of: String,
-}
-
-/// Gives an answer, once. If it is dropped without one, it says that the image is closed.
-#[derive(Debug)]
-pub(crate) struct Teller {
-    told: Arc<Told>,
-}
-
-impl Teller {
-    /// Gives an answer that is an error, of this request.
-    pub(crate) fn tell_of(&self, answer: Result<Reply>, of: String) {
-        lock(&self.told.slot).of = of;
-        self.tell(answer);
-    }
-
-    pub(crate) fn tell(&self, answer: Result<Reply>) {
-        let mut slot = lock(&self.told.slot);
-        if slot.is_told {
-            return;
-        }
-        (slot.answer, slot.is_told) = (Some(answer), true);
-        let waker = slot.waker.take();
-        drop(slot);
-        self.told.there.notify_all();
-        if let Some(waker) = waker {
-            waker.wake();
-        }
-    }
-}
-
-impl Drop for Teller {
-    fn drop(&mut self) {
-        self.tell(Err(Error::Closed));
+    pub(crate) fn ask(&self, op: Op) -> Value {
+        Value(self.shared.send_of(Request { element: self.number, number: 0, op }, Numbered::Anew))
     }
 }
 
@@ -365,6 +370,6 @@ pub(crate) struct Asked {
 }
 
 /// Locks a mutex. What it guards is whole between two statements, so a panic of another thread doesn't matter.
-fn lock<T>(mutex: &Mutex<T>) -> MutexGuard<'_, T> {
+pub(crate) fn lock<T>(mutex: &Mutex<T>) -> MutexGuard<'_, T> {
     mutex.lock().unwrap_or_else(PoisonError::into_inner)
 }

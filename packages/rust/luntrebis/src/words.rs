@@ -5,7 +5,7 @@ use std::ffi::c_int;
 use std::{error, fmt, io, result};
 
 /// What a request asks for. A number of cells is a block's length; an address is that of a cell.
-#[derive(Clone, Copy, Debug, PartialEq, Eq)]
+#[derive(Clone, Copy, Debug, PartialEq, Eq, Hash)]
 pub enum Op {
     /// Makes a block of the given number of I cells, to be fetched and stored.
     AllocI(u32),

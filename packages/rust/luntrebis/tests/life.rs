@@ -1,11 +1,13 @@
 //! An image through its whole life, and one for many threads.
 
+use luntrebis::{fetch_bytes, layout, store_bytes, Cells, Counter, Queue};
 use luntrebis::{Error, Image, Limits, Memory, Op, Refusal, Reply, Request, Shared};
 use std::future::Future;
 use std::path::PathBuf;
 use std::sync::Arc;
 use std::task::{Context, Poll, Wake};
 use std::thread::{self, Thread};
+use std::time::Duration;
 
 fn place(name: &str) -> PathBuf {
     std::env::temp_dir().join(format!("luntrebis-{}-{name}.image", std::process::id()))
@@ -213,6 +215,113 @@ fn an_element_asks_again_what_is_not_confirmed() {
     std::fs::remove_file(path).unwrap();
 }
 
+const SOON: Duration = Duration::from_micros(100);
+const LATE: Duration = Duration::from_secs(30);
+
+#[test]
+fn a_thousand_time_outs_lose_nothing() {
+    let path = place("time-outs");
+    let shared = Shared::create(&path, Limits { cells: 16, elements: 8, slots: 256 }).unwrap();
+    let [cells] = layout(&shared, [Cells::m(4)]).unwrap();
+    let (cell, other) = (cells.at(0), shared.element_anew(1));
+    let put = |value| other.put(cell, value).wait().unwrap();
+
+    let mut number = 0;
+    for _ in 0..1000 {
+        let told = shared.wait(asked(2, number, Op::Take(cell)), SOON).unwrap();
+        assert_eq!(told, (1, Reply::Waiting));
+        (number, _) = told;
+    }
+    put(5);
+    assert_eq!(shared.wait(asked(2, number, Op::Take(cell)), LATE).unwrap(), (1, Reply::Value(5)));
+
+    let (one, anew) = (shared.element(3), shared.element_anew(4));
+    for _ in 0..1000 {
+        assert!(one.take(cell).wait_for(SOON).is_none());
+    }
+    assert_eq!(shared.window(3).unwrap(), 1..2, "each is the same request");
+    assert!(matches!(one.done().wait(), Err(Error::Refused(Refusal::NotAnswered, _))));
+    put(6);
+    assert_eq!(one.take(cell).wait_for(LATE).unwrap().unwrap(), 6);
+    one.done().wait().unwrap();
+
+    drop(anew.take(cell)); // It waits in front.
+    let behind = shared.element_anew(1).take(cell);
+    put(7);
+    assert_eq!(behind.wait().unwrap(), 7, "what nobody has is put back");
+
+    let lanes = shared.lease_from(5, 3).unwrap();
+    assert_eq!(lanes.numbers(), [7, 6, 5]);
+    for _ in 0..1000 {
+        assert!(lanes.take(cell).wait_for(SOON).is_none());
+    }
+    drop(lanes);
+    assert_eq!(shared.lease_from(5, 2).unwrap().numbers(), [7, 5], "a take of 6 waits");
+    assert!(matches!(shared.lease_from(5, 3), Err(Error::Refused(Refusal::NoElement, _))));
+    put(8);
+    assert_eq!(other.take(cell).wait().unwrap(), 8);
+    assert_eq!(shared.lease_from(5, 3).unwrap().numbers(), [7, 6, 5]);
+
+    let late = shared.lease_from(5, 1).unwrap().take(cell);
+    drop((one, other, anew, shared));
+    assert!(matches!(late.wait(), Err(Error::Closed)));
+    let shared = Shared::open(&path).unwrap();
+    let lanes = shared.lease_from(5, 1).unwrap();
+    assert_eq!(lanes.numbers(), [6], "the take of 7 waits");
+    assert!(matches!(shared.ask(asked(7, 1, Op::Take(cell))), Err(Error::Refused(Refusal::NoElement, _))));
+    shared.element_anew(1).put(cell, 9).wait().unwrap();
+    assert_eq!(lanes.take(cell).wait().unwrap(), 9, "what waited at the end of the run before is taken over");
+    drop((lanes, shared));
+    std::fs::remove_file(path).unwrap();
+}
+
+#[test]
+fn lanes_have_more_than_sixty_four_waits() {
+    let path = place("lanes");
+    let shared = Shared::create(&path, Limits { cells: 512, elements: 16, slots: 256 }).unwrap();
+    let [cells] = layout(&shared, [Cells::i(300)]).unwrap();
+    let lanes = shared.lease(6).unwrap();
+    let fetches: Vec<_> = (0..300).map(|it| lanes.fetch(cells.at(it))).collect();
+    for at in (0..300).rev() {
+        lanes.store(cells.at(at), at.into()).wait().unwrap();
+    }
+    for (at, fetch) in fetches.into_iter().enumerate() {
+        assert_eq!(fetch.wait().unwrap(), at as u64);
+    }
+    drop((lanes, shared));
+    std::fs::remove_file(path).unwrap();
+}
+
+#[test]
+fn helpers_go_on_where_they_were() {
+    let path = place("helpers");
+    let text: Vec<u8> = (0..1999u32).map(|it| (it % 251) as u8).collect();
+    for run in 1..4 {
+        let shared = Shared::open_or_create(&path, Limits { cells: 512, elements: 8, slots: 256 }).unwrap();
+        let cells = [Cells::counter(), Cells::queue(4), Cells::i(300), Cells::counter()];
+        let [total, jobs, letters, stored] = layout(&shared, cells).unwrap();
+        assert_eq!((total.base, jobs.length), (0, 10));
+        let (one, two) = (shared.element(1), shared.element(2));
+        assert_eq!(Counter::new(&one, total).add(2).unwrap(), 2 * run);
+        one.done().wait().unwrap();
+        thread::scope(|scope| {
+            scope.spawn(|| {
+                for at in 0..20 {
+                    Queue::new(&one, jobs).put(20 * run + at).unwrap();
+                    one.done().wait().unwrap();
+                }
+            });
+            for at in 0..20 {
+                assert_eq!(Queue::new(&two, jobs).get().unwrap(), 20 * run + at);
+                two.done().wait().unwrap();
+            }
+        });
+        store_bytes(&shared.element(3), letters, stored, &text).unwrap();
+        assert_eq!(fetch_bytes(&shared.lease(2).unwrap(), letters).unwrap(), text);
+    }
+    std::fs::remove_file(path).unwrap();
+}
+
 #[test]
 fn a_group_is_the_first_of_a_list() {
     let path = place("group");
@@ -237,6 +346,7 @@ fn a_shared_image_goes_from_thread_to_thread() {
     goes::<Shared>();
     goes::<luntrebis::Element>();
     goes::<luntrebis::ElementAnew>();
+    goes::<luntrebis::Lanes>();
     goes::<luntrebis::Value>();
     fn moves<T: Send>() {}
     moves::<Image>();
