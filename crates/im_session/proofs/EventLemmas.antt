@@ -33,7 +33,7 @@ use Rattle.im_session.specs.declared.events.Answer.{Answer}
 use Rattle.im_session.specs.declared.events.Answer.TheVariants.{Served as Told, Grouped, Turned as TookTurn}
 use Rattle.im_session.specs.declared.events.Answer.TheVariants.{Swept as DidSweep}
 use Rattle.im_session.specs.Put.{sure_of, doubted_of}
-use Rattle.im_session.specs.Kept.{Kept, SessionStart, SessionState, session_of}
+use Rattle.im_session.specs.Kept.{Kept, SessionState, session_of}
 use Rattle.im_session.specs.Serving.{Rests, served_together}
 use Rattle.im_session.specs.Events.{EventAnswered, AnsweredInTurn, acknowledged, acknowledged_by, after_event, after_events}
 use Rattle.im_session.specs.Events.{has_fault, in_doubt, in_doubt_by, is_fault}

@@ -11,7 +11,7 @@ use Rattle.im_types.specs.declared.groups.Served.{Served}
 use Rattle.im_types.specs.declared.refusals.Refusal.{Refusal}
 use Rattle.im_types.specs.declared.refusals.Refusal.TheVariants.{JournalFull, Device, Failed}
 use Rattle.im_types.specs.Contents.{Contents}
-use Rattle.im_types.specs.Step.{step, is_accepted}
+use Rattle.im_types.specs.Step.{step}
 use Rattle.im_types.specs.Run.{after}
 use Rattle.im_types.specs.Meaning.{Reached}
 use Rattle.im_types.specs.Groups.{as_served, is_new, is_put, with_request, answer_of, reached_by_one, answers_of, puts_of}
