@@ -72,6 +72,15 @@ module _ {D : Type 0} (old new : EngineState D) where
   step_calm m c (Ok o) is = refl
   step_calm m c (Err e) is = step-no_device m c e (sym is)
 
+  told_as : (x y : Result Outcome Refusal) → x ≡ y → is_fault (Told x) ≡ is_fault (Told y)
+  told_as x y is = ap (λ (z : Result Outcome Refusal). is_fault (Told z)) is
+
+  took_as : (x y : Result TurnDone Refusal) → x ≡ y → is_fault (TookTurn x) ≡ is_fault (TookTurn y)
+  took_as x y is = ap (λ (z : Result TurnDone Refusal). is_fault (TookTurn z)) is
+
+  swept_as : (x y : Result ℕ Refusal) → x ≡ y → is_fault (DidSweep x) ≡ is_fault (DidSweep y)
+  swept_as x y is = ap (λ (z : Result ℕ Refusal). is_fault (DidSweep z)) is
+
   failed_as : (s t : EngineState D) → s ≡ t → s.failed ≡ t.failed
   failed_as s t is = ap (λ (x : EngineState D). x.failed) is
 
@@ -79,15 +88,14 @@ module _ {D : Type 0} (old new : EngineState D) where
       → FailsBy (is_fault (Told a)) old.failed new.failed
   command_fails c a it =
       let same = same_fails (is_fault (Told a)) old.failed new.failed in
-      let says = ap (λ (x : Result Outcome Refusal). is_fault (Told x)) in
       ⊎_elim
-      (λ dead. same (says (it.dead dead).0) (failed_as new old (it.dead dead).1))
+      (λ dead. same (told_as a _ (it.dead dead).0) (failed_as new old (it.dead dead).1))
       (λ f. ⊎_elim
       (λ yes. ⊎_elim
-      (λ none. same (says (it.full f yes none).0) (failed_as new old (it.full f yes none).1))
+      (λ none. same (told_as a _ (it.full f yes none).0) (failed_as new old (it.full f yes none).1))
       (λ some. ⊎_elim
       (λ done. same (step_calm old.memory c a done.0) (failed_as new _ done.1))
-      (λ fault. lost_fails (is_fault (Told a)) old.failed new.failed (says fault.0) f (failed_as new _ fault.1))
+      (λ fault. lost_fails (is_fault (Told a)) old.failed new.failed (told_as a _ fault.0) f (failed_as new _ fault.1))
       (it.put f yes some))
       (none_or_some old.room))
       (λ un. same (step_calm old.memory c a (it.unaccepted f un).0) (failed_as new old (it.unaccepted f un).1))
@@ -98,12 +106,11 @@ module _ {D : Type 0} (old new : EngineState D) where
       → FailsBy (is_fault (TookTurn a)) old.failed new.failed
   turn_fails a it =
       let same = same_fails (is_fault (TookTurn a)) old.failed new.failed in
-      let says = ap (λ (x : Result TurnDone Refusal). is_fault (TookTurn x)) in
       ⊎_elim
-      (λ dead. same (says (it.dead dead).0) (failed_as new old (it.dead dead).1))
+      (λ dead. same (took_as a _ (it.dead dead).0) (failed_as new old (it.dead dead).1))
       (λ f. ⊎_elim
-      (λ done. same (says done.1) (done.2.alive ∙ sym f))
-      (λ fault. lost_fails (is_fault (TookTurn a)) old.failed new.failed (says fault.0) f (failed_as new _ fault.1))
+      (λ done. same (took_as a _ done.1) (done.2.alive ∙ sym f))
+      (λ fault. lost_fails (is_fault (TookTurn a)) old.failed new.failed (took_as a _ fault.0) f (failed_as new _ fault.1))
       (it.alive f))
       (true_or_false old.failed)
 
@@ -111,12 +118,11 @@ module _ {D : Type 0} (old new : EngineState D) where
       → FailsBy (is_fault (DidSweep a)) old.failed new.failed
   sweep_fails most a it =
       let same = same_fails (is_fault (DidSweep a)) old.failed new.failed in
-      let says = ap (λ (x : Result ℕ Refusal). is_fault (DidSweep x)) in
       ⊎_elim
-      (λ dead. same (says (it.dead dead).0) (failed_as new old (it.dead dead).1))
+      (λ dead. same (swept_as a _ (it.dead dead).0) (failed_as new old (it.dead dead).1))
       (λ f. ⊎_elim
-      (λ done. same (says done.0) (failed_as new _ done.1))
-      (λ fault. lost_fails (is_fault (DidSweep a)) old.failed new.failed (says fault.0) f (failed_as new _ fault.1))
+      (λ done. same (swept_as a _ done.0) (failed_as new _ done.1))
+      (λ fault. lost_fails (is_fault (DidSweep a)) old.failed new.failed (swept_as a _ fault.0) f (failed_as new _ fault.1))
       (it.alive f))
       (true_or_false old.failed)
 

@@ -4,7 +4,7 @@ use Rattle.im_session.specs.declared.events.Event.{Event}
 use Rattle.im_session.specs.declared.events.Answer.{Answer}
 use Rattle.im_session.specs.Events.{AnsweredInTurn, after_events}
 use Rattle.im_session.proofs.EventLemmas.{answers_more, events_none, in_turn_fails, put_more}
-use Rattle.im_session.proofs.running.Session.run.Goals as goal
+use Rattle.im_session.proofs.session.Session.run.Goals as goal
 
 pub loop-event-init : goal.loop-event-init
 loop-event-init g c =
@@ -33,14 +33,20 @@ loop-event-preserved g c =
       put = put_more g.D.Disk c.args.self.now c.loop-event.self c.take-answer.new.self c.args.events.now
           c.loop-event.answers.items c.push.new.self.items c.loop-event.event-index _ c.event-item.result
           c.take-answer.result c.loop-event-test.true c.event-item.is inv.size c.in_default-push.ensures.items inv.kept
-          c.engine-2.ensures.kept inv.put e.put;
+          c.engine-in-loop-event.ensures.kept inv.put e.put;
     }
 
 pub returns-clause-answers : goal.returns-clause-answers
-returns-clause-answers g c = ?
+returns-clause-answers g c = subst (λ (l : List Event). AnsweredInTurn c.args.self.now.engine l
+    c.loop-event.answers.items c.loop-event.self.engine)
+    (take_all c.loop-event.event-index c.args.events.now (omega (arith, c.loop-event-test.false)))
+    c.loop-event.invariant.answers
 
 pub returns-clause-put : goal.returns-clause-put
-returns-clause-put g c = ?
+returns-clause-put g c = subst (λ (l : List Event). c.loop-event.self
+    ≡ after_events c.args.self.now l c.loop-event.answers.items c.loop-event.self.engine)
+    (take_all c.loop-event.event-index c.args.events.now (omega (arith, c.loop-event-test.false)))
+    c.loop-event.invariant.put
 
 pub returns-clause-faults : goal.returns-clause-faults
 returns-clause-faults g c =

@@ -8,7 +8,7 @@ use Rattle.im_session.specs.declared.events.Event.TheVariants.{Group as Together
 use Rattle.im_session.specs.declared.events.Answer.TheVariants.{Grouped}
 use Rattle.im_session.specs.Events.{after_event}
 use Rattle.im_session.proofs.EventLemmas.{group_answered, group_event}
-use Rattle.im_session.proofs.running.Session.take_group.Goals as goal
+use Rattle.im_session.proofs.session.Session.take_group.Goals as goal
 
 pub returns-clause-answered : goal.returns-clause-answered
 returns-clause-answered g c =

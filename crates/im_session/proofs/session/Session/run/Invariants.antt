@@ -1,7 +1,7 @@
 use Rattle.std.proofs.Common.{◌≡◌, ◌≤◌, length, take, vec_capacity}
 use Rattle.im_session.specs.Events.{AnsweredInTurn, after_events}
 use Rattle.im_session.specs.Kept.{Kept}
-use Rattle.im_session.proofs.running.Session.run.Given as goal
+use Rattle.im_session.proofs.session.Session.run.Given as goal
 
 abbrev pub invariant-loop-event : goal.invariant-loop-event
 invariant-loop-event g l = record {
