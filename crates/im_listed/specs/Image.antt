@@ -59,4 +59,5 @@ pub record ServesFirst (old : ImageState) (members : List Command) (answers : Li
       (length answers)
   pub answered : CommandsAnswered (begun_in old) (take (length answers) members) answers new.engine
   -- on the way the file means the memory before those that are served, or after all of them
-  pub carried : Carries old.engine.disk.now new (MeansEither (begun_in old) (after_commands (begun_in old) (take (length answers) members)))
+  pub carried : Carries old.engine.disk.now new
+      (MeansEither (begun_in old) (after_commands (begun_in old) (take (length answers) members)))

@@ -158,7 +158,8 @@ impl Image {
         ensures answered { self.old.lost ≡ false → Answered (begun_in self.old) command.now result self.new.engine }
         // On the way the file means the memory before the command or after it, and at the end what was answered.
         ensures carried { self.old.lost ≡ false
-            → Carries self.old.engine.disk.now self.new (MeansEither (begun_in self.old) (with_command (begun_in self.old) command.now)) }
+            → Carries self.old.engine.disk.now self.new
+            (MeansEither (begun_in self.old) (with_command (begun_in self.old) command.now)) }
     {
         if self.lost {
             return Err(Refusal::Device);

@@ -16,12 +16,14 @@ returns-clause-answered g c =
     let e = c.serve_commands_kept in
     let room = c.room-room.ensures ∙ ap (λ (s : EngineState g.row.D.Denot). s.room) c.engine.ensures.state in
     let counted = subst (λ (s : EngineState g.row.D.Denot). IsCounted (reached_in s)) c.engine-2.ensures.state
-    c.places-places.ensures.known in
-    (room, subst (λ (l : List Request). GroupAnswered old.engine l e.new.served.items e.new.self.engine)
-    c.requests.ensures.found
-    (group_answered old e.new.self c.requests.result.now.items c.commands_of.new.commands.items e.new.served
-    c.room-room.result (c.commands_of.ensures ∙ ap (map Asks) c.as_slice.ensures.value) counted room e.ensures.begins
-    e.ensures.answered e.ensures.put))
+    c.places-places.ensures.known in (
+      room,
+      subst (λ (l : List Request). GroupAnswered old.engine l e.new.served.items e.new.self.engine)
+          c.requests.ensures.found
+          (group_answered old e.new.self c.requests.result.now.items c.commands_of.new.commands.items e.new.served
+          c.room-room.result (c.commands_of.ensures ∙ ap (map Asks) c.as_slice.ensures.value) counted room e.ensures.begins
+          e.ensures.answered e.ensures.put),
+    )
 
 pub returns-clause-put : goal.returns-clause-put
 returns-clause-put g c =
