@@ -35,50 +35,46 @@ use Rattle.im_asks.specs.Windows.{bounds_asked_by_all, drops_within}
 pub within_window : (base number : ℕ) → nat_lt (number - base) WINDOW ≡ nat_lt number (base + WINDOW)
 within_window base number = grind (arith, nat_tests)
 
-is_below : (x y : ℕ) → x < y → nat_lt x y ≡ true
-is_below x y lt = grind (arith, nat_tests)
-
-is_not_below : (x y : ℕ) → y ≤ x → nat_lt x y ≡ false
-is_not_below x y le = grind (arith, nat_tests)
-
 -- ---- a command that is accepted
 
 accepted_moves : (m : Contents) (c : Command) (e : ℕ) → is_accepted m c ≡ true
     → bounds (step m c).contents.windows e ≡ moved_by e (c ∷ []) (bounds m.windows e)
-accepted_moves m c e yes =
-    bounds-moved m (c ∷ []) e (ap (λ (b : Bool). if b then Some (step m c).contents else None) yes)
+accepted_moves m c e taken =
+    bounds-moved m (c ∷ []) e (ap (λ (b : Bool). if b then Some (step m c).contents else None) taken)
 
 -- it moves the bounds as one that is asked does
 accepted_as_asked : (m : Contents) (c : Command) (e : ℕ) (b : ℕ × ℕ) → bounds m.windows e ≡ Ok b
     → is_accepted m c ≡ true → bounds_behind e c b ≡ bounds_asked_by e c b
-accepted_as_asked m (Requests r) e b are yes = by_test (r.element == e) refl
+accepted_as_asked m (Requests r) e b are taken = by_test (r.element == e) refl
   where
     by_test : (t : Bool) → (r.element == e) ≡ t
         → (if t then (b.0, b.1 + 1) else b) ≡ (if t && is_next b r then (b.0, b.1 + 1) else b)
     by_test false is = refl
     by_test true is = sym (ap (λ (n : Bool). if n then (b.0, b.1 + 1) else b)
-        (request-judged m r b (ap (bounds m.windows) (eq_by_test r.element e is) ∙ are) ∙ yes))
-accepted_as_asked m (Confirms other upto) e b are yes = by_test (other == e) refl
+        (request-judged m r b (ap (bounds m.windows) (eq_by_test r.element e is) ∙ are) ∙ taken))
+accepted_as_asked m (Confirms other upto) e b are taken = by_test (other == e) refl
   where
+    drops : (base next : ℕ) → base < upto → upto ≤ next → (nat_lt base upto && not (nat_lt next upto)) ≡ true
+    drops base next above reached = grind (arith, nat_tests)
+
     inside : MovesBase m other upto → bounds m.windows other ≡ Ok b → drops_within b upto ≡ true
     inside it there =
         let both = same_bounds it.base it.next b.0 b.1 (sym it.before ∙ there) in
-        ap (λ (t : Bool). t && not (nat_lt b.1 upto)) (is_below b.0 upto (omega (arith, it.rises, both.0)))
-        ∙ ap not (is_not_below b.1 upto (omega (arith, it.reached, both.1)))
+        drops b.0 b.1 (omega (arith, it.rises, both.0)) (omega (arith, it.reached, both.1))
 
     by_test : (t : Bool) → (other == e) ≡ t
         → (if t then (upto, b.1) else b) ≡ (if t && drops_within b upto then (upto, b.1) else b)
     by_test false is = refl
     by_test true is = sym (ap (λ (d : Bool). if d then (upto, b.1) else b)
-        (inside (accepted-moves_base m other upto yes) (ap (bounds m.windows) (eq_by_test other e is) ∙ are)))
+        (inside (accepted-moves_base m other upto taken) (ap (bounds m.windows) (eq_by_test other e is) ∙ are)))
 
 -- ---- a command that isn't accepted
 
 -- a confirmation within the bounds is refused for an entry that waits alone
-unanswered : (m : Contents) (element upto : ℕ) (w : Window) → slice_get m.windows element ≡ Some w → w.base < upto
-    → upto ≤ next_number w → is_accepted m (Confirms element upto) ≡ false
+unanswered : (m : Contents) (element upto : ℕ) (w : Window) → slice_get m.windows element ≡ Some w
+    → nat_lt w.base upto ≡ true → nat_lt (next_number w) upto ≡ false → is_accepted m (Confirms element upto) ≡ false
     → (step m (Confirms element upto)).answer ≡ Err NotAnswered
-unanswered m element upto w there above reached no =
+unanswered m element upto w there above reached not_taken =
     by_test (list_any is_waiting (take (upto - w.base) w.kept)) refl
   where
     rest : Window
@@ -90,52 +86,42 @@ unanswered m element upto w there above reached no =
     comes_to : (waits : Bool) → list_any is_waiting (take (upto - w.base) w.kept) ≡ waits
         → confirm_window upto (slice_get m.windows element) ≡ answer false waits
     comes_to waits is = ap (confirm_window upto) there
-        ∙ ap (λ (past : Bool). answer past (list_any is_waiting (take (upto - w.base) w.kept)))
-        (is_not_below (next_number w) upto reached)
+        ∙ ap (λ (past : Bool). answer past (list_any is_waiting (take (upto - w.base) w.kept))) reached
         ∙ ap (answer false) is
 
     is_dropped : nat_lt (slice_index_or m.windows element new_window).base upto ≡ true
-    is_dropped = ap (λ (v : Window). nat_lt v.base upto) (window_at m.windows element w there)
-        ∙ is_below w.base upto above
+    is_dropped = ap (λ (v : Window). nat_lt v.base upto) (window_at m.windows element w there) ∙ above
 
     by_test : (waits : Bool) → list_any is_waiting (take (upto - w.base) w.kept) ≡ waits
         → (step m (Confirms element upto)).answer ≡ Err NotAnswered
     by_test true is = ap (λ (k : Result Window Refusal). (step_confirm m element k).answer) (comes_to true is)
     by_test false is = absurd (true_false (sym (ap (moves_base upto (slice_index_or m.windows element new_window))
-        (comes_to false is) ∙ is_dropped) ∙ no))
+        (comes_to false is) ∙ is_dropped) ∙ not_taken))
 
 -- it leaves the bounds as one that is asked does, unless it is refused for such an entry
 refused_as_asked : (m : Contents) (c : Command) (e : ℕ) (b : ℕ × ℕ) → bounds m.windows e ≡ Ok b
     → is_accepted m c ≡ false → (step m c).answer ≢ Err NotAnswered → b ≡ bounds_asked_by e c b
-refused_as_asked m (Requests r) e b are no sure = by_test (r.element == e) refl
+refused_as_asked m (Requests r) e b are not_taken sure = by_test (r.element == e) refl
   where
     by_test : (t : Bool) → (r.element == e) ≡ t → b ≡ (if t && is_next b r then (b.0, b.1 + 1) else b)
     by_test false is = refl
     by_test true is = sym (ap (λ (n : Bool). if n then (b.0, b.1 + 1) else b)
-        (request-judged m r b (ap (bounds m.windows) (eq_by_test r.element e is) ∙ are) ∙ no))
-refused_as_asked m (Confirms other upto) e b are no sure = by_test (other == e) refl
+        (request-judged m r b (ap (bounds m.windows) (eq_by_test r.element e is) ∙ are) ∙ not_taken))
+refused_as_asked m (Confirms other upto) e b are not_taken sure = by_test (other == e) refl
   where
-    low : nat_lt b.0 upto ≡ true → b.0 < upto
-    low t = grind (arith, nat_tests)
-
-    high : not (nat_lt b.1 upto) ≡ true → upto ≤ b.1
-    high t = grind (arith, nat_tests)
-
-    outside : (d f : Bool) → nat_lt b.0 upto ≡ d → not (nat_lt b.1 upto) ≡ f → bounds m.windows other ≡ Ok b
-        → (d && f) ≡ false
-    outside true true above reached there =
+    outside : (d f : Bool) → nat_lt b.0 upto ≡ d → nat_lt b.1 upto ≡ f → bounds m.windows other ≡ Ok b
+        → (d && not f) ≡ false
+    outside true false above reached there =
         let w = bounds-window m.windows other b.0 b.1 there in
-        let from = low above in
-        let to = high reached in
-        absurd (sure (unanswered m other upto w.window w.there (omega (arith, from, w.base_is))
-        (omega (arith, to, w.next_is)) no))
-    outside true false above reached there = refl
+        absurd (sure (unanswered m other upto w.window w.there (ap (λ (n : ℕ). nat_lt n upto) w.base_is ∙ above)
+        (ap (λ (n : ℕ). nat_lt n upto) w.next_is ∙ reached) not_taken))
+    outside true true above reached there = refl
     outside false f above reached there = refl
 
     by_test : (t : Bool) → (other == e) ≡ t → b ≡ (if t && drops_within b upto then (upto, b.1) else b)
     by_test false is = refl
     by_test true is = sym (ap (λ (d : Bool). if d then (upto, b.1) else b)
-        (outside (nat_lt b.0 upto) (not (nat_lt b.1 upto)) refl refl
+        (outside (nat_lt b.0 upto) (nat_lt b.1 upto) refl refl
         (ap (bounds m.windows) (eq_by_test other e is) ∙ are)))
 
 -- ---- one command, and all
@@ -145,20 +131,20 @@ one_step : (m : Contents) (c : Command) (e : ℕ) (b : ℕ × ℕ) → bounds m.
 one_step m c e b are sure = by_test (is_accepted m c) refl
   where
     by_test : (t : Bool) → is_accepted m c ≡ t → bounds (step m c).contents.windows e ≡ Ok (bounds_asked_by e c b)
-    by_test true yes =
-        let same = accepted_as_asked m c e b are yes in
-        accepted_moves m c e yes ∙ ap (moved_by e (c ∷ [])) are ∙ (λ i. Ok (same i))
-    by_test false no =
-        let same = refused_as_asked m c e b are no sure in
-        ap (λ (n : Contents). bounds n.windows e) (unaccepted-leaves m c no) ∙ are ∙ (λ i. Ok (same i))
+    by_test true taken =
+        let same = accepted_as_asked m c e b are taken in
+        accepted_moves m c e taken ∙ ap (moved_by e (c ∷ [])) are ∙ (λ i. Ok (same i))
+    by_test false not_taken =
+        let same = refused_as_asked m c e b are not_taken sure in
+        ap (λ (n : Contents). bounds n.windows e) (unaccepted-leaves m c not_taken) ∙ are ∙ (λ i. Ok (same i))
 
 no_step : (m : Contents) (c : Command) (e : ℕ) (x : Refusal) → bounds m.windows e ≡ Err x
     → bounds (step m c).contents.windows e ≡ Err x
 no_step m c e x are = by_test (is_accepted m c) refl
   where
     by_test : (t : Bool) → is_accepted m c ≡ t → bounds (step m c).contents.windows e ≡ Err x
-    by_test true yes = accepted_moves m c e yes ∙ ap (moved_by e (c ∷ [])) are
-    by_test false no = ap (λ (n : Contents). bounds n.windows e) (unaccepted-leaves m c no) ∙ are
+    by_test true taken = accepted_moves m c e taken ∙ ap (moved_by e (c ∷ [])) are
+    by_test false not_taken = ap (λ (n : Contents). bounds n.windows e) (unaccepted-leaves m c not_taken) ∙ are
 
 some_steps : (m : Contents) (asked : List AskedCommand) (e : ℕ) (b : ℕ × ℕ) → bounds m.windows e ≡ Ok b
     → NoneUnanswered m (commands_asked asked)
@@ -209,7 +195,7 @@ stays_answered m cs who agrees answered = by_kept (kept_for m.windows who) refl 
 pub due_accepted : (m : Contents) (asked : List AskedCommand) (e upto : ℕ) → WaitingAgrees m
     → NoneUnanswered m (commands_asked asked) → IsDue m asked e upto
     → is_accepted (after m (commands_asked asked)) (Confirms e upto) ≡ true
-due_accepted m asked e upto agrees sure (base, (b, (are, (is, (full, (above, upto_is)))))) =
+due_accepted m asked e upto agrees sure (base, (b, are, (is, full, above, upto_is))) =
     confirm-accepted (after m (commands_asked asked)) e upto b.0 b.1 (comes_true m asked e sure ∙ are) above
     upto_is.within (λ number from below. stays_answered m (commands_asked asked)
     (record { element = e; number = number }) agrees (upto_is.answered number from below))

@@ -106,12 +106,12 @@ impl Asks {
         ensures order { self.old ≡ result.items ++ self.new }
         ensures count { length result.items ≡ min most (min MAX_GROUP (length self.old)) }
     {
+        let count = min(most, min(MAX_GROUP, self.queue.len()));
         let mut out = ArrayVec::new();
-        let many = min(most, min(MAX_GROUP, self.queue.len()));
-        for i in 0..many {
+        for i in 0..count {
             out.push(self.queue[i]);
         }
-        self.take_out(many);
+        self.take_out(count);
         out
     }
 
