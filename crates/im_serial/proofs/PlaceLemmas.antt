@@ -22,22 +22,24 @@ asked_none element (Err x) = refl
 -- the window of a request that has a number
 pub next_bounds : (m : Contents) (element number : ℕ) → IsWindowPlace m [] element (Next number)
     → (base : ℕ) × (bounds m.windows element ≡ Ok (base, number))
-next_bounds m element number (b, (are, (is, room))) =
-    (b.0, sym (asked_none element (bounds m.windows element)) ∙ are ∙ (λ i. Ok (b.0, sym is i)))
+next_bounds m element number (b, are, (is, room)) =
+    let same = sym is in
+    (b.0, sym (asked_none element (bounds m.windows element)) ∙ are ∙ (λ i. Ok (b.0, same i)))
 
 -- the window of entries that are due
-pub record IsFull (m : Contents) (element base upto : ℕ) : Type 0 where
+pub record DueWindow (m : Contents) (element base upto : ℕ) : Type 0 where
   pub next : ℕ
   pub are : bounds m.windows element ≡ Ok (base, next)
   pub from : base ≤ upto
 
 pub due_bounds : (m : Contents) (element base upto : ℕ) → IsWindowPlace m [] element (Confirm base upto)
-    → IsFull m element base upto
-due_bounds m element base upto (b, (are, (is, (full, (above, answered))))) = record {
-  next = b.1;
-  are = sym (asked_none element (bounds m.windows element)) ∙ are ∙ (λ i. Ok (sym is i, b.1));
-  from = omega (arith, above, is);
-}
+    → DueWindow m element base upto
+due_bounds m element base upto (b, are, (is, full, above, answered)) =
+    let same = sym is in record {
+      next = b.1;
+      are = sym (asked_none element (bounds m.windows element)) ∙ are ∙ (λ i. Ok (same i, b.1));
+      from = omega (arith, above, is);
+    }
 
 -- nothing has to be done for a place
 pub placed : {D T : Type 0} (E : Type 0) (x : T) (s : SessionState D) (waited : List Waited) (marks : List Mark)
