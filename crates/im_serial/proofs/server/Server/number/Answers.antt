@@ -1,9 +1,10 @@
+use Rattle.std.proofs.Common.{ℕ}
 use Rattle.im_types.specs.declared.refusals.Refusal.{Refusal}
+use Rattle.im_types.specs.declared.refusals.Refusal.TheVariants.{WindowFull}
 use Rattle.im_serial.proofs.PlaceLemmas.{next_bounds, place_then, placed}
 use Rattle.im_serial.proofs.ScriptedLemmas.{unprepared}
 use Rattle.im_serial.proofs.server.Server.number.Goals as goal
 
--- No check has seen the names of these goals.
 pub make_place-requires : goal.make_place-requires
 make_place-requires g c =
     record { due = rw (c.in-Ok-Confirm.field-0-is, c.memory.ensures) at c.in-Ok-Confirm.ensures.found }
@@ -23,9 +24,9 @@ returns-in-Ok-clause-goes g c = let new = c.make_place.new.self in
     c.args.self.now.places.marks.items new.places.marks.items c.in-Ok.ensures.goes
 
 pub returns-in-Ok-Full-clause-goes : goal.returns-in-Ok-Full-clause-goes
-returns-in-Ok-Full-clause-goes g c = unprepared _ _ c.args.self.now.session c.args.self.now.waited.items
+returns-in-Ok-Full-clause-goes g c = unprepared ℕ WindowFull c.args.self.now.session c.args.self.now.waited.items
     c.args.self.now.places.marks.items
 
 pub returns-in-Err-clause-goes : goal.returns-in-Err-clause-goes
-returns-in-Err-clause-goes g c = unprepared _ c.in-Err.refusal c.args.self.now.session c.args.self.now.waited.items
+returns-in-Err-clause-goes g c = unprepared ℕ c.in-Err.refusal c.args.self.now.session c.args.self.now.waited.items
     c.args.self.now.places.marks.items
