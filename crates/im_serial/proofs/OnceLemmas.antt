@@ -943,8 +943,11 @@ module _ {D : Type 0} where
         let over = over_here t.start t s g.text (notes noted marks) g.serving in
         let full = whole none was ((lines ++ g.text) ++ nows waited (length waited)) (all none was (lines ++ g.text)
         g.printed) in
-        served (record { left = []; leads = leads_here t.start t s g.text (notes noted marks) g.serving; all = λ z. refl })
-        over.due over.few (inl g.made) (inl g.fit)
+        served (record {
+          left = [];
+          leads = leads_here t.start t s g.text (notes noted marks) g.serving;
+          all = λ z. refl;
+        }) over.due over.few (inl g.made) (inl g.fit)
         (told_once (course_of origin wanted) g.text lines over ([], sym (append-nil lines)) ([], sym (append-nil early))
         (inl g.fit) g.printed (λ z. (
           refl,

@@ -245,7 +245,8 @@ module _ {D : Type 0} (start : SessionStart D) where
 
   -- a confirmation is refused
   pub confirm_over : (old new : SessionState D) (element upto : ℕ) → IsDue old.engine.memory [] element upto
-      → CommandRefused old (Confirm element upto) new → (s : Standing) (text : List ℕ) (n : Notes) → IsServing start old s text n
+      → CommandRefused old (Confirm element upto) new → (s : Standing) (text : List ℕ) (n : Notes)
+      → IsServing start old s text n
       → IsOver start new s.script text n.waited
   confirm_over old new element upto is it s text n was = refused_over old new (Confirm element upto) it s text n was (
     s.left,
@@ -254,8 +255,8 @@ module _ {D : Type 0} (start : SessionStart D) where
   ) (due_behind old element upto is was.memory was.due)
 
   -- a confirmation is served: the entries that were learnt are dropped
-  module _ (old new : SessionState D) (element upto : ℕ) (is_due : IsDue old.engine.memory [] element upto) (o : Outcome)
-      (it : CommandServed old (Confirm element upto) o new) (s : Standing) (text : List ℕ) (waited : List Waited)
+  module _ (old new : SessionState D) (element upto : ℕ) (is_due : IsDue old.engine.memory [] element upto)
+      (o : Outcome) (it : CommandServed old (Confirm element upto) o new) (s : Standing) (text : List ℕ) (waited : List Waited)
       (marks : List Mark) (was : IsServing start old s text (learnt waited marks element upto)) where
     abbrev confirm : Command
     confirm = Confirm element upto
@@ -530,7 +531,8 @@ pub drops_then : {D T E : Type 0} (r : Result T E) (element upto : ℕ) (old new
 drops_then (Ok x) element upto old new waited learned marks later is first served refused = λ start s text was.
     confirm_serving start old new element upto is served.0 served.1 s text learned later (first start s text was)
 drops_then (Err e) element upto old new waited learned marks later is first served refused = λ start s text was.
-    confirm_over start old new element upto is refused s text (learnt learned later element upto) (first start s text was)
+    confirm_over start old new element upto is refused s text (learnt learned later element upto)
+    (first start s text was)
 
 -- nothing changes, and it is ended
 pub unprepared : {D : Type 0} (T : Type 0) {E : Type 0} (e : E) (t : SessionState D) (waited : List Waited) (marks : List Mark)

@@ -281,9 +281,9 @@ pub record ToldOnce (m : Contents) (script : List Wanted) (put : List Command) (
 
 -- The image was opened, and a session with it put these commands: with those in doubt, at most one, they are those
 -- requests of this script that its memory didn't have, in their order, and confirmations, each of a full window; with
--- status 0 all of those, and no call of the disk failed. Nothing was put if a block of the setup that the memory had wasn't made, or what it
--- had doesn't fit the script. If each file that was left meant what runs of the script come to, those runs and this one
--- are one run from a new image on.
+-- status 0 all of those, and no call of the disk failed. Nothing was put if a block of the setup that the memory had
+-- wasn't made, or what it had doesn't fit the script. If each file that was left meant what runs of the script come to,
+-- those runs and this one are one run from a new image on.
 pub record ServedOnce {D : Type 0} (disk : Ghosts D) (text : List ℕ) (old new : D) (was is : Option (List ℕ))
     (status : ℕ) : Type 0 where
   pub session : SessionState D

@@ -27,8 +27,8 @@ impl Observer<TurnDone> for ServerProgress {
     }
 }
 
-/// Makes room, and then confirms an element's entries below a number: those of a full window, up to the first that isn't
-/// answered yet.
+/// Makes room, and then confirms an element's entries below a number: those of a full window, up to the first that
+/// isn't answered yet.
 pub fn confirm<D: Disk>(
     session: &mut Session<D>,
     progress: &mut ServerProgress,

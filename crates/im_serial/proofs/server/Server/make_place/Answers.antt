@@ -23,7 +23,8 @@ returns-clause-goes g c =
     ∙ c.as_mut_slice.ensures.len) in
     let found = due_bounds was.session.engine.memory element base upto c.requires.due in
     drops_then c.confirm.result element upto was.session c.confirm.new.session was.waited.items _ marks later
-    (base, c.requires.due) (λ start s text serving. learns start was.session element upto base found.next was.waited.items _ marks later
+    (base, c.requires.due)
+    (λ start s text serving. learns start was.session element upto base found.next was.waited.items _ marks later
     (ap (map who_of) back ∙ same_names) found.are
     (λ m put same memory there noted. subst (AreNoted m put element upto later) (sym back) (c.learn.ensures.learnt
     found.from m put (c.memory.ensures ∙ same) memory
