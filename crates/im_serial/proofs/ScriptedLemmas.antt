@@ -256,8 +256,8 @@ module _ {D : Type 0} (start : SessionStart D) where
 
   -- a confirmation is served: the entries that were learnt are dropped
   module _ (old new : SessionState D) (element upto : ℕ) (is_due : IsDue old.engine.memory [] element upto)
-      (o : Outcome) (it : CommandServed old (Confirm element upto) o new) (s : Standing) (text : List ℕ) (waited : List Waited)
-      (marks : List Mark) (was : IsServing start old s text (learnt waited marks element upto)) where
+      (o : Outcome) (it : CommandServed old (Confirm element upto) o new) (s : Standing) (text : List ℕ)
+      (waited : List Waited) (marks : List Mark) (was : IsServing start old s text (learnt waited marks element upto)) where
     abbrev confirm : Command
     confirm = Confirm element upto
 
