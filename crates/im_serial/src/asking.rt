@@ -67,11 +67,7 @@ impl<D: Disk> Server<D> {
     }
 
     // Returns the number of an element's next request, and makes room in the journal for it.
-    fn prepare<N: Observer<News>>(
-        &mut self,
-        element: u16,
-        observer: &mut N,
-    ) -> Result<u64, Refusal>
+    fn prepare<N: Observer<News>>(&mut self, element: u16, observer: &mut N) -> Result<u64, Refusal>
         ensures goes { MakesPlace result self.old.session self.old.waited.items self.old.places.marks.items
             self.new.session self.new.waited.items self.new.places.marks.items }
         ensures next { IfOk result (λ next. (base : ℕ)
