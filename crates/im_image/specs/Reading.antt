@@ -17,11 +17,13 @@ use Rattle.im_image.specs.declared.reading.ImageParts.{ImageParts}
 use Rattle.im_image.specs.declared.versions.Versions.{Versions}
 use Rattle.im_image.specs.declared.versions.Versions.TheVariants.{Any, InUse, First}
 
--- the journal of this header: the header's version and sizes give its ring, and its run begins at the header's count
+-- the journal of this header: the header's version and sizes give its ring, its run begins at the header's count, and
+-- nothing is ahead of it
 pub record JournalOf (h : Header) (j : JournalState) : Type 0 where
   pub ring : j.ring ≡ ring_of (layout_named h.version) h.sizes
   pub first : j.first ≡ h.count
   pub begun : h.count ≤ j.count
+  pub none : j.ahead ≡ []
 
 -- a memory has as many cells and elements as these sizes say
 pub record HasSizes (s : Sizes) (m : Contents) : Type 0 where

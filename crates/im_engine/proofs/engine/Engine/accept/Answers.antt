@@ -6,8 +6,9 @@ use Rattle.im_journal.specs.Holding.{MayAppend}
 use Rattle.im_engine.specs.State.{EngineState, MeansState, MeansEither}
 use Rattle.im_checkpoint.specs.Keeping.{paged, Fits}
 use Rattle.im_checkpoint.specs.Step.{CheckpointState}
-use Rattle.im_engine.proofs.Keeping.{accept_one, all_mean, all_hold, may_append_means, kept_prepared}
+use Rattle.im_engine.proofs.Keeping.{accept_one, all_mean, all_hold, may_put_means, kept_prepared}
 use Rattle.im_engine.proofs.Serving.{fits_longer, kept_with_it, calls_after}
+use Rattle.im_engine.proofs.Chaining.{nothing_ahead}
 use Rattle.im_engine.proofs.engine.Engine.accept.Goals as goal
 
 pub returns-then-room-eq0-clause-leaves : goal.returns-then-room-eq0-clause-leaves
@@ -47,10 +48,10 @@ returns-in-Err-clause-leaves g c = λ h.
     let accepted : is_accepted e.memory.contents c.args.command.now
     ≡ true = ap (λ (s : EngineState g.row.D.Denot). is_accepted s.memory c.args.command.now) c.self.view_is
     ∙ c.requires.accepted in
-    let means = may_append_means e.checkpoint.state (paged e.checkpoint e.memory) e.memory.contents e.journal
+    let means = may_put_means e.checkpoint.state (paged e.checkpoint e.memory) e.memory.contents e.journal
     (g.D.Disk.now e.disk) (c.self.invariant.1 (c.append.ensures.runs.honest h) alive) (c.args.command.now ∷ [])
     (step e.memory.contents c.args.command.now).contents
-    (accept_one e.memory.contents c.args.command.now accepted) in
+    (accept_one e.memory.contents c.args.command.now accepted) 1 in
     subst (λ (s : EngineState g.row.D.Denot). LeavesOnly g.D.Disk.now g.D.Disk.past s.disk c.append.new.disk
     (MeansEither s c.args.command.now)) c.self.view_is
     (only_weaker g.D.Disk.now g.D.Disk.past e.disk c.append.new.disk
@@ -75,6 +76,8 @@ invariant_of-self-2 g c =
           c.accept.new.self.contents c.accept.ensures.contents c.append.new.self done.state
           (g.D.Disk.now c.append.new.disk) (done.added h).kept (done.added h).calm (done.added h).added
           (done.added h).holds),
+      nothing_ahead c.accept.new.self.contents c.append.new.self _ _ _ c.forget.ensures.members
+          c.forget.ensures.commands c.forget.ensures.taken (ap (λ j. j.ahead) done.state),
     )
 
 pub returns-clause-leaves : goal.returns-clause-leaves
@@ -84,10 +87,10 @@ returns-clause-leaves g c = λ h.
     let accepted : is_accepted e.memory.contents c.args.command.now
     ≡ true = ap (λ (s : EngineState g.row.D.Denot). is_accepted s.memory c.args.command.now) c.self.view_is
     ∙ c.requires.accepted in
-    let means = may_append_means e.checkpoint.state (paged e.checkpoint e.memory) e.memory.contents e.journal
+    let means = may_put_means e.checkpoint.state (paged e.checkpoint e.memory) e.memory.contents e.journal
     (g.D.Disk.now e.disk) (c.self.invariant.1 (c.append.ensures.runs.honest h) alive) (c.args.command.now ∷ [])
     (step e.memory.contents c.args.command.now).contents
-    (accept_one e.memory.contents c.args.command.now accepted) in
+    (accept_one e.memory.contents c.args.command.now accepted) 1 in
     subst (λ (s : EngineState g.row.D.Denot). LeavesOnly g.D.Disk.now g.D.Disk.past s.disk c.append.new.disk
     (MeansEither s c.args.command.now)) c.self.view_is
     (only_weaker g.D.Disk.now g.D.Disk.past e.disk c.append.new.disk

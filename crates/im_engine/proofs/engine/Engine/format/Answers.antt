@@ -1,4 +1,4 @@
-use Rattle.std.proofs.Common.{◌≡◌, true, ◌∙◌, sym, ap, subst}
+use Rattle.std.proofs.Common.{◌≡◌, true, ◌∙◌, refl, sym, ap, subst}
 use Rattle.im_types.specs.Layout.{sizes_of}
 use Rattle.im_disk.specs.Since.{LeavesNow}
 use Rattle.im_disk.proofs.SinceLemmas.{left_settled}
@@ -37,4 +37,5 @@ returns-in-Ok-clause-empty g c =
       ap (λ (s : CheckpointState). s.header) idle.state,
       ap (λ (s : CheckpointState). s.step) idle.state,
       first_pages c.in-Ok.checkpoint (new_header (sizes_of c.args.limits)) true idle,
+      refl,
     )

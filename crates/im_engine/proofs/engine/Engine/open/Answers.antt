@@ -1,4 +1,4 @@
-use Rattle.std.proofs.Common.{◌≡◌, false, Ok, sym, ap, subst}
+use Rattle.std.proofs.Common.{◌≡◌, false, [], Ok, refl, sym, ap, subst}
 use Rattle.im_types.specs.Layout.{layout_in_use}
 use Rattle.im_types.specs.Header.{header_of}
 use Rattle.im_types.specs.Meaning.{Reads}
@@ -31,8 +31,10 @@ started-requires-clause-kept g c = λ h.
 pub returns-in-Ok-idle-clause-idle : goal.returns-in-Ok-idle-clause-idle
 returns-in-Ok-idle-clause-idle g c =
     let idle = c.in-Ok-idle.ensures.idle in
-    subst (λ (s : EngineState g.row.D.Denot). (s.step ≡ NoCheckpoint) × (s.pages ≡ pages_at_first s.header false))
+    subst (λ (s : EngineState g.row.D.Denot). (s.step ≡ NoCheckpoint) × (s.pages ≡ pages_at_first s.header false)
+    × (s.ahead ≡ []))
     (sym c.started.ensures.state) (
       ap (λ (s : CheckpointState). s.step) idle.state,
       first_pages c.in-Ok-idle.checkpoint (seen c.in-Ok.image.header) false idle,
+      refl,
     )

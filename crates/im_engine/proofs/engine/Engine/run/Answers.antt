@@ -54,7 +54,7 @@ returns-clause-memory g c = λ f.
     ≡ c.args.events.now = take_all c.loop-event.event-index c.args.events.now
     (omega (arith, c.loop-event-test.false)) in
     subst (λ (l : List Event). HasRun c.args.self.now c.loop-event.self
-    (acknowledged c.args.self.now.memory l c.loop-event.answers.items)) all (c.loop-event.invariant.far f).run
+    (acknowledged c.args.self.now.memory c.args.self.now.ahead l c.loop-event.answers.items)) all (c.loop-event.invariant.far f).run
 
 pub returns-clause-now : goal.returns-clause-now
 returns-clause-now g c = λ h f.
@@ -62,8 +62,8 @@ returns-clause-now g c = λ h f.
     ≡ c.args.events.now = take_all c.loop-event.event-index c.args.events.now
     (omega (arith, c.loop-event-test.false)) in
     subst (λ (l : List Event). LeavesNow (g.D.Disk.now c.loop-event.self.disk)
-    (MeansWithOrWithout c.args.self.now (acknowledged c.args.self.now.memory l c.loop-event.answers.items)
-    (in_doubt c.args.self.now.memory c.args.self.now.count l c.loop-event.answers.items))) all
+    (MeansWithOrWithout c.args.self.now (acknowledged c.args.self.now.memory c.args.self.now.ahead l c.loop-event.answers.items)
+    (in_doubt c.args.self.now.memory c.args.self.now.count c.args.self.now.ahead l c.loop-event.answers.items))) all
     (c.loop-event.invariant.now h f)
 
 pub returns-clause-faults : goal.returns-clause-faults

@@ -14,3 +14,9 @@ returns-in-Group-clause-leaves g c = λ h f.
     subst (λ (event : Event). LeavesWithin g.D.Disk.now g.D.Disk.past c.args.self.now.disk c.take_group.new.self.disk
     (MeansBy c.args.self.now event)) (sym c.in-Group.is)
     (c.take_group.ensures.leaves h f)
+
+pub returns-in-Ahead-clause-leaves : goal.returns-in-Ahead-clause-leaves
+returns-in-Ahead-clause-leaves g c = λ h f.
+    subst (λ (event : Event). LeavesWithin g.D.Disk.now g.D.Disk.past c.args.self.now.disk c.take_ahead.new.self.disk
+    (MeansBy c.args.self.now event)) (sym c.in-Ahead.is)
+    (c.take_ahead.ensures.leaves h f)
