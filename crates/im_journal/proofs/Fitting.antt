@@ -1,11 +1,14 @@
 -- A journal with commands more, and with others ahead, is one.
-use Rattle.std.proofs.Common.{◌≡◌, ◌≢◌, ⊎_elim, ℕ, ◌+◌, ◌-◌, ◌<◌, ◌≤◌, ◌==◌, Bool, List, [], length, sym}
-use Rattle.std.proofs.Common.{◌∙◌, ap, subst, arith, eq-eqb, if◌then◌else◌}
-use Rattle.std.proofs.lemmas.Bool.{cases_eq}
+use Rattle.std.proofs.Common.{◌≡◌, ◌≢◌, ⊎_elim, ℕ, ◌+◌, ◌-◌, ◌<◌, ◌≤◌, ◌==◌, ◌&&◌, nat_le, Bool, true, false, List}
+use Rattle.std.proofs.Common.{[], length, refl, sym, ◌∙◌, ap, subst, arith, eq-eqb, if◌then◌else◌}
+use Rattle.std.proofs.lemmas.Bool.{cases_eq, leb-true}
+use Rattle.im_types.proofs.Tests.{and_both}
 use Rattle.im_types.specs.declared.TheConstants.{LAST, MAX_GROUP}
 use Rattle.im_types.specs.declared.commands.Command.{Command}
-use Rattle.im_journal.specs.Holding.{JournalState, FitAhead, IsJournal, room_after, longer, with_ahead}
+use Rattle.im_journal.specs.Holding.{JournalState, FitAhead, IsJournal, Holds, room_after, longer, with_ahead}
+use Rattle.im_journal.specs.Holding.{with_room, to_sweep}
 use Rattle.im_journal.proofs.Rings.{other_number}
+use Rattle.im_journal.proofs.Groups.{none_there}
 
 -- nothing is ahead
 pub fit_none : (count room : ℕ) (commands : List Command) → commands ≡ [] → count ≤ LAST → FitAhead count room commands
@@ -19,6 +22,77 @@ fit_none count room commands none low = record {
 pub fit_more : (count room more : ℕ) (commands : List Command) → room ≤ more → FitAhead count room commands
     → FitAhead count more commands
 fit_more count room more commands le it = record { few = it.few; room = omega (arith, it.room, le); last = it.last }
+
+-- that there is room, by the test
+pub room_by : (count room many : ℕ) (test : Bool) → test ≡ (nat_le many room && nat_le (count + many) LAST)
+    → test ≡ true → (many ≤ room) × (count + many ≤ LAST)
+room_by count room many test tested passed =
+    let both = and_both (nat_le many room) (nat_le (count + many) LAST) (sym tested ∙ passed) in
+    (leb-true many room both.0, leb-true (count + many) LAST both.1)
+
+-- with commands ahead for which there is room
+pub known_laid : (s : JournalState) → IsJournal s → (l : List Command) → length l ≤ MAX_GROUP → length l ≤ s.room
+    → s.count + length l ≤ LAST → IsJournal (with_ahead l s)
+known_laid s known l few room last = record {
+  enough_slots = known.enough_slots;
+  few_slots = known.few_slots;
+  inside = known.inside;
+  begun = known.begun;
+  once_round = known.once_round;
+  to_last = known.to_last;
+  full_at_last = known.full_at_last;
+  ahead = record { few = few; room = room; last = last };
+}
+
+-- with nothing ahead
+pub known_none : (s : JournalState) → IsJournal s → (l : List Command) → l ≡ [] → IsJournal (with_ahead l s)
+known_none s known l none = known_laid s known l (omega (arith, ap length none)) (omega (arith, ap length none))
+    (omega (arith, ap length none, known.to_last))
+
+holds_alone : (s : JournalState) (l : List Command) → l ≡ [] → (file : List ℕ) → Holds s file
+    → Holds (with_ahead l s) file
+holds_alone s l none file held = record {
+  size = held.size;
+  commands = held.commands;
+  there = held.there;
+  reads = held.reads;
+  count = held.count;
+  enough = held.enough;
+  behind = held.behind;
+  laid = none_there s.ring s.count l file none;
+}
+
+pub holds_none : (s j : JournalState) (l : List Command) → s ≡ j → l ≡ [] → (file : List ℕ) → Holds j file
+    → Holds (with_ahead l s) file
+holds_none s j l is none file held = holds_alone s l none file
+    (subst (λ (x : JournalState). Holds x file) (sym is) held)
+
+-- with n slots of those to be swept as room
+pub known_swept : (s : JournalState) → IsJournal s → (n : ℕ) → n ≤ to_sweep s → IsJournal (with_room s n)
+known_swept s known n few = by_test (s.count == LAST) refl few
+  where
+    by_test : (b : Bool) → (s.count == LAST) ≡ b → n ≤ (if b then 0 else s.ring.slots - (s.count - s.first) - s.room)
+        → IsJournal (with_room s n)
+    by_test true e le = record {
+      enough_slots = known.enough_slots;
+      few_slots = known.few_slots;
+      inside = known.inside;
+      begun = known.begun;
+      once_round = omega (arith, le, known.once_round);
+      to_last = known.to_last;
+      full_at_last = λ last. omega (arith, le, known.full_at_last last);
+      ahead = fit_more s.count s.room (s.room + n) s.ahead (omega arith) known.ahead;
+    }
+    by_test false e le = record {
+      enough_slots = known.enough_slots;
+      few_slots = known.few_slots;
+      inside = known.inside;
+      begun = known.begun;
+      once_round = omega (arith, le, known.once_round, known.begun);
+      to_last = known.to_last;
+      full_at_last = λ last. let is : (s.count == LAST) ≡ true = eq-eqb s.count LAST last in absurd (cc);
+      ahead = fit_more s.count s.room (s.room + n) s.ahead (omega arith) known.ahead;
+    }
 
 -- n commands more, for which there is room, and for these behind them
 module _ (s : JournalState) (known : IsJournal s) (n : ℕ) (next : List Command) (few : length next ≤ MAX_GROUP)

@@ -39,5 +39,6 @@ pub(crate) fn write_gate<D: Disk>(disk: &mut D, at: usize) -> Result<(), DeviceF
     ensures runs { Runs D.Disk disk.old disk.new result 1 (MayTouch at (D.now disk.old)) }
     ensures opened { OnOk result (D.honest disk.new → IsOpened at (D.now disk.old) (D.now disk.new)) }
 {
-    disk.write_at(at, &[OPEN]) // A stop may leave any byte there: the gate is closed, or open.
+    disk.write_at(at, &[OPEN])?; // A stop may leave any byte there: the gate is closed, or open.
+    Ok(())
 }

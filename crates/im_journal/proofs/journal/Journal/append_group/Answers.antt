@@ -1,5 +1,6 @@
-use Rattle.std.proofs.Common.{length, ap, ◌∙◌, rules}
-use Rattle.im_journal.specs.Holding.{JournalState, journal_state, longer}
+use Rattle.std.proofs.Common.{length, ap, ◌∙◌, arith, rules}
+use Rattle.im_journal.specs.Holding.{JournalState, journal_state, longer, with_ahead}
+use Rattle.im_journal.proofs.Fitting.{room_by, known_longer}
 use Rattle.im_journal.proofs.Appending.{longer_state, next_of, bodies_leave, gate_leaves, group_adds}
 use Rattle.im_journal.proofs.journal.Journal.append_group.Goals as goal
 
@@ -71,3 +72,16 @@ returns-clause-state g c = longer_state c.self.inside.base c.self.inside.slots c
     c.self.inside.room c.room_after-room.result (length c.args.commands.now) c.self.inside.laid c.none.result
     c.requires.some c.room_after-room.ensures c.none.ensures
     ∙ ap (λ (j : JournalState). longer (length c.args.commands.now) j) c.self.view_is
+
+pub invariant_of-self : goal.invariant_of-self
+invariant_of-self g c =
+    let fits = room_by c.self.inside.count c.self.inside.room (length c.args.commands.now) c.has_room.result
+    c.has_room.ensures c.if-not-has_room.false in
+    let none = ap length c.none.ensures in
+    known_longer (journal_state c.self.inside.base c.self.inside.slots c.self.inside.first c.self.inside.count
+    c.self.inside.room c.self.inside.laid) c.self.invariant (length c.args.commands.now) c.none.result (omega (arith, none))
+    (omega (arith, none, fits.0)) (omega (arith, none, fits.1)) _
+    (ap (λ (j : JournalState). with_ahead c.none.result j)
+    (longer_state c.self.inside.base c.self.inside.slots c.self.inside.first c.self.inside.count c.self.inside.room
+    c.room_after-room.result (length c.args.commands.now) c.self.inside.laid c.none.result c.requires.some
+    c.room_after-room.ensures c.none.ensures))

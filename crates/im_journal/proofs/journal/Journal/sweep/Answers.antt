@@ -1,5 +1,6 @@
-use Rattle.std.proofs.Common.{rules}
-use Rattle.im_journal.specs.Holding.{journal_state, to_sweep}
+use Rattle.std.proofs.Common.{◌≤◌, subst, sym, rules}
+use Rattle.im_journal.specs.Holding.{JournalState, journal_state, to_sweep}
+use Rattle.im_journal.proofs.Fitting.{known_swept}
 use Rattle.im_journal.proofs.Sweeping.{no_more, turn_of, sweep_leaves, sweeps}
 use Rattle.im_journal.proofs.journal.Journal.sweep.Goals as goal
 
@@ -44,3 +45,11 @@ returns-clause-swept g c = λ h.
     (no_more c.at_once-swept.result c.args.most c.to_sweep.result
     (to_sweep c.args.self.now) c.at_once-swept.ensures c.to_sweep.ensures))
     (g.D.Disk.now c.close_gates.new.disk) (c.in_default.ensures.closed h)
+
+pub invariant_of-self : goal.invariant_of-self
+invariant_of-self g c =
+    known_swept (journal_state c.self.inside.base c.self.inside.slots c.self.inside.first c.self.inside.count
+    c.self.inside.room c.self.inside.laid) c.self.invariant c.at_once-swept.result
+    (subst (λ (j : JournalState). c.at_once-swept.result ≤ to_sweep j) (sym c.self.view_is)
+    (no_more c.at_once-swept.result c.args.most c.to_sweep.result
+    (to_sweep c.args.self.now) c.at_once-swept.ensures c.to_sweep.ensures))
