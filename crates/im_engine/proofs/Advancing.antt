@@ -5,18 +5,21 @@ use Rattle.std.proofs.Common.{◌∙◌, ap, subst, arith, length-take, if◌the
 use Rattle.std.specs.Prelude.{slice_get}
 use Rattle.std.proofs.lemmas.Bool.{cases_eq}
 use Rattle.std.proofs.lemmas.Bool.Decides.{nat_tests}
+use Rattle.std.proofs.lemmas.List.{nil_from_length, take-take}
 use Rattle.im_types.specs.declared.TheConstants.{LAST, MAX_GROUP}
 use Rattle.im_types.specs.declared.commands.Command.{Command}
 use Rattle.im_types.specs.declared.groups.Served.{Served}
-use Rattle.im_types.specs.declared.refusals.Refusal.TheVariants.{Device, Failed}
+use Rattle.im_types.specs.declared.refusals.Refusal.{Refusal}
+use Rattle.im_types.specs.declared.refusals.Refusal.TheVariants.{Device, Failed, JournalFull}
 use Rattle.im_types.specs.Contents.{Contents}
 use Rattle.im_types.specs.Meaning.{accept_each}
 use Rattle.im_types.specs.Groups.{as_served}
 use Rattle.im_types.specs.Run.{after}
-use Rattle.im_disk.specs.Moment.{Moment}
+use Rattle.im_disk.specs.Moment.{Moment, Faults}
 use Rattle.im_disk.specs.Since.{CallsAtMost, CallsBy, Calls}
 use Rattle.im_memory.specs.State.{MemoryState}
-use Rattle.im_journal.specs.Holding.{JournalState, IsJournal, room_after, longer, with_ahead}
+use Rattle.im_journal.specs.Holding.{JournalState, IsJournal, room_after, longer, with_ahead, slots_ahead}
+use Rattle.im_journal.specs.Holding.{IsFullBy, IsFullFor}
 use Rattle.im_journal.proofs.Rings.{other_number}
 use Rattle.im_checkpoint.specs.Step.{PagedCheckpoint, changed_in}
 use Rattle.im_checkpoint.specs.Turns.{AddsAtMost}
@@ -58,6 +61,17 @@ got_inside : {X : Type 0} (xs : List X) (i : ℕ) (x : X) → slice_get xs i ≡
 got_inside [] i x at = absurd (cc)
 got_inside (y ∷ xs) zero x at = omega arith
 got_inside (y ∷ xs) (suc i) x at = omega (arith, got_inside xs i x at)
+
+-- a beginning of a beginning is one
+pub beginning : {X : Type 0} (next asked members : List X) (k many : ℕ) → asked ≡ take k next
+    → members ≡ take many asked → many ≤ length asked → members ≡ take (length members) next
+beginning next asked members k many asked_are members_are within =
+    let long : length members ≡ many = omega (arith, ap length members_are, length-take many asked, within) in
+    let inside : many ≤ k = omega (arith, within, ap length asked_are, length-take k next) in
+    members_are
+    ∙ ap (take many) asked_are
+    ∙ take-take many k next inside
+    ∙ ap (λ (n : ℕ). take n next) (sym long)
 
 -- what was judged with as many places as were asked holds with as many as were judged
 pub told_of : (m : Contents) (asked members commands : List Command) (taken : List Bool) (many : ℕ)
@@ -260,10 +274,44 @@ same_ahead j next known none nothing =
 same_number : (a b : ℕ) → (a == b) ≡ true → a ≡ b
 same_number a b is = grind (arith, nat_tests)
 
-pub whole_of : (m : Contents) (left : ℕ) (members slice commands : List Command) (taken : List Bool) (test : Bool)
+other_than_none : (n : ℕ) → (n == 0) ≡ false → 0 < n
+other_than_none n no = grind (arith, nat_tests)
+
+-- whether a list is empty, by a slice of it
+pub none_in : {X : Type 0} (items slice : List X) (test : Bool) → slice ≡ items → test ≡ (length slice == 0)
+    → test ≡ true → items ≡ []
+none_in items slice test is tested yes = nil_from_length items
+    (omega (arith, ap length is, same_number (length slice) 0 (sym tested ∙ yes)))
+
+pub some_in : {X : Type 0} (items slice : List X) (test : Bool) → slice ≡ items → test ≡ (length slice == 0)
+    → test ≡ false → 0 < length items
+some_in items slice test is tested no =
+    omega (arith, ap length is, other_than_none (length slice) (sym tested ∙ no))
+
+-- where there is room, a refusal is the disk's
+pub only_device : {T D : Type 0} (full : Type 0) (old new : D) (r : Result T Refusal) (a b : ℕ)
+    → IsFullBy full old new r → (full → ⊥) → Faults (λ e. (e ≡ JournalFull) ⊎ (e ≡ Device)) r a b
+    → Faults (λ e. e ≡ Device) r a b
+only_device {T} {D} full old new (Ok x) a b it room faults = faults
+only_device {T} {D} full old new (Err e) a b it room faults = (
+  ⊎_elim
+      (λ (is : e ≡ JournalFull). absurd (room (it.exactly.0 (ap (λ (x : Refusal). Err x) is))))
+      (λ (is : e ≡ Device). is)
+      faults.0,
+  faults.1,
+  faults.2,
+)
+
+pub has_room_for : (j : JournalState) (next : List Command) → FitsBehind j next → IsFullFor j next → ⊥
+has_room_for j next fits full = ⊎_elim
+    (λ (less : j.room < slots_ahead j next). absurd (omega (arith, less, fits.room)))
+    (λ (past : LAST < j.count + slots_ahead j next). absurd (omega (arith, past, fits.last)))
+    full
+
+pub whole_of : (m : Contents) (left : ℕ) (members slice commands : List Command) (taken : List Bool)
     → slice ≡ members → left ≡ length slice → length slice ≤ MAX_GROUP → AreTold m members commands taken
     → (length commands == length members) ≡ true → AreWhole m left slice
-whole_of m left members slice commands taken test same enough few told all = record {
+whole_of m left members slice commands taken same enough few told all = record {
   few = few;
   accepted = subst (λ (l : List Command). AreAccepted m l) (sym same)
       (whole-accepted m (length members) members
@@ -292,6 +340,17 @@ pub calls_few : {D T E : Type 0} (past : D → List Moment) (d d2 : D) (ahead ne
     → next ≤ most → CallsBy past d d2 (calls_to_advance ahead next) r → CallsAtMost past d d2 (most + 2)
 calls_few past d d2 ahead next most (Ok x) le calls = omega (arith, calls, le, few_calls ahead next)
 calls_few past d d2 ahead next most (Err x) le calls = omega (arith, calls, le, few_calls ahead next)
+
+-- no more commands come than next members
+pub few_coming : (m : Contents) (next slice members commands : List Command) (taken : List Bool) → slice ≡ next
+    → AreTold m members commands taken → length members ≤ length slice → length commands ≤ length next
+few_coming m next slice members commands taken same told within = omega (
+  arith,
+  ap length told.commands,
+  at_most_members m (length members) members,
+  within,
+  ap length same,
+)
 
 -- the commands of a group ahead are those that an engine puts of it
 pub new_put : (m n : Contents) (j : JournalState) (members commands : List Command) (taken : List Bool)

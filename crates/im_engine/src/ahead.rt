@@ -2,9 +2,11 @@
 ghost use Rattle.std.specs.Prelude.{◌≡◌, ◌≤◌, ◌==◌, [], length};
 ghost use Rattle.im_types.specs.declared.TheConstants.{MAX_GROUP};
 ghost use Rattle.im_journal.specs.Holding.{ahead_after};
+ghost use Rattle.im_engine.specs.Commands.{each_refused};
 
+use crate::groups::refuse_all;
 use arrayvec::ArrayVec;
-use im_types::{Command, MAX_GROUP};
+use im_types::{Command, MAX_GROUP, Refusal, Served};
 
 /// The members of a group, and what was judged of them.
 #[derive(Drop)]
@@ -50,6 +52,21 @@ impl GroupAhead {
         if !commands.is_empty() {
             self.forget();
         }
+    }
+
+    // How many members there are.
+    pub(crate) fn many(&self) -> usize
+        ensures { result ≡ length self.now.members.items }
+    {
+        self.members.as_slice().len()
+    }
+
+    // Answers each member with this refusal.
+    pub(crate) fn refuse(&self, refusal: Refusal, served: &mut ArrayVec<Served, MAX_GROUP>)
+        requires empty { served.old.items ≡ [] }
+        ensures { served.new.items ≡ each_refused refusal self.now.members.items }
+    {
+        refuse_all(self.members.as_slice(), refusal, served);
     }
 
     // Whether all members take places.

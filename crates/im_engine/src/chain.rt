@@ -15,7 +15,7 @@ ghost use Rattle.im_engine.specs.Chain.{put_ahead};
 
 use crate::ahead::GroupAhead;
 use crate::engine::Engine;
-use crate::groups::{Members, act_all, places_in, refuse_all};
+use crate::groups::{Members, act_all, places_in};
 use arrayvec::ArrayVec;
 use im_checkpoint::Checkpoint;
 use im_disk::Disk;
@@ -44,13 +44,11 @@ fn put_behind<D: Disk>(
     ensures faults { Faults (λ e. e ≡ Refusal.Device) result (D.failures disk.old) (D.failures disk.new) }
     ensures honest { D.honest disk.new → D.honest disk.old }
 {
-    let some = journal.ahead() > 0;
-    if some {
+    if journal.ahead() > 0 {
         // A stop in it leaves all of the commands ahead, or none, and none of the next ones.
         return journal.put_ahead(disk, next);
     }
-    let none = next.as_slice().is_empty();
-    if none {
+    if next.as_slice().is_empty() {
         return Ok(());
     }
     // A stop in it leaves what was there: no gate is written.
@@ -91,14 +89,15 @@ fn act_ahead(
         → IsKept checkpoint.old.state (paged checkpoint.old memory.old) m j now
         → IsKept checkpoint.new.state (paged checkpoint.new memory.new) m j now }
 {
+    let all = ahead.members.as_slice();
+    let taken = ahead.taken.as_slice();
     let members = Members {
-        all: ahead.members.as_slice(),
+        all,
         whole: ahead.is_whole(),
-        taken: ahead.taken.as_slice(),
+        taken,
     };
     // As many places as members, so that none of them lacks one.
-    let places = members.all.len() as u64;
-    act_all(checkpoint, memory, places, &members, served);
+    act_all(checkpoint, memory, all.len() as u64, &members, served);
 }
 
 impl<D: Disk> Engine<D> {
@@ -133,21 +132,22 @@ impl<D: Disk> Engine<D> {
         let _count = self.journal.count(); // So that it is known that it isn't past the last one.
         if self.failed {
             // First of all: the disk may have more than the memory.
-            refuse_all(self.ahead.members.as_slice(), Refusal::Failed, served);
+            self.ahead.refuse(Refusal::Failed, served);
             return Err(Refusal::Failed);
         }
-        let coming = self.judge_coming(next.as_slice());
+        let members = next.as_slice();
+        let coming = self.judge_coming(members);
         // A stop in it leaves all of the group ahead on the disk, or nothing of it, and nothing of the next one: no
         // answer is given before.
         if let Err(_) = put_behind(&mut self.journal, &mut self.disk, &coming.commands) {
             self.failed = true; // All of the group ahead is there, or nothing of it.
-            refuse_all(self.ahead.members.as_slice(), Refusal::Device, served);
+            self.ahead.refuse(Refusal::Device, served);
             self.ahead.forget();
             self.journal.forget_ahead();
             return Err(Refusal::Device);
         }
         act_ahead(&mut self.checkpoint, &mut self.memory, &self.ahead, served);
-        let many = coming.members.as_slice().len();
+        let many = coming.many();
         self.ahead = coming;
         Ok(many)
     }
@@ -160,8 +160,11 @@ impl<D: Disk> Engine<D> {
         ensures members { result.members.items ≡ take (length result.members.items) next.now }
         ensures begins { IsComing self.now next.now result.commands.items (length result.members.items) }
     {
-        let left = places_in(&self.journal) - self.journal.ahead() as u64;
-        let asked = &next[..min(next.len() as u64, left) as usize];
+        let places = places_in(&self.journal);
+        let laid = self.journal.ahead();
+        let left = places - laid as u64;
+        let most = min(next.len() as u64, left);
+        let asked = &next[..most as usize];
         let group = self.ahead.commands.as_slice();
         let mut coming = GroupAhead::none();
         let many = judge_next(

@@ -1,15 +1,15 @@
-use Rattle.std.proofs.Common.{◌≡◌, ◌+◌, false, inl, Result, Ok, ℕ, OnOk, ap, ◌∙◌, subst, sym}
+use Rattle.std.proofs.Common.{◌≡◌, ◌+◌, false, inl, Result, Ok, Err, ℕ, OnOk, ap, ◌∙◌, subst, sym}
 use Rattle.im_types.specs.declared.refusals.Refusal.{Refusal}
-use Rattle.im_disk.specs.Since.{Leaves, LeavesNow}
+use Rattle.im_disk.specs.Since.{Leaves, LeavesNow, CallsBy}
 use Rattle.im_journal.specs.Holding.{JournalState}
 use Rattle.im_checkpoint.specs.Keeping.{paged, Fits, IsKept}
 use Rattle.im_checkpoint.proofs.Fitting.{room_fits}
 use Rattle.im_checkpoint.specs.Step.{changed_in}
-use Rattle.im_checkpoint.specs.Turns.{swept_at_once}
-use Rattle.im_engine.specs.State.{EngineState, MeansState, engine_of, journal_of}
+use Rattle.im_checkpoint.specs.Turns.{swept_at_once, calls_to_sweep}
+use Rattle.im_engine.specs.State.{EngineState, MeansState, engine_of, journal_of, journal_in}
 use Rattle.im_engine.specs.Run.{SweepAnswered}
 use Rattle.im_engine.proofs.Keeping.{all_hold, all_mean}
-use Rattle.im_engine.proofs.Chaining.{more_room, swept_here}
+use Rattle.im_engine.proofs.Chaining.{more_room, swept_here, calls_here}
 use Rattle.im_engine.proofs.engine.Engine.sweep.Goals as goal
 
 pub sweep-requires : goal.sweep-requires
@@ -92,3 +92,25 @@ returns-in-Ok-clause-answered g c =
         }),
       );
     })
+
+pub returns-in-Ok-clause-calls : goal.returns-in-Ok-clause-calls
+returns-in-Ok-clause-calls g c = λ h.
+    let e = c.self.inside in
+    let most = c.args.most in
+    subst (λ (s : EngineState g.row.D.Denot). CallsBy g.D.Disk.past s.disk c.sweep.new.disk
+    (calls_to_sweep s.step (journal_in s) most) (Ok c.in-Ok.swept)) c.self.view_is
+    (subst (λ (n : ℕ). CallsBy g.D.Disk.past e.disk c.sweep.new.disk n (Ok c.in-Ok.swept))
+    (calls_here e.checkpoint.state e.memory.contents e.journal most c.self.invariant.0)
+    (subst (λ (r : Result ℕ Refusal). CallsBy g.D.Disk.past e.disk c.sweep.new.disk
+    (calls_to_sweep e.checkpoint.state.step e.journal most) r) c.in-Ok.is (c.sweep.ensures.runs.calls h)))
+
+pub returns-in-Err-clause-calls : goal.returns-in-Err-clause-calls
+returns-in-Err-clause-calls g c = λ h.
+    let e = c.self.inside in
+    let most = c.args.most in
+    subst (λ (s : EngineState g.row.D.Denot). CallsBy g.D.Disk.past s.disk c.sweep.new.disk
+    (calls_to_sweep s.step (journal_in s) most) (Err c.in-Err.refusal)) c.self.view_is
+    (subst (λ (n : ℕ). CallsBy g.D.Disk.past e.disk c.sweep.new.disk n (Err c.in-Err.refusal))
+    (calls_here e.checkpoint.state e.memory.contents e.journal most c.self.invariant.0)
+    (subst (λ (r : Result ℕ Refusal). CallsBy g.D.Disk.past e.disk c.sweep.new.disk
+    (calls_to_sweep e.checkpoint.state.step e.journal most) r) c.in-Err.is (c.sweep.ensures.runs.calls h)))
