@@ -32,7 +32,8 @@ use Rattle.im_engine.specs.State.{EngineState, engine_of}
 use Rattle.im_engine.specs.Commands.{AreWhole, AreParted, each_refused}
 use Rattle.im_engine.specs.Chain.{AreTold, IsAhead, Advances, IsComing, FitsBehind, put_ahead, places_left}
 use Rattle.im_engine.specs.Chain.{calls_to_advance}
-use Rattle.im_engine.proofs.Members.{longer_none}
+use Rattle.im_engine.proofs.Members.{longer_none, length_refused, length_answers}
+use Rattle.im_laws.proofs.Tests.{true_or_false}
 
 -- ---- places
 
@@ -357,3 +358,16 @@ pub new_put : (m n : Contents) (j : JournalState) (members commands : List Comma
     → IsAhead n j members commands taken → commands ≡ commands_at n (places j.count j.room) members
 new_put m n j members commands taken it = it.told.commands
     ∙ enough-commands n (length members) (places j.count j.room) members (omega arith) it.enough
+
+-- as many answers as members of the group ahead
+pub advanced_long : {D : Type 0} (old : EngineState D) (next : List Command) (result : Result ℕ Refusal)
+    (answers : List Served) (new : EngineState D) → Advances old next result answers new
+    → length answers ≡ length old.ahead
+advanced_long {D} old next result answers new it = ⊎_elim
+    (λ (dead : old.failed ≡ true). ap (λ (l : List Served). length l) (it.dead dead).1 ∙ length_refused Failed old.ahead)
+    (λ (alive : old.failed ≡ false). ⊎_elim
+    (λ done. ap (λ (l : List Served). length l) done.2
+    ∙ length_answers old.memory (places old.count old.room) old.ahead)
+    (λ fault. ap (λ (l : List Served). length l) fault.1 ∙ length_refused Device old.ahead)
+    (it.alive alive))
+    (true_or_false old.failed)

@@ -102,7 +102,7 @@ returns-in-Ok-clause-calls g c = λ h.
     (subst (λ (n : ℕ). CallsBy g.D.Disk.past e.disk c.sweep.new.disk n (Ok c.in-Ok.swept))
     (calls_here e.checkpoint.state e.memory.contents e.journal most c.self.invariant.0)
     (subst (λ (r : Result ℕ Refusal). CallsBy g.D.Disk.past e.disk c.sweep.new.disk
-    (calls_to_sweep e.checkpoint.state.step e.journal most) r) c.in-Ok.is (c.sweep.ensures.runs.calls h)))
+    (calls_to_sweep e.checkpoint.state.step e.journal most) r) c.in-Ok.is (c.sweep.ensures.runs.kept h)))
 
 pub returns-in-Err-clause-calls : goal.returns-in-Err-clause-calls
 returns-in-Err-clause-calls g c = λ h.
@@ -113,4 +113,4 @@ returns-in-Err-clause-calls g c = λ h.
     (subst (λ (n : ℕ). CallsBy g.D.Disk.past e.disk c.sweep.new.disk n (Err c.in-Err.refusal))
     (calls_here e.checkpoint.state e.memory.contents e.journal most c.self.invariant.0)
     (subst (λ (r : Result ℕ Refusal). CallsBy g.D.Disk.past e.disk c.sweep.new.disk
-    (calls_to_sweep e.checkpoint.state.step e.journal most) r) c.in-Err.is (c.sweep.ensures.runs.calls h)))
+    (calls_to_sweep e.checkpoint.state.step e.journal most) r) c.in-Err.is (c.sweep.ensures.runs.kept h)))
