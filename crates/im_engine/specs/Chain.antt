@@ -17,11 +17,11 @@ use Rattle.im_groups.specs.Ahead.{IsUnsure}
 use Rattle.im_engine.specs.State.{EngineState, MeansState}
 use Rattle.im_engine.specs.Commands.{after_commands, commands_put, answers_in_turn, each_refused, MeansCommands}
 
--- what was judged of members at this memory, with a place for each: the commands of those that are accepted, and of each
--- whether it is
-pub record AreTold (m : Contents) (members commands : List Command) (taken : List Bool) : Type 0 where
-  pub commands : commands ≡ commands_at m (length members) members
-  pub taken : taken ≡ takes_at m (length members) members
+-- what was judged of members at this memory, with a place for each: `put` are the commands of those that are accepted, and
+-- `told` is of each whether it is
+pub record AreTold (m : Contents) (members put : List Command) (told : List Bool) : Type 0 where
+  pub commands : put ≡ commands_at m (length members) members
+  pub taken : told ≡ takes_at m (length members) members
 
 -- the group ahead of an engine: there is a place for each of its members, and its commands are those ahead of the journal
 pub record IsAhead (m : Contents) (j : JournalState) (members commands : List Command)

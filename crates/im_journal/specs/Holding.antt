@@ -53,9 +53,9 @@ journal_state base slots first count room ahead = record {
 }
 
 -- these commands can go on with a run as one group: there is room for all of them, and none is past the last count
-pub record FitAhead (count room : ℕ) (commands : List Command) : Type 0 where
+pub record FitAhead (count left : ℕ) (commands : List Command) : Type 0 where
   pub few : length commands ≤ MAX_GROUP
-  pub room : length commands ≤ room
+  pub room : length commands ≤ left
   pub last : count + length commands ≤ LAST
 
 -- the run and the room go once round the ring at most, and no further than the last count

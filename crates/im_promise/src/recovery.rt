@@ -112,7 +112,7 @@ pub fn recover_again(
     events: &[Event],
 ) -> Result<Recovered, Refusal>
     ensures recovers { IfOk result (λ r. engine.failed ≡ false
-        → Recovers engine.memory engine.count engine.ahead events.now r.answers.items
+        → Recovers engine.memory engine.count [] events.now r.answers.items
         r.engine.memory r.engine.count) }
     ensures works { IfOk result (λ r. r.engine.failed ≡ false) }
     ensures refused { IfErr result (λ e. engine.failed ≡ false → HasNoRoom e) }
