@@ -1,12 +1,14 @@
 -- A journal with commands more, and with others ahead, is one.
-use Rattle.std.proofs.Common.{◌≡◌, ◌≢◌, ⊎_elim, ℕ, ◌+◌, ◌-◌, ◌<◌, ◌≤◌, ◌==◌, ◌&&◌, nat_le, Bool, true, false, List}
+use Rattle.std.proofs.Common.{◌≡◌, ◌≢◌, ◌⊎◌, inl, inr, ⊎_elim, Result, Ok, Err, ℕ, ◌+◌, ◌-◌, ◌<◌, ◌≤◌, ◌==◌, ◌&&◌, nat_le, Bool, true, false, List}
 use Rattle.std.proofs.Common.{[], length, refl, sym, ◌∙◌, ap, subst, arith, eq-eqb, if◌then◌else◌}
-use Rattle.std.proofs.lemmas.Bool.{cases_eq, leb-true}
+use Rattle.std.proofs.lemmas.Bool.{cases_eq, cases_lt, leb-true, le-leb}
 use Rattle.im_types.proofs.Tests.{and_both}
 use Rattle.im_types.specs.declared.TheConstants.{LAST, MAX_GROUP}
 use Rattle.im_types.specs.declared.commands.Command.{Command}
 use Rattle.im_journal.specs.Holding.{JournalState, FitAhead, IsJournal, Holds, room_after, longer, with_ahead}
-use Rattle.im_journal.specs.Holding.{with_room, to_sweep}
+use Rattle.im_types.specs.declared.refusals.Refusal.{Refusal}
+use Rattle.im_types.specs.declared.refusals.Refusal.TheVariants.{Device, JournalFull}
+use Rattle.im_journal.specs.Holding.{with_room, to_sweep, slots_ahead, IsFullFor, IsFullBy}
 use Rattle.im_journal.proofs.Rings.{other_number}
 use Rattle.im_journal.proofs.Groups.{none_there}
 
@@ -29,6 +31,64 @@ pub room_by : (count room many : ℕ) (test : Bool) → test ≡ (nat_le many ro
 room_by count room many test tested passed =
     let both = and_both (nat_le many room) (nat_le (count + many) LAST) (sym tested ∙ passed) in
     (leb-true many room both.0, leb-true (count + many) LAST both.1)
+
+-- that there is none
+no_room_by : (count room many : ℕ) (test : Bool) → test ≡ (nat_le many room && nat_le (count + many) LAST)
+    → test ≡ false → (room < many) ⊎ (LAST < count + many)
+no_room_by count room many test tested failed = ⊎_elim
+    (λ (less : room < many). inl less)
+    (λ (enough : many ≤ room). ⊎_elim
+    (λ (past : LAST < count + many). inr past)
+    (λ (low : count + many ≤ LAST).
+    let a : nat_le many room ≡ true = le-leb many room enough in
+    let b : nat_le (count + many) LAST ≡ true = le-leb (count + many) LAST low in
+    absurd (true_is_false (sym (λ i. a i && b i) ∙ sym tested ∙ failed)))
+    (cases_lt LAST (count + many)))
+    (cases_lt room many)
+  where
+    true_is_false : true ≡ false → ⊥
+    true_is_false e = cc
+
+-- the same of a journal, by its fields, behind what is ahead
+pub full_by : (s j : JournalState) (next : List Command) (many : ℕ) (test : Bool) → s ≡ j → many ≡ slots_ahead s next
+    → test ≡ (nat_le many s.room && nat_le (s.count + many) LAST) → test ≡ false → IsFullFor j next
+full_by s j next many test is all tested failed =
+    subst (λ (x : JournalState). IsFullFor x next) is
+    (subst (λ (n : ℕ). (s.room < n) ⊎ (LAST < s.count + n)) all (no_room_by s.count s.room many test tested failed))
+
+pub not_full_by : (s j : JournalState) (next : List Command) (many : ℕ) (test : Bool) → s ≡ j
+    → many ≡ slots_ahead s next → test ≡ (nat_le many s.room && nat_le (s.count + many) LAST) → test ≡ true
+    → IsFullFor j next → ⊥
+not_full_by s j next many test is all tested passed full =
+    let fits = room_by s.count s.room many test tested passed in
+    ⊎_elim
+    (λ (less : s.room < slots_ahead s next). absurd (omega (arith, less, all, fits.0)))
+    (λ (past : LAST < s.count + slots_ahead s next). absurd (omega (arith, past, all, fits.1)))
+    (subst (λ (x : JournalState). IsFullFor x next) (sym is) full)
+
+-- the answer then, and elsewhere
+pub full_here : {T D : Type 0} (full : Type 0) (d : D) → full → IsFullBy {T = T} full d d (Err JournalFull)
+full_here full d is = record { exactly = (λ e. is, λ f. refl); untouched = λ e. refl }
+
+not_full : {T D : Type 0} (full : Type 0) (old new : D) (r : Result T Refusal) → (full → ⊥)
+    → (r ≡ Err JournalFull → ⊥) → IsFullBy full old new r
+not_full full old new r none other = record {
+  exactly = (λ e. absurd (other e), λ f. absurd (none f));
+  untouched = λ e. absurd (other e);
+}
+
+pub full_no_device : {T D : Type 0} (full : Type 0) (old new : D) → (full → ⊥)
+    → IsFullBy {T = T} full old new (Err Device)
+full_no_device {T} {D} full old new none = not_full full old new (Err Device) none other
+  where
+    other : ◌≡◌ {A = Result T Refusal} (Err Device) (Err JournalFull) → ⊥
+    other e = cc
+
+pub full_no_ok : {T D : Type 0} (full : Type 0) (old new : D) (x : T) → (full → ⊥) → IsFullBy full old new (Ok x)
+full_no_ok {T} {D} full old new x none = not_full full old new (Ok x) none other
+  where
+    other : ◌≡◌ {A = Result T Refusal} (Ok x) (Err JournalFull) → ⊥
+    other e = cc
 
 -- with commands ahead for which there is room
 pub known_laid : (s : JournalState) → IsJournal s → (l : List Command) → length l ≤ MAX_GROUP → length l ≤ s.room

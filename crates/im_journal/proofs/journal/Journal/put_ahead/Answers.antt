@@ -1,7 +1,8 @@
 use Rattle.std.proofs.Common.{◌≡◌, ◌+◌, length, refl, ap, ◌∙◌, sym, arith, rules}
-use Rattle.im_journal.specs.Holding.{JournalState, journal_state, room_after, longer, with_ahead}
-use Rattle.im_journal.proofs.Fitting.{room_by, known_longer}
-use Rattle.im_journal.proofs.Chaining.{chain_of, chained_state, gate_leaves_put, bodies_leave_put, group_puts}
+use Rattle.im_journal.specs.Holding.{JournalState, journal_state, room_after, longer, with_ahead, IsFullFor}
+use Rattle.im_journal.proofs.Fitting.{room_by, known_longer, full_by, not_full_by, full_here, full_no_device}
+use Rattle.im_journal.proofs.Fitting.{full_no_ok}
+use Rattle.im_journal.proofs.Chaining.{chain_of, gate_inside, inside, chained_state, gate_leaves_put, bodies_leave_put, group_puts}
 use Rattle.im_journal.proofs.journal.Journal.put_ahead.Goals as goal
 
 pub returns-in-Err-clause-runs : goal.returns-in-Err-clause-runs
@@ -97,3 +98,87 @@ invariant_of-self g c =
     c.room_after-room.result c.self.inside.laid c.of.result c.of.result
     (ap (λ n. c.self.inside.count + n) laid) (c.room_after-room.ensures
     ∙ ap (λ n. room_after c.self.inside.count n c.self.inside.room) laid) refl)
+
+pub write_gate-requires : goal.write_gate-requires
+write_gate-requires g c = record {
+  inside = λ h0. gate_inside
+      (chain_of (journal_state c.self.inside.base c.self.inside.slots c.self.inside.first c.self.inside.count
+      c.self.inside.room c.self.inside.laid) c.args.self.now c.as_slice-slice.result.now
+      (g.D.Disk.now c.args.disk.now) c.many-laid.result (length c.as_slice-slice.result.now) c.has_room.result
+      c.self.view_is c.self.invariant (c.requires.holds h0) c.requires.some c.many-laid.ensures refl
+      c.has_room.ensures c.if-not-has_room.false);
+}
+
+pub lay_bodies-requires-clause-fits : goal.lay_bodies-requires-clause-fits
+lay_bodies-requires-clause-fits g c =
+    let known = c.self.invariant in
+    let fits = room_by c.self.inside.count c.self.inside.room _ c.has_room.result c.has_room.ensures
+    c.if-not-has_room.false in
+    record {
+      ring = (omega (arith, known.enough_slots), known.inside);
+      few = c.as_slice-slice.ensures.fits;
+      once_round = omega (arith, fits.0, known.once_round, known.begun);
+      last = omega (arith, fits.1);
+    }
+
+pub lay_bodies-requires-clause-inside : goal.lay_bodies-requires-clause-inside
+lay_bodies-requires-clause-inside g c = λ h.
+    let h0 = c.write_gate.ensures.runs.honest h in
+    omega (
+      arith,
+      (c.in_default.ensures.opened h).kept.size,
+      inside
+          (chain_of (journal_state c.self.inside.base c.self.inside.slots c.self.inside.first c.self.inside.count
+          c.self.inside.room c.self.inside.laid) c.args.self.now c.as_slice-slice.result.now
+          (g.D.Disk.now c.args.disk.now) c.many-laid.result (length c.as_slice-slice.result.now) c.has_room.result
+          c.self.view_is c.self.invariant (c.requires.holds h0) c.requires.some c.many-laid.ensures refl
+          c.has_room.ensures c.if-not-has_room.false),
+    )
+
+pub returns-then-not-has_room-clause-full : goal.returns-then-not-has_room-clause-full
+returns-then-not-has_room-clause-full g c =
+    let laid = c.many-laid.ensures in
+    let value = c.as_slice-slice.ensures.value in
+    let all : c.many-laid.result + length c.as_slice-slice.result.now
+    ≡ length c.self.inside.laid + length c.args.next.now.items = omega (arith, laid, ap length value) in
+    full_here (IsFullFor c.args.self.now c.args.next.now.items) c.args.disk.now
+    (full_by (journal_state c.self.inside.base c.self.inside.slots c.self.inside.first c.self.inside.count
+    c.self.inside.room c.self.inside.laid) c.args.self.now c.args.next.now.items
+    (c.many-laid.result + length c.as_slice-slice.result.now) c.has_room.result c.self.view_is all c.has_room.ensures
+    c.if-not-has_room.true)
+
+pub returns-in-Err-clause-full : goal.returns-in-Err-clause-full
+returns-in-Err-clause-full g c =
+    let laid = c.many-laid.ensures in
+    let value = c.as_slice-slice.ensures.value in
+    let all : c.many-laid.result + length c.as_slice-slice.result.now
+    ≡ length c.self.inside.laid + length c.args.next.now.items = omega (arith, laid, ap length value) in
+    full_no_device (IsFullFor c.args.self.now c.args.next.now.items) c.args.disk.now c.write_gate.new.disk
+    (not_full_by (journal_state c.self.inside.base c.self.inside.slots c.self.inside.first c.self.inside.count
+    c.self.inside.room c.self.inside.laid) c.args.self.now c.args.next.now.items
+    (c.many-laid.result + length c.as_slice-slice.result.now) c.has_room.result c.self.view_is all c.has_room.ensures
+    c.if-not-has_room.false)
+
+pub returns-in-Err-lay_bodies-clause-full : goal.returns-in-Err-lay_bodies-clause-full
+returns-in-Err-lay_bodies-clause-full g c =
+    let laid = c.many-laid.ensures in
+    let value = c.as_slice-slice.ensures.value in
+    let all : c.many-laid.result + length c.as_slice-slice.result.now
+    ≡ length c.self.inside.laid + length c.args.next.now.items = omega (arith, laid, ap length value) in
+    full_no_device (IsFullFor c.args.self.now c.args.next.now.items) c.args.disk.now c.lay_bodies.new.disk
+    (not_full_by (journal_state c.self.inside.base c.self.inside.slots c.self.inside.first c.self.inside.count
+    c.self.inside.room c.self.inside.laid) c.args.self.now c.args.next.now.items
+    (c.many-laid.result + length c.as_slice-slice.result.now) c.has_room.result c.self.view_is all c.has_room.ensures
+    c.if-not-has_room.false)
+
+pub returns-clause-full : goal.returns-clause-full
+returns-clause-full g c =
+    let laid = c.many-laid.ensures in
+    let value = c.as_slice-slice.ensures.value in
+    let all : c.many-laid.result + length c.as_slice-slice.result.now
+    ≡ length c.self.inside.laid + length c.args.next.now.items = omega (arith, laid, ap length value) in
+    full_no_ok (IsFullFor c.args.self.now c.args.next.now.items) c.args.disk.now c.lay_bodies.new.disk tt
+    (not_full_by (journal_state c.self.inside.base c.self.inside.slots c.self.inside.first c.self.inside.count
+    c.self.inside.room c.self.inside.laid) c.args.self.now c.args.next.now.items
+    (c.many-laid.result + length c.as_slice-slice.result.now) c.has_room.result c.self.view_is all c.has_room.ensures
+    c.if-not-has_room.false)
