@@ -30,7 +30,7 @@ use Rattle.im_groups.proofs.EnoughLemmas.{enough-commands, enough-takes, enough-
 use Rattle.im_groups.proofs.EnoughLemmas.{at_most_members, whole-accepted}
 use Rattle.im_engine.specs.State.{EngineState, engine_of}
 use Rattle.im_engine.specs.Commands.{AreWhole, AreParted, each_refused}
-use Rattle.im_engine.specs.Chain.{AreTold, IsAhead, Advances, IsComing, FitsBehind, put_ahead, places_left}
+use Rattle.im_engine.specs.Chain.{AreVerdicts, IsAhead, Advances, IsComing, FitsBehind, put_ahead, places_left}
 use Rattle.im_engine.specs.Chain.{calls_to_advance}
 use Rattle.im_engine.proofs.Members.{longer_none, length_refused, length_answers}
 use Rattle.im_laws.proofs.Tests.{true_or_false}
@@ -77,9 +77,9 @@ beginning next asked members k many asked_are members_are within =
 -- what was judged with as many places as were asked holds with as many as were judged
 pub told_of : (m : Contents) (asked members commands : List Command) (taken : List Bool) (many : ℕ)
     → members ≡ take many asked → commands ≡ commands_at m (length asked) (take many asked)
-    → taken ≡ takes_at m (length asked) (take many asked) → many ≤ length asked → AreTold m members commands taken
+    → taken ≡ takes_at m (length asked) (take many asked) → many ≤ length asked → AreVerdicts m members commands taken
 told_of m asked members commands taken many members_are commands_are taken_are within =
-    subst (λ (l : List Command). AreTold m l commands taken) (sym members_are) (record {
+    subst (λ (l : List Command). AreVerdicts m l commands taken) (sym members_are) (record {
       commands = commands_are ∙ enough-commands m (length asked) (length (take many asked)) (take many asked)
           (omega (arith, length-take many asked)) (omega arith);
       taken = taken_are ∙ enough-takes m (length asked) (length (take many asked)) (take many asked)
@@ -135,7 +135,7 @@ module _ {D : Type 0} (d : D) (c : PagedCheckpoint) (m : MemoryState) (j : Journ
 
   -- what was judged of the next members fits behind the group
   module _ (next put : List Command) (told : List Bool)
-      (judged : AreTold (after m.contents (put_ahead here)) next put told)
+      (judged : AreVerdicts (after m.contents (put_ahead here)) next put told)
       (few : length next ≤ places_left here) where
     few_next : length put ≤ length next
     few_next = omega (
@@ -163,7 +163,7 @@ module _ {D : Type 0} (d : D) (c : PagedCheckpoint) (m : MemoryState) (j : Journ
         ap (λ (x : JournalState). x.count) journal,
         ap (λ (x : JournalState). x.room) journal,
       );
-      told = subst (λ (x : Contents). AreTold x next put told) (sym (contents
+      told = subst (λ (x : Contents). AreVerdicts x next put told) (sym (contents
           ∙ enough-contents m.contents (length members) p members (omega arith) it.enough
           ∙ sym (at-after m.contents p members))) judged;
       laid = ap (λ (x : JournalState). x.ahead) journal;
@@ -310,7 +310,7 @@ has_room_for j next fits full = ⊎_elim
     full
 
 pub whole_of : (m : Contents) (left : ℕ) (members slice commands : List Command) (taken : List Bool)
-    → slice ≡ members → left ≡ length slice → length slice ≤ MAX_GROUP → AreTold m members commands taken
+    → slice ≡ members → left ≡ length slice → length slice ≤ MAX_GROUP → AreVerdicts m members commands taken
     → (length commands == length members) ≡ true → AreWhole m left slice
 whole_of m left members slice commands taken same enough few told all = record {
   few = few;
@@ -321,7 +321,7 @@ whole_of m left members slice commands taken same enough few told all = record {
 }
 
 pub parted_of : (m : Contents) (left : ℕ) (members slice commands : List Command) (taken told_slice : List Bool)
-    → slice ≡ members → left ≡ length slice → length slice ≤ MAX_GROUP → AreTold m members commands taken
+    → slice ≡ members → left ≡ length slice → length slice ≤ MAX_GROUP → AreVerdicts m members commands taken
     → told_slice ≡ taken → AreParted m left slice told_slice
 parted_of m left members slice commands taken told_slice same enough few told is = record {
   few = few;
@@ -344,7 +344,7 @@ calls_few past d d2 ahead next most (Err x) le calls = omega (arith, calls, le, 
 
 -- no more commands come than next members
 pub few_coming : (m : Contents) (next slice members commands : List Command) (taken : List Bool) → slice ≡ next
-    → AreTold m members commands taken → length members ≤ length slice → length commands ≤ length next
+    → AreVerdicts m members commands taken → length members ≤ length slice → length commands ≤ length next
 few_coming m next slice members commands taken same told within = omega (
   arith,
   ap length told.commands,

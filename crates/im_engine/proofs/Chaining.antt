@@ -12,12 +12,12 @@ use Rattle.im_checkpoint.specs.Keeping.{StepFits, Fits}
 use Rattle.im_engine.specs.State.{journal_of}
 use Rattle.im_groups.specs.Commands.{commands_at, takes_at, contents_after_all}
 use Rattle.im_groups.proofs.CommandLemmas.{at-after}
-use Rattle.im_engine.specs.Chain.{AreTold, IsAhead}
+use Rattle.im_engine.specs.Chain.{AreVerdicts, IsAhead}
 use Rattle.im_engine.proofs.Members.{longer_none}
 
 -- nothing is ahead
 none_told : (m : Contents) (members commands : List Command) (taken : List Bool) → members ≡ [] → commands ≡ []
-    → taken ≡ [] → AreTold m members commands taken
+    → taken ≡ [] → AreVerdicts m members commands taken
 none_told m members commands taken none nothing told = record {
   commands = nothing ∙ sym (ap (λ (l : List Command). commands_at m (length l) l) none);
   taken = told ∙ sym (ap (λ (l : List Command). takes_at m (length l) l) none);
@@ -59,7 +59,7 @@ pub still_ahead : (m n : Contents) (j k : JournalState) (cmds members members2 c
     → (cmds ≡ [] → n ≡ m) → IsJournal j → IsAhead m j members commands taken → IsAhead n k members2 commands2 taken2
 still_ahead m n j k [] members members2 commands commands2 taken taken2 k_is ms cs ts same known it =
     let here : k ≡ j = k_is ∙ longer_none j known in
-    let told : AreTold n members2 commands2 taken2 = record {
+    let told : AreVerdicts n members2 commands2 taken2 = record {
       commands = cs ∙ it.told.commands
           ∙ (λ i. commands_at (sym (same refl) i) (length (sym ms i)) (sym ms i));
       taken = ts ∙ it.told.taken ∙ (λ i. takes_at (sym (same refl) i) (length (sym ms i)) (sym ms i));

@@ -17,17 +17,18 @@ use Rattle.im_groups.specs.Ahead.{IsUnsure}
 use Rattle.im_engine.specs.State.{EngineState, MeansState}
 use Rattle.im_engine.specs.Commands.{after_commands, commands_put, answers_in_turn, each_refused, MeansCommands}
 
--- what was judged of members at this memory, with a place for each: `put` are the commands of those that are accepted, and
--- `told` is of each whether it is
-pub record AreTold (m : Contents) (members put : List Command) (told : List Bool) : Type 0 where
+-- what was judged of members at this memory, with a place for each: `put` are the commands of those that are accepted,
+-- and `told` is of each whether it is
+pub record AreVerdicts (m : Contents) (members put : List Command) (told : List Bool) : Type 0 where
   pub commands : put ≡ commands_at m (length members) members
   pub taken : told ≡ takes_at m (length members) members
 
--- the group ahead of an engine: there is a place for each of its members, and its commands are those ahead of the journal
+-- the group ahead of an engine: there is a place for each of its members, and its commands are those ahead of the
+-- journal
 pub record IsAhead (m : Contents) (j : JournalState) (members commands : List Command)
     (taken : List Bool) : Type 0 where
   pub enough : length members ≤ places j.count j.room
-  pub told : AreTold m members commands taken
+  pub told : AreVerdicts m members commands taken
   pub laid : j.ahead ≡ commands
 
 -- the commands of the group ahead that take places
@@ -55,8 +56,8 @@ pub record Advances {D : Type 0} (old : EngineState D) (next : List Command) (re
   pub pages : old.failed ≡ false → new.failed ≡ false
       → AddsAtMost (most_pages_with old.memory (places old.count old.room) old.ahead) old.pages new.pages
 
--- So many of the next members come behind the group ahead, with these commands: all for which there are places, up to the
--- first whose acceptance isn't known before the group ahead acts; and at least one if no command is ahead.
+-- So many of the next members come behind the group ahead, with these commands: all for which there are places, up to
+-- the first whose acceptance isn't known before the group ahead acts; and at least one if no command is ahead.
 pub record IsComing {D : Type 0} (s : EngineState D) (next commands : List Command) (many : ℕ) : Type 0 where
   pub within : many ≤ length next
   pub few : many ≤ places_left s
@@ -68,8 +69,8 @@ pub record IsComing {D : Type 0} (s : EngineState D) (next commands : List Comma
 abbrev pub TakesNext : {D : Type 0} → EngineState D → List Command → EngineState D → ℕ → Type 0
 TakesNext old next new many = IsComing old next (put_ahead new) many
 
--- the calls of the disk for so many commands ahead, and so many next ones: the gate, a body for each, and one sync; none
--- if there are none of both
+-- the calls of the disk for so many commands ahead, and so many next ones: the gate, a body for each, and one sync;
+-- none if there are none of both
 abbrev pub calls_to_advance : ℕ → ℕ → ℕ
 calls_to_advance zero zero = 0
 calls_to_advance zero (suc next) = suc next + 1
@@ -96,8 +97,8 @@ pub record FitsBehind (j : JournalState) (next : List Command) : Type 0 where
   pub room : slots_ahead j next ≤ j.room
   pub last : j.count + slots_ahead j next ≤ LAST
 
--- The calls that open what is ahead and put the next commands ahead: this exact number, or no more at a refusal. If there
--- are none of both, nothing can fail, and the disk is as it was.
+-- The calls that open what is ahead and put the next commands ahead: this exact number, or no more at a refusal. If
+-- there are none of both, nothing can fail, and the disk is as it was.
 pub record BehindPut {D : Type 0} (past : D → List Moment) (honest : Type 0) (old new : D) (ahead next : List Command)
     (result : Result (Unit {0}) Refusal) : Type 0 where
   pub made : honest → CallsBy past old new (calls_to_advance (length ahead) (length next)) result

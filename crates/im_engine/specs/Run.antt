@@ -76,8 +76,8 @@ pub record SweepAnswered {D : Type 0} (old : EngineState D) (most : ℕ) (answer
       in (answer ≡ Ok n) × (new ≡ record old { disk = new.disk; room = old.room + n }))
       ⊎ ((answer ≡ Err Device) × (new ≡ record old { disk = new.disk; failed = true }))
 
--- an engine's answer to one event; the answer to a group has the room that it found, and that to a group that is put ahead
--- has what the members of the group ahead of it are answered
+-- an engine's answer to one event; the answer to a group has the room that it found, and that to a group that is put
+-- ahead has what the members of the group ahead of it are answered
 abbrev pub EventAnswered : {D : Type 0} → EngineState D → Event → Answer → EngineState D → Type 0
 EventAnswered old (Serve command) (Told answer) new = Answered old command answer new
 EventAnswered old (Together members) (Grouped room served) new =
@@ -244,8 +244,8 @@ abbrev pub reached_at : Contents → ℕ → ℕ → Reached
 reached_at m count room = record { contents = m; count = count; room = room }
 
 -- The command of this event, if it would change the memory and was answered `Device`. For a group answered `Device`,
--- these are all commands that it would have put into the room that it found. For a group that is put ahead, these are all
--- that the group ahead of it had put: nothing of its own is ever in doubt.
+-- these are all commands that it would have put into the room that it found. For a group that is put ahead, these are
+-- all that the group ahead of it had put: nothing of its own is ever in doubt.
 abbrev pub in_doubt_by : Contents → ℕ → List Command → Event → Answer → List Command
 in_doubt_by m count ahead (Serve command) answer =
     if is_accepted m command && is_doubt answer then command ∷ [] else []
@@ -303,7 +303,8 @@ MeansWithOrWithout s commands doubt file = MeansAll s commands file ⊎ MeansAll
 -- the file means what the engine is after all that these answers acknowledge, with or without what they leave in doubt
 abbrev pub MeansAcknowledged : {D : Type 0} → EngineState D → List Event → List Answer → List ℕ → Type 0
 MeansAcknowledged s events answers file =
-    MeansWithOrWithout s (acknowledged s.memory s.ahead events answers) (in_doubt s.memory s.count s.ahead events answers)
+    MeansWithOrWithout s (acknowledged s.memory s.ahead events answers)
+    (in_doubt s.memory s.count s.ahead events answers)
     file
 
 -- the file means what the engine is after this many of these commands

@@ -10,7 +10,7 @@ ghost use Rattle.im_image.specs.Reading.{HasSizes};
 ghost use Rattle.im_checkpoint.specs.Keeping.{paged, IsKept};
 ghost use Rattle.im_groups.specs.Commands.{answers_with, contents_after_all, most_pages_with};
 ghost use Rattle.im_engine.specs.Groups.{LeavesAllOrNone, KeepsAfter, StaysBut};
-ghost use Rattle.im_engine.specs.Chain.{Advances, TakesNext, ServesAhead, FitsBehind, BehindPut, AreTold, IsComing};
+ghost use Rattle.im_engine.specs.Chain.{Advances, TakesNext, ServesAhead, FitsBehind, BehindPut, AreVerdicts, IsComing};
 ghost use Rattle.im_engine.specs.Chain.{put_ahead};
 
 use crate::ahead::GroupAhead;
@@ -74,7 +74,7 @@ fn act_ahead(
     ahead: &GroupAhead,
     served: &mut ArrayVec<Served, MAX_GROUP>,
 )
-    requires told { AreTold memory.old.contents
+    requires told { AreVerdicts memory.old.contents
         ahead.now.members.items ahead.now.commands.items ahead.now.taken.items }
     requires empty { served.old.items ≡ [] }
     requires sizes { HasSizes checkpoint.old.state.header.sizes memory.old.contents }
@@ -155,7 +155,7 @@ impl<D: Disk> Engine<D> {
     // Judges the next members behind the group ahead, as many as there are places for.
     fn judge_coming(&self, next: &[Command]) -> GroupAhead
         requires few { length next.now ≤ MAX_GROUP }
-        ensures told { AreTold (after self.now.memory (put_ahead self.now))
+        ensures told { AreVerdicts (after self.now.memory (put_ahead self.now))
             result.members.items result.commands.items result.taken.items }
         ensures members { result.members.items ≡ take (length result.members.items) next.now }
         ensures begins { IsComing self.now next.now result.commands.items (length result.members.items) }

@@ -1,6 +1,6 @@
 -- What is read of an image: its header in force, the memory that its area shows, its journal, and the memory after the
 -- journal. (Own.)
-use Rattle.std.specs.Prelude.{◌≡◌, ℕ, ◌≤◌, List, length, None, Result, Ok, Err}
+use Rattle.std.specs.Prelude.{◌≡◌, ℕ, ◌≤◌, List, [], length, None, Result, Ok, Err}
 use Rattle.im_types.specs.declared.TheConstants.{LAST}
 use Rattle.im_types.specs.Contents.{Contents}
 use Rattle.im_types.specs.Header.{Header, header_of, header_fault, layout_in}

@@ -77,9 +77,9 @@ IsFailed ahead (Together members) (Advanced result served) = ⊥
 IsFailed ahead Turn (Advanced result served) = ⊥
 IsFailed ahead (Sweep most) (Advanced result served) = ⊥
 
--- What an answer may be, where these members are ahead. A command gets its answer on this memory. If it would change the
--- memory, it may get `JournalFull` or `Device` instead. The members of a group get their answers one after another, and
--- those without room get `JournalFull`. If a member would have been put on the disk, all members may get `Device`
+-- What an answer may be, where these members are ahead. A command gets its answer on this memory. If it would change
+-- the memory, it may get `JournalFull` or `Device` instead. The members of a group get their answers one after another,
+-- and those without room get `JournalFull`. If a member would have been put on the disk, all members may get `Device`
 -- instead. Where a group is put ahead, the members that were ahead get their answers one after another, or all of them
 -- `Device`: there is a place for each.
 abbrev pub IsAnswer : Contents → ℕ → List Command → Event → Answer → Type 0

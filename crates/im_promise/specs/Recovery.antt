@@ -15,11 +15,11 @@ use Rattle.im_promise.specs.Acknowledged.{calls_in_doubt, most_of_one, AreAnswer
 abbrev pub HasNoRoom : Refusal → Type 0
 HasNoRoom e = (e ≡ NoMemory) ⊎ (e ≡ Device)
 
--- An engine with this memory, this count of commands and these members ahead got these events and gave these answers. Its
--- disk stopped, or not, and a crash left a file. The image was opened again, with the memory `now` and the count `many`.
--- They are those after the acknowledged commands, in their order. The commands of the one call in doubt may follow, all
--- or none of them: one command, or all commands that a group had put into the journal's room, or all those of the group
--- whose gate was written in that call. A group that was only put ahead is never there.
+-- An engine with this memory, this count of commands and these members ahead got these events and gave these answers.
+-- Its disk stopped, or not, and a crash left a file. The image was opened again, with the memory `now` and the count
+-- `many`. They are those after the acknowledged commands, in their order. The commands of the one call in doubt may
+-- follow, all or none of them: one command, or all commands that a group had put into the journal's room, or all those
+-- of the group whose gate was written in that call. A group that was only put ahead is never there.
 pub record Recovers (m : Contents) (before : ℕ) (ahead : List Command) (events : List Event) (answers : List Answer)
     (now : Contents) (many : ℕ) : Type 0 where
   -- the answers are the sequential memory's

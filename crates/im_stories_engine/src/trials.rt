@@ -12,9 +12,9 @@ use im_story_disk::{STEADY, StoryFile};
 use im_types::{Command, LAST, MAX_GROUP, Op, Refusal};
 
 // What is stopped, and how: an opening of an image with the whole script, or a reopening of one that was stopped in its
-// last command; the script as one group, or as one that is put ahead; the turns after it; a call, which is an opening of a copy of the file with the
-// turns after that; or the run that was planned. Then the disk crashes, or is opened as it is; and it may crash again
-// after an opening.
+// last command; the script as one group, or as one that is put ahead; the turns after it; a call, which is an opening
+// of a copy of the file with the turns after that; or the run that was planned. Then the disk crashes, or is opened as
+// it is; and it may crash again after an opening.
 #[derive(Drop)]
 struct Trial<'s, 'c> {
     script: &'s StoryScript,
@@ -235,7 +235,8 @@ impl Trial<'_, '_> {
     }
 }
 
-// Returns the events that are stopped: a group, which is put once more, at once or in a chain, or turns, more than there are to be made.
+// Returns the events that are stopped: a group, which is put once more, at once or in a chain, or turns, more than
+// there are to be made.
 fn events_of(act: &str, script: &StoryScript, said: &mut Saying) -> Vec<Event> {
     let mut events = Vec::new(said.alloc());
     let times = match act {
@@ -256,10 +257,10 @@ fn events_of(act: &str, script: &StoryScript, said: &mut Saying) -> Vec<Event> {
     events
 }
 
-/// Makes the call `in each` with `serve`, `opening`, `reopening`, `group`, `chain`, `turn`, `call` or `run`. Then come how the
-/// disk fails at each call of that, and what the crashes after it leave. `call` uses the closed file. All others but
-/// `run` use an image that gets the commands of the story so far, one by one or as one group. The plain memory has to
-/// answer the script as it was told, and the engine of the story has to have that memory.
+/// Makes the call `in each` with `serve`, `opening`, `reopening`, `group`, `chain`, `turn`, `call` or `run`. Then come
+/// how the disk fails at each call of that, and what the crashes after it leave. `call` uses the closed file. All
+/// others but `run` use an image that gets the commands of the story so far, one by one or as one group. The plain
+/// memory has to answer the script as it was told, and the engine of the story has to have that memory.
 pub fn tell(engines: &Engines, call: &Phrase, said: &mut Saying) {
     let (crash, next) = (crash(call.word(4)), crash(call.word(5)));
     let words = 4 + usize::from(crash.is_some()) + usize::from(next.is_some());
