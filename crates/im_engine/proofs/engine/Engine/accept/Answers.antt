@@ -2,12 +2,13 @@ use Rattle.std.proofs.Common.{◌≡◌, true, false, [], ◌∷◌, inl, sym, �
 use Rattle.im_disk.specs.Since.{LeavesNow, LeavesOnly, CallsBy}
 use Rattle.im_disk.proofs.SinceLemmas.{leaves_start, only_weaker}
 use Rattle.im_types.specs.Step.{step, is_accepted}
-use Rattle.im_journal.specs.Holding.{MayAppend}
+use Rattle.im_journal.specs.Holding.{JournalState, MayAppend}
 use Rattle.im_engine.specs.State.{EngineState, MeansState, MeansEither}
 use Rattle.im_checkpoint.specs.Keeping.{paged, Fits}
 use Rattle.im_checkpoint.specs.Step.{CheckpointState}
 use Rattle.im_engine.proofs.Keeping.{accept_one, all_mean, all_hold, may_put_means, kept_prepared}
 use Rattle.im_engine.proofs.Serving.{fits_longer, kept_with_it, calls_after}
+use Rattle.im_engine.specs.Chain.{IsAhead}
 use Rattle.im_engine.proofs.Chaining.{nothing_ahead}
 use Rattle.im_engine.proofs.engine.Engine.accept.Goals as goal
 
@@ -122,3 +123,13 @@ accept-requires g c = record {
   accepted = ap (λ (s : EngineState g.row.D.Denot). is_accepted s.memory c.args.command.now) c.self.view_is
       ∙ c.requires.accepted;
 }
+
+pub invariant_of-self : goal.invariant_of-self
+invariant_of-self g c =
+    let e = c.self.inside in
+    let same = c.in-Err.ensures.state in (
+      subst (λ (j : JournalState). Fits e.checkpoint.state e.memory.contents j) (sym same) c.self.invariant.0,
+      λ h f. absurd (cc),
+      subst (λ (j : JournalState). IsAhead e.memory.contents j e.ahead.members.items e.ahead.commands.items
+          e.ahead.taken.items) (sym same) c.self.invariant.2,
+    )

@@ -6,7 +6,8 @@ use Rattle.im_types.specs.Groups.{as_served}
 use Rattle.im_disk.proofs.SinceLemmas.{only_weaker}
 use Rattle.im_checkpoint.specs.Step.{changed_in}
 use Rattle.im_checkpoint.specs.Turns.{AddsAtMost}
-use Rattle.im_checkpoint.specs.Keeping.{paged, IsKept}
+use Rattle.im_journal.specs.Holding.{JournalState}
+use Rattle.im_checkpoint.specs.Keeping.{paged, Fits, IsKept}
 use Rattle.im_groups.specs.Commands.{places, answers_with, contents_after_all, most_pages_with}
 use Rattle.im_engine.specs.State.{EngineState, engine_of}
 use Rattle.im_engine.specs.Commands.{AreWhole, AreParted, commands_put, MeansCommands, CommandsAnswered, ServesCommands}
@@ -14,6 +15,7 @@ use Rattle.im_engine.proofs.Keeping.{all_mean, all_hold}
 use Rattle.im_engine.proofs.Members.{length_refused, length_answers}
 use Rattle.im_engine.proofs.Together.{room_for, last_for, accepts, means_group, group_done, group_failed}
 use Rattle.im_engine.proofs.Together.{calls_done, calls_failed, fits_group}
+use Rattle.im_engine.specs.Chain.{IsAhead}
 use Rattle.im_engine.proofs.Chaining.{still_ahead, unchanged_after}
 use Rattle.im_engine.proofs.engine.Engine.serve_judged.Goals as goal
 
@@ -224,3 +226,13 @@ act_all-requires-clause-judged g c =
 
 pub refuse_all-requires-clause-fits : goal.refuse_all-requires-clause-fits
 refuse_all-requires-clause-fits g c = c.requires.members.few
+
+pub invariant_of-self : goal.invariant_of-self
+invariant_of-self g c =
+    let e = c.self.inside in
+    let same = c.in-Err.ensures.state in (
+      subst (λ (j : JournalState). Fits e.checkpoint.state e.memory.contents j) (sym same) c.self.invariant.0,
+      λ h f. absurd (cc),
+      subst (λ (j : JournalState). IsAhead e.memory.contents j e.ahead.members.items e.ahead.commands.items
+          e.ahead.taken.items) (sym same) c.self.invariant.2,
+    )

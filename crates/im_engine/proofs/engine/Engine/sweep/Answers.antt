@@ -8,6 +8,7 @@ use Rattle.im_checkpoint.specs.Step.{changed_in}
 use Rattle.im_checkpoint.specs.Turns.{swept_at_once, calls_to_sweep}
 use Rattle.im_engine.specs.State.{EngineState, MeansState, engine_of, journal_of, journal_in}
 use Rattle.im_engine.specs.Run.{SweepAnswered}
+use Rattle.im_engine.specs.Chain.{IsAhead}
 use Rattle.im_engine.proofs.Keeping.{all_hold, all_mean}
 use Rattle.im_engine.proofs.Chaining.{more_room, swept_here, calls_here}
 use Rattle.im_engine.proofs.engine.Engine.sweep.Goals as goal
@@ -114,3 +115,13 @@ returns-in-Err-clause-calls g c = λ h.
     (calls_here e.checkpoint.state e.memory.contents e.journal most c.self.invariant.0)
     (subst (λ (r : Result ℕ Refusal). CallsBy g.D.Disk.past e.disk c.sweep.new.disk
     (calls_to_sweep e.checkpoint.state.step e.journal most) r) c.in-Err.is (c.sweep.ensures.runs.kept h)))
+
+pub invariant_of-self-2 : goal.invariant_of-self-2
+invariant_of-self-2 g c =
+    let e = c.self.inside in
+    let same = c.in-Err.ensures.same in (
+      subst (λ (j : JournalState). Fits e.checkpoint.state e.memory.contents j) (sym same) c.self.invariant.0,
+      λ h f. absurd (cc),
+      subst (λ (j : JournalState). IsAhead e.memory.contents j e.ahead.members.items e.ahead.commands.items
+          e.ahead.taken.items) (sym same) c.self.invariant.2,
+    )

@@ -1,10 +1,13 @@
-use Rattle.std.proofs.Common.{◌≡◌, false, inl, Result, Ok, OnOk, refl, subst}
+use Rattle.std.proofs.Common.{◌≡◌, false, inl, Result, Ok, OnOk, refl, sym, subst}
 use Rattle.im_types.specs.declared.refusals.Refusal.{Refusal}
 use Rattle.im_disk.specs.Since.{Leaves, LeavesNow}
 use Rattle.im_checkpoint.specs.declared.checkpoint.TurnDone.{TurnDone}
-use Rattle.im_checkpoint.specs.Keeping.{paged, IsKept}
+use Rattle.im_journal.specs.Holding.{JournalState}
+use Rattle.im_checkpoint.specs.Step.{PagedCheckpoint}
+use Rattle.im_checkpoint.specs.Keeping.{paged, Fits, IsKept}
 use Rattle.im_engine.specs.State.{EngineState, MeansState, engine_of}
 use Rattle.im_engine.specs.Run.{TurnAnswered}
+use Rattle.im_engine.specs.Chain.{IsAhead}
 use Rattle.im_engine.proofs.Keeping.{all_mean}
 use Rattle.im_engine.proofs.Chaining.{ahead_kept, turned_here}
 use Rattle.im_engine.proofs.engine.Engine.turn.Goals as goal
@@ -76,3 +79,14 @@ returns-in-Ok-clause-answered g c =
         },
       );
     })
+
+pub invariant_of-self-2 : goal.invariant_of-self-2
+invariant_of-self-2 g c =
+    let e = c.self.inside in
+    let same = c.in-Err.ensures.same in (
+      subst (λ (j : JournalState). Fits c.turn.new.self.state e.memory.contents j) (sym same.1)
+          (subst (λ (k : PagedCheckpoint). Fits k.state e.memory.contents e.journal) (sym same.0) c.self.invariant.0),
+      λ h f. absurd (cc),
+      subst (λ (j : JournalState). IsAhead e.memory.contents j e.ahead.members.items e.ahead.commands.items
+          e.ahead.taken.items) (sym same.1) c.self.invariant.2,
+    )
