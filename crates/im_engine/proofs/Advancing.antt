@@ -19,7 +19,8 @@ use Rattle.im_disk.specs.Moment.{Moment, Faults}
 use Rattle.im_disk.specs.Since.{CallsAtMost, CallsBy, Calls}
 use Rattle.im_memory.specs.State.{MemoryState}
 use Rattle.im_journal.specs.Holding.{JournalState, IsJournal, room_after, longer, with_ahead, slots_ahead}
-use Rattle.im_journal.specs.Holding.{IsFullBy, IsFullFor}
+use Rattle.im_journal.specs.Holding.{IsFullBy, IsFullFor, ahead_after}
+use Rattle.im_journal.proofs.Appending.{none_ahead}
 use Rattle.im_journal.proofs.Rings.{other_number}
 use Rattle.im_checkpoint.specs.Step.{PagedCheckpoint, changed_in}
 use Rattle.im_checkpoint.specs.Turns.{AddsAtMost}
@@ -288,6 +289,15 @@ pub some_in : {X : Type 0} (items slice : List X) (test : Bool) → slice ≡ it
     → test ≡ false → 0 < length items
 some_in items slice test is tested no =
     omega (arith, ap length is, other_than_none (length slice) (sym tested ∙ no))
+
+-- what is ahead behind commands that may be none
+pub ahead_still : {X : Type 0} (n : ℕ) (test : Bool) (xs : List X) → test ≡ (n == 0) → test ≡ true
+    → xs ≡ ahead_after n xs
+ahead_still n test xs tested yes = ap (λ (m : ℕ). ahead_after m xs) (sym (same_number n 0 (sym tested ∙ yes)))
+
+pub ahead_gone : {X : Type 0} (n : ℕ) (test : Bool) (xs ys : List X) → test ≡ (n == 0) → test ≡ false → ys ≡ []
+    → ys ≡ ahead_after n xs
+ahead_gone n test xs ys tested no none = none ∙ sym (none_ahead n xs (other_than_none n (sym tested ∙ no)))
 
 -- where there is room, a refusal is the disk's
 pub only_device : {T D : Type 0} (full : Type 0) (old new : D) (r : Result T Refusal) (a b : ℕ)

@@ -49,9 +49,10 @@ impl GroupAhead {
         ensures commands { self.new.commands.items ≡ ahead_after (length commands.now) self.old.commands.items }
         ensures taken { self.new.taken.items ≡ ahead_after (length commands.now) self.old.taken.items }
     {
-        if !commands.is_empty() {
-            self.forget();
+        if commands.is_empty() {
+            return;
         }
+        self.forget();
     }
 
     // How many members there are.
