@@ -41,7 +41,8 @@ returns-then-ahead-gt0-clause-leaves g c = λ h k x m after accepts kept.
     (may_put_means k x m j (g.D.Disk.now c.args.disk.now) kept j.ahead after accepts (slots_ahead j next))
 
 pub returns-then-ahead-gt0-clause-kept : goal.returns-then-ahead-gt0-clause-kept
-returns-then-ahead-gt0-clause-kept g c = both_ok _ c.put_ahead.result c.put_ahead.ensures.added c.put_ahead.ensures.state
+returns-then-ahead-gt0-clause-kept g c = both_ok _ c.put_ahead.result c.put_ahead.ensures.added
+    c.put_ahead.ensures.state
     (λ puts state h k x m after accepts kept.
     let j = c.args.journal.now in
     let next = c.args.next.now.items in
@@ -95,7 +96,8 @@ lay_ahead-requires-clause-none g c = nil_from_length c.args.journal.now.ahead
 pub returns-clause-leaves : goal.returns-clause-leaves
 returns-clause-leaves g c = λ h k x m after accepts kept.
     let j = c.args.journal.now in
-    only_weaker g.D.Disk.now g.D.Disk.past c.args.disk.now c.lay_ahead.new.disk (MayLay j (g.D.Disk.now c.args.disk.now))
+    only_weaker g.D.Disk.now g.D.Disk.past c.args.disk.now c.lay_ahead.new.disk (MayLay j (g.D.Disk.now
+    c.args.disk.now))
     _ (c.lay_ahead.ensures.runs.leaves h)
     (λ file may. inl (lay_means k x m j (g.D.Disk.now c.args.disk.now) kept file may))
 

@@ -50,5 +50,6 @@ returns-clause-kept g c = both_ok _ c.append_group.result c.append_group.ensures
     let new = g.D.Disk.now c.append_group.new.disk in
     let added = adds h in
     subst (λ (y : JournalState). IsKept k x after y (g.D.Disk.now c.append_group.new.disk)) (sym state)
-    (kept_longer k x m j (g.D.Disk.now c.args.disk.now) kept c.args.commands.now after accepts new added.kept added.calm (added.added new.bytes (left_now new))
+    (kept_longer k x m j (g.D.Disk.now c.args.disk.now) kept c.args.commands.now after accepts new added.kept added.calm
+    (added.added new.bytes (left_now new))
     (subst (λ (y : JournalState). Holds y new.bytes) state (added.holds new.bytes (left_now new)))))

@@ -32,7 +32,8 @@ judge_member-requires-clause-marked c =
 pub returns-in-None-clause-begins : goal.returns-in-None-clause-begins
 returns-in-None-clause-begins c =
     stops-begins c.args.memory.now.contents c.loop-i.commands.items c.of-ahead.result c.args.members.now c.loop-i.i _
-    c.loop-i-test.true c.loop-i.invariant.few (c.of-ahead.ensures ∙ c.as_slice.ensures.value) (c.in-None.ensures.unsure refl)
+    c.loop-i-test.true c.loop-i.invariant.few (c.of-ahead.ensures ∙ c.as_slice.ensures.value) (c.in-None.ensures.unsure
+    refl)
 
 pub loop-i-preserved : goal.loop-i-preserved
 loop-i-preserved c =
@@ -49,7 +50,8 @@ loop-i-preserved c =
       taken = c.push.ensures.items
           ∙ taken-next c.args.memory.now.contents c.args.places c.args.members.now c.of-ahead.result
           c.loop-i.commands.items c.loop-i.taken.items c.loop-i.left c.loop-i.i _ c.in-Some.accepted
-          c.add_member.result c.loop-i-test.true (c.of-ahead.ensures ∙ c.as_slice.ensures.value) inv.commands inv.left inv.taken
+          c.add_member.result c.loop-i-test.true (c.of-ahead.ensures ∙ c.as_slice.ensures.value) inv.commands inv.left
+          inv.taken
           c.in-Some.ensures.found e.taken;
       left = next.left_is;
       marked = marked-next c.loop-i.marks _ c.loop-i.commands.items c.add_member.new.commands.items _

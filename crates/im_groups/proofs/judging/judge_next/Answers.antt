@@ -5,7 +5,8 @@ use Rattle.im_types.specs.Run.{after}
 use Rattle.im_groups.specs.Ahead.{AreAccepted}
 use Rattle.im_groups.specs.Marks.{HaveMarks}
 use Rattle.im_groups.proofs.CommandLemmas.{at-accepted}
-use Rattle.im_groups.proofs.JudgedLemmas.{judged-next, taken-next, behind-found, accepted-both, stops-behind, all-behind}
+use Rattle.im_groups.proofs.JudgedLemmas.{judged-next, taken-next, behind-found, accepted-both}
+use Rattle.im_groups.proofs.JudgedLemmas.{stops-behind, all-behind}
 use Rattle.im_groups.proofs.MarkLemmas.{group_marked, marked-behind}
 use Rattle.im_groups.proofs.judging.judge_next.Goals as goal
 

@@ -67,7 +67,8 @@ invariant_of-self-2 g c =
     let done = c.in_default.ensures in (
       subst (λ (s : CheckpointState). Fits s c.accept.new.self.contents c.append.new.self)
           (sym c.before-2.ensures.state)
-          (fits_longer e.checkpoint.state e.memory.contents c.accept.new.self.contents e.journal c.append.new.self c.args.command.now c.self.invariant.0 c.accept.ensures.contents done.state),
+          (fits_longer e.checkpoint.state e.memory.contents c.accept.new.self.contents e.journal c.append.new.self
+          c.args.command.now c.self.invariant.0 c.accept.ensures.contents done.state),
       λ h f. kept_prepared e.checkpoint c.before-2.new.self e.memory c.accept.new.self c.args.command.now
           c.before-2.ensures
           (record { cells = c.self.invariant.0.cells; elements = c.self.invariant.0.elements }) c.accept.ensures.changes

@@ -12,7 +12,8 @@ use Rattle.im_groups.specs.Commands.{places, contents_after_all}
 use Rattle.im_groups.proofs.EnoughLemmas.{enough-contents}
 use Rattle.im_engine.specs.State.{EngineState, engine_of}
 use Rattle.im_engine.specs.Commands.{MeansCommands}
-use Rattle.im_engine.specs.Chain.{Advances, ServesAhead, AreVerdicts, IsComing, put_ahead, places_left, calls_to_advance}
+use Rattle.im_engine.specs.Chain.{Advances, ServesAhead, AreVerdicts, IsComing, put_ahead}
+use Rattle.im_engine.specs.Chain.{places_left, calls_to_advance}
 use Rattle.im_engine.proofs.Keeping.{all_mean, all_hold}
 use Rattle.im_engine.proofs.Together.{means_group, fits_group}
 use Rattle.im_engine.proofs.Chaining.{nothing_ahead, fits_ahead}
@@ -166,7 +167,8 @@ invariant_of-self-2 g c =
     let it = c.self.invariant.2 in
     let next = c.judge_coming-coming.result in
     let contents = c.act_ahead.ensures.contents
-    ∙ enough-contents e.memory.contents (length ms) (places e.journal.count e.journal.room) ms (omega arith) it.enough in
+    ∙ enough-contents e.memory.contents (length ms) (places e.journal.count e.journal.room) ms (omega arith) it.enough
+    in
     let kept = λ (h : g.D.Disk.honest c.put_behind.new.disk). subst (λ (n : Contents). IsKept
     c.act_ahead.new.checkpoint.state (paged c.act_ahead.new.checkpoint c.act_ahead.new.memory) n
     c.put_behind.new.journal (g.D.Disk.now c.put_behind.new.disk)) (sym contents)
@@ -214,7 +216,8 @@ returns-clause-runs g c =
     (means_group e.disk e.checkpoint e.memory e.journal ms e.failed ms known e.journal.ahead
     (laid_is e.disk e.checkpoint e.memory e.journal ms cs ts e.failed known it)) in
     let contents = c.act_ahead.ensures.contents
-    ∙ enough-contents e.memory.contents (length ms) (places e.journal.count e.journal.room) ms (omega arith) it.enough in
+    ∙ enough-contents e.memory.contents (length ms) (places e.journal.count e.journal.room) ms (omega arith) it.enough
+    in
     let kept = λ (h : g.D.Disk.honest c.put_behind.new.disk). subst (λ (n : Contents). IsKept
     c.act_ahead.new.checkpoint.state (paged c.act_ahead.new.checkpoint c.act_ahead.new.memory) n
     c.put_behind.new.journal (g.D.Disk.now c.put_behind.new.disk)) (sym contents)

@@ -13,7 +13,8 @@ use Rattle.im_engine.proofs.engine.Engine.open.Goals as goal
 pub returns-in-Ok-idle-clause-found : goal.returns-in-Ok-idle-clause-found
 returns-in-Ok-idle-clause-found g c =
     let i = c.in-Ok.image in
-    subst (λ (s : EngineState g.row.D.Denot). g.D.Disk.honest s.disk → LeavesNow (g.D.Disk.now s.disk) (IsFound s)) (sym c.started.ensures.state)
+    subst (λ (s : EngineState g.row.D.Denot). g.D.Disk.honest s.disk → LeavesNow (g.D.Disk.now s.disk) (IsFound s)) (sym
+    c.started.ensures.state)
     (λ h. subst (λ (x : CheckpointState). LeavesNow (g.D.Disk.now c.read_synced.new.disk)
     (λ file. (x.header ≡ header_of file)
     × Reads layout_in_use file

@@ -37,7 +37,8 @@ returns-in-Ok-true-clause-calls g c = λ h.
     let accepted : is_accepted e.memory.contents c.args.command.now
     ≡ true = accepts e.memory.contents c.args.command.now true c.judge.result c.judge.ensures
     (c.in-Ok-true.is ∙ ap (λ b. Ok b) c.in-Ok-true.field-0-test) in
-    calls_accepted g.D.Disk.past c.args.self.now.disk c.accept.new.self.disk c.args.self.now.memory c.args.command.now c.accept.result
+    calls_accepted g.D.Disk.past c.args.self.now.disk c.accept.new.self.disk c.args.self.now.memory c.args.command.now
+    c.accept.result
     (sym (ap (λ (s : EngineState g.row.D.Denot). is_accepted s.memory c.args.command.now) c.self.view_is) ∙ accepted)
     (c.accept.ensures.calls h)
 
@@ -103,4 +104,16 @@ returns-in-Ok-false-clause-answered g c =
     (c.step.ensures.answer
     ∙ ap (λ (s : EngineState g.row.D.Denot). (step s.memory c.args.command.now).answer) c.self.view_is)
     (ap (λ (m : MemoryState).
-    (let s : EngineState g.row.D.Denot = record { disk = e.disk; header = e.checkpoint.state.header; step = e.checkpoint.state.step; pages = changed_in e.checkpoint; memory = m.contents; count = e.journal.count; room = e.journal.room; ahead = e.ahead.members.items; failed = e.failed } in s)) same ∙ c.self.view_is)
+    (let s : EngineState g.row.D.Denot = record {
+      disk = e.disk;
+      header = e.checkpoint.state.header;
+      step =
+          e.checkpoint.state.step;
+      pages = changed_in e.checkpoint;
+      memory = m.contents;
+      count = e.journal.count;
+      room =
+          e.journal.room;
+      ahead = e.ahead.members.items;
+      failed = e.failed;
+    } in s)) same ∙ c.self.view_is)

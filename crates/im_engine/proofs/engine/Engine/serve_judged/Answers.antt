@@ -75,7 +75,8 @@ returns-in-Err-clause-runs g c =
     let known = c.places_in-places.ensures.known in
     let only = λ (h : g.D.Disk.honest c.put_on.new.disk). only_weaker g.D.Disk.now g.D.Disk.past e.disk
     c.put_on.new.disk _
-    (MeansCommands (engine_of e.disk e.checkpoint e.memory e.journal e.ahead.members.items e.failed) c.args.members.now.all.now)
+    (MeansCommands (engine_of e.disk e.checkpoint e.memory e.journal e.ahead.members.items e.failed)
+    c.args.members.now.all.now)
     (c.put_on.ensures.leaves h e.checkpoint.state (paged e.checkpoint e.memory) e.memory.contents
     (contents_after_all e.memory.contents (places e.journal.count e.journal.room) c.args.members.now.all.now)
     (accepts e.disk e.checkpoint e.memory e.journal e.ahead.members.items e.failed
@@ -151,7 +152,8 @@ returns-clause-answered g c =
     c.args.members.now.all.now
     c.places_in-places.ensures.known
     c.args.commands.now are alive c.put_on.new.disk c.act_all.new.checkpoint c.act_all.new.memory
-    c.put_on.new.journal _ c.in_default.ensures.state c.forget_behind.ensures.members (λ none. (c.put_on.ensures.calls.none none).1)
+    c.put_on.new.journal _ c.in_default.ensures.state c.forget_behind.ensures.members (λ none.
+    (c.put_on.ensures.calls.none none).1)
     c.act_all.ensures.stays.state contents
     c.act_all.new.served.items answers adds)
 
@@ -171,7 +173,8 @@ returns-clause-runs g c =
     c.places_in-places.ensures.places in
     let only = λ (h : g.D.Disk.honest c.put_on.new.disk). only_weaker g.D.Disk.now g.D.Disk.past e.disk
     c.put_on.new.disk _
-    (MeansCommands (engine_of e.disk e.checkpoint e.memory e.journal e.ahead.members.items e.failed) c.args.members.now.all.now)
+    (MeansCommands (engine_of e.disk e.checkpoint e.memory e.journal e.ahead.members.items e.failed)
+    c.args.members.now.all.now)
     (c.put_on.ensures.leaves h e.checkpoint.state (paged e.checkpoint e.memory) e.memory.contents
     (contents_after_all e.memory.contents (places e.journal.count e.journal.room) c.args.members.now.all.now)
     (accepts e.disk e.checkpoint e.memory e.journal e.ahead.members.items e.failed
