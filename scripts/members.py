@@ -17,6 +17,7 @@ import tarfile
 import tempfile
 import time
 from collections import Counter
+from concurrent.futures import ThreadPoolExecutor
 from pathlib import Path
 
 import cutting
@@ -34,7 +35,7 @@ SIZES = ["--cells", "64", "--elements", "8", "--slots", "64"]
 EVERY = 40  # lines between two snapshots
 EARLY, RESTART, END = 12, 120, 300  # answers behind which c ends, a is started once more, and the recording ends
 PATIENCE = 1200  # seconds for a step of the machine
-WITHIN = 300  # seconds in which members that were cut are alike
+WITHIN = 600  # seconds in which members that were cut are alike
 CONTROL = "LD_PRELOAD=/calls.so NO_SYNC=all "  # The syncs of a are left out.
 
 
@@ -126,14 +127,14 @@ class Recording:
 
 
 class States:
-    """The disk of a recording, cut behind some of its entries."""
+    """The disk of a recording, cut behind some of its entries. Several states are started at once, each in mounts of its own."""
 
     def __init__(self, recording, ebin):
         self.it, self.ebin, self.count = recording, ebin, Counter()
         self.dice = random.Random(f"members {recording.name} {recording.seed}")
         self.mounter = recording.workshop.mounter(recording.workshop.base(recording.name, recording.system), recording.layer)
         self.folder, self.room = recording.where, Path(tempfile.mkdtemp(prefix="members-", dir="/dev/shm"))
-        self.port, self.seen = self.dice.randrange(20000, 30000), {}
+        self.port, self.seen, self.found = self.dice.randrange(20000, 30000), {}, []
 
     def judge(self, most):
         """Cuts so often behind an answer or before a flush, from the end of c on. Returns what was counted."""
@@ -141,20 +142,24 @@ class States:
         places = [at for at in range(self.it.begin_at, len(log) - 1) if is_answer(log[at]) or log[at + 1] == disks.FLUSH]
         chosen = set(self.dice.sample(places, min(most, len(places))))
         last = self.told(log)
+        self.folder.mkdir()
         try:
-            for place, entry in enumerate(log):
-                if entry == disks.FLUSH:
-                    self.mounter.advance({number: raw for it in writes for number, raw in it.items()})
-                    writes, self.seen = [], {}
-                elif isinstance(entry, disks.Write):
-                    writes.append(disks.sectors(entry))
-                elif is_answer(entry):
-                    told |= self.told([entry])
-                if place in chosen:
-                    self.cut(place, writes, told, last)
+            with ThreadPoolExecutor(os.cpu_count()) as pool:
+                for place, entry in enumerate(log):
+                    if entry == disks.FLUSH:
+                        self.mounter.advance({number: raw for it in writes for number, raw in it.items()})
+                        writes, self.seen = [], {}
+                    elif isinstance(entry, disks.Write):
+                        writes.append(disks.sectors(entry))
+                    elif is_answer(entry):
+                        told |= self.told([entry])
+                    if place in chosen:
+                        self.cut(place, writes, Counter(told), last, pool)
+                for it in self.found:
+                    self.look(*it)
         finally:
             shutil.rmtree(self.room, ignore_errors=True)
-            self.folder.unlink(missing_ok=True)
+            self.folder.rmdir()
         return self.count
 
     @staticmethod
@@ -166,80 +171,93 @@ class States:
             found[element] = max(found[element], int(number))
         return found
 
-    def cut(self, place, writes, told, last):
-        """One state. Members are started once for each disk, and what they have is compared with what was told by then."""
+    def cut(self, place, writes, told, last, pool):
+        """One state. Members are started once for each disk."""
         way, layer = cutting.reached(self.dice, writes, self.dice.choice([0, 0, 2]), 4096)
         other = self.dice.choice("bccc")
         key = hash(frozenset(layer.items())), other
         self.count["states"] += 1
         if key not in self.seen:
             self.count["disks"] += 1
+            room = self.room / str(self.count["disks"])
             status, said, packed = self.mounter.packed(self.it.system.type, self.it.system.options, "log", layer)
-            self.seen[key] = f"not mounted: {said.strip()}" if status else self.started(packed, other), packed
-        found, packed = self.seen[key]
-        if wrong := self.lacking(found, last if other == "b" else told):
-            self.count["wrong"] += 1
-            kept = "" if self.it.is_control else self.keep(packed)
-            print(f"  member {self.it.name} seed {self.it.seed}, entry {place}, {way}, with {other}: {wrong}{kept}", flush=True)
+            wrong = f"not mounted: {said.strip()}" if status else None
+            self.seen[key] = pool.submit(self.started, room, packed, other, wrong), packed, room
+        self.found.append((f"entry {place}, {way}, with {other}", last if other == "b" else told, *self.seen[key]))
 
-    def keep(self, packed):
+    def look(self, state, told, started, packed, room):
+        """Compares what members have with what was told by then."""
+        self.count["answers"] += sum(told.values())
+        if wrong := self.lacking(started.result(), told):
+            self.count["wrong"] += 1
+            kept = "" if self.it.is_control else self.keep(packed, room)
+            print(f"  member {self.it.name} seed {self.it.seed}, {state}: {wrong}{kept}", flush=True)
+
+    def keep(self, packed, room):
         """Keeps what a cut left that is wrong."""
-        kept = TOP / "out" / "power" / "bad" / f"member-{self.it.name}-{self.it.seed}-{self.count['states']}"
+        kept = TOP / "out" / "power" / "bad" / f"member-{self.it.name}-{self.it.seed}-{room.name}"
         kept.mkdir(parents=True, exist_ok=True)
         for name, raw in (("a", packed), *self.it.others.items()):
             (kept / f"{name}.tar").write_bytes(raw)
-        for it in self.folder.glob("*.out"):
+        for it in room.glob("*.out"):
             shutil.copy2(it, kept)
         return f"\n    {kept.relative_to(TOP)}"
 
-    def started(self, packed, other):
+    def started(self, room, packed, other, wrong):
         """Starts what the cut left, with another member. Returns what both have, or what is wrong."""
-        shutil.rmtree(self.room)
-        self.room.mkdir()
-        self.folder.unlink(missing_ok=True)
-        self.folder.symlink_to(self.room)
-        tarfile.open(fileobj=io.BytesIO(packed)).extractall(self.folder)
-        (self.folder / "log").rename(self.folder / "a")
-        tarfile.open(fileobj=io.BytesIO(self.it.others[other])).extractall(self.folder)
-        (self.folder / "memory").mkdir()
-        nodes = [self.node(other), self.node("a", "-s", "imem_member_cut", "judge", NODES[other])]
+        if wrong:
+            return wrong
+        room.mkdir()
+        tarfile.open(fileobj=io.BytesIO(packed)).extractall(room)
+        (room / "log").rename(room / "a")
+        tarfile.open(fileobj=io.BytesIO(self.it.others[other])).extractall(room)
+        (room / "memory").mkdir()
+        nodes = [self.node(room, other), self.node(room, "a", "-s", "imem_member_cut", "judge", NODES[other])]
         try:
-            found = self.hear()
+            found = self.hear(room, nodes)
         finally:
             for it in nodes:
                 os.killpg(it.pid, signal.SIGKILL)
                 it.wait()
-        return found or f"not alike in {WITHIN} s"
+            for it in ("a", other, "memory"):
+                shutil.rmtree(room / it, ignore_errors=True)
+        return found
 
-    def node(self, host, *more):
-        file = self.folder / f"{host}.config"
+    def node(self, room, host, *more):
+        """Starts a member. Its folder stands where it stood on the machine, as Ra keeps the paths of its files."""
+        file = room / f"{host}.config"
         file.write_text(config(host, self.folder, harness.IMEM))
         paths = [word for it in (self.ebin, *otp.ra()) for word in ("-pa", it)]
-        start = ["erl", "-noshell", "-noinput", "+S", "1:1", "+sbwt", "none", *paths, *words(host, self.port)]
+        start = ["unshare", "-rm", "sh", "-c", "mount --bind $0 $1 && shift && exec \"$@\"", room, self.folder]
+        start += ["erl", "-noshell", "-noinput", "+S", "1:1", "+sbwt", "none", *paths, *words(host, self.port + int(room.name))]
         start += ["-config", file, "-s", "imem_server", *more]
-        env = {**os.environ, "HOME": str(self.folder)}
-        with open(self.folder / f"{host}.out", "w") as out:
+        env = {**os.environ, "HOME": str(room)}
+        with open(room / f"{host}.out", "w") as out:
             return subprocess.Popen(list(map(str, start)), env=env, stdout=out, stderr=subprocess.STDOUT, start_new_session=True)
 
-    def hear(self):
-        """Returns what the judge finds, or None."""
+    @staticmethod
+    def hear(room, nodes):
+        """Returns what the judge finds, or what there is in its place."""
         end = time.time() + WITHIN
         while time.time() < end:
-            text = (self.folder / "a.out").read_text(errors="replace")
+            has_ended = any(it.poll() is not None for it in nodes)
+            text = (room / "a.out").read_text(errors="replace")
             if found := re.search("^found (.*)\n", text, re.M):
                 return found[1]
+            if has_ended:
+                return "a node ended"
             time.sleep(0.05)
-        return None
+        return f"not alike in {WITHIN} s"
 
     def lacking(self, found, told):
         """Returns what isn't as it was told, or None. One request of each element was under way."""
         if ";" not in found:
             return found
-        self.count["answers"] += sum(told.values())
         lines = found.split(";")
         for window, cell in zip(lines[::2], lines[1::2]):
-            element, _, _, after = window.split()
-            done = int(after) - 1
+            if not (met := re.fullmatch(r"(\d+) window \d+ (\d+)", window)):
+                return window
+            element, done = met[1], int(met[2]) - 1
             if not told[element] <= done <= told[element] + 1:
                 return f"{window}, and {told[element]} was told"
             wanted = f"full {done}" if done % 2 else "empty"
