@@ -75,8 +75,10 @@ def first_files(kernel, files):
         entries[f"mod/{path.name}"] = (stat.S_IFREG | 0o644, path.read_bytes())
     entries["modules.list"] = (stat.S_IFREG | 0o644, "".join(f"/mod/{it.name}\n" for it in modules).encode())
     for name, path in files.items():
-        entries[name] = (stat.S_IFREG | 0o755, Path(path).read_bytes())
-        for library in re.findall(r"(/\S+) \(", subprocess.run(["ldd", path], capture_output=True, text=True).stdout):
+        raw = Path(path).read_bytes()
+        entries[name] = (stat.S_IFREG | 0o755, raw)
+        needs = subprocess.run(["ldd", path], capture_output=True, text=True).stdout if raw.startswith(b"\x7fELF") else ""
+        for library in re.findall(r"(/\S+) \(", needs):
             entries[library[1:]] = (stat.S_IFREG | 0o755, Path(library).read_bytes())
     folders = {"m", "t", "dev", "proc", "sys"} | {"/".join(it.split("/")[:at]) for it in entries for at in range(1, it.count("/") + 1)}
     return archive([(it, stat.S_IFDIR | 0o755, b"") for it in sorted(folders)] + [(name, *rest) for name, rest in entries.items()])
