@@ -5,7 +5,7 @@ ghost use Rattle.im_disk.specs.Since.{CallsAtMost, CallsBy};
 ghost use Rattle.im_checkpoint.specs.Turns.{most_calls};
 ghost use Rattle.im_groups.specs.Ahead.{ServesPrefix};
 ghost use Rattle.im_engine.specs.Commands.{CommandsAnswered, commands_put};
-ghost use Rattle.im_engine.specs.Run.{Answered, SweepAnswered, TurnAnswered, calls_for};
+ghost use Rattle.im_engine.specs.Answered.{Answered, SweepAnswered, TurnAnswered, calls_for};
 ghost use Rattle.im_session.specs.Keeping.{KeepsPut, MakesFewCalls};
 ghost use Rattle.im_session.specs.Serving.{Rests, served_one, served_together};
 

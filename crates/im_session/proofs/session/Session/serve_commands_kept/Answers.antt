@@ -7,7 +7,7 @@ use Rattle.im_session.proofs.session.Session.serve_commands_kept.Goals as goal
 pub invariant_of-self : goal.invariant_of-self
 invariant_of-self g c =
     let memory = ap (λ (m : MemoryState). m.contents) c.of.ensures ∙ c.memory.ensures in
-    let places = c.of-2.ensures ∙ c.places-places.ensures in
+    let places = c.of-2.ensures ∙ c.places-places.ensures.places in
     let before = c.of-3.ensures ∙ c.failed-failed.ensures.failed in
     rw (c.note_all.ensures, memory, places, before, c.failed-failed-2.ensures.failed) (kept_on g.D.Disk
     c.self.inside.start c.self.inside.calls.sure c.self.inside.calls.doubt c.self.inside.engine
@@ -18,7 +18,7 @@ invariant_of-self g c =
 pub returns-clause-put : goal.returns-clause-put
 returns-clause-put g c =
     let memory = ap (λ (m : MemoryState). m.contents) c.of.ensures ∙ c.memory.ensures in
-    let places = c.of-2.ensures ∙ c.places-places.ensures in
+    let places = c.of-2.ensures ∙ c.places-places.ensures.places in
     let before = c.of-3.ensures ∙ c.failed-failed.ensures.failed in
     rw (c.note_all.ensures, memory, places, before, c.failed-failed-2.ensures.failed, ← c.self.view_is) refl
 
@@ -31,7 +31,7 @@ returns-clause-begins g c = rw (← c.self.view_is) c.serve_commands.ensures.beg
 pub returns-clause-keeps : goal.returns-clause-keeps
 returns-clause-keeps g c =
     let memory = ap (λ (m : MemoryState). m.contents) c.of.ensures ∙ c.memory.ensures in
-    let places = c.of-2.ensures ∙ c.places-places.ensures in
+    let places = c.of-2.ensures ∙ c.places-places.ensures.places in
     let before = c.of-3.ensures ∙ c.failed-failed.ensures.failed in
     rw (c.note_all.ensures, memory, places, before, c.failed-failed-2.ensures.failed, ← c.self.view_is)
     (keeps_on g.D.Disk c.self.inside.start c.self.inside.calls.sure c.self.inside.calls.doubt c.self.inside.engine
