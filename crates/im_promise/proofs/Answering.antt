@@ -312,8 +312,9 @@ module _ (known : Known) {D : Type 0} (old mid : EngineState D) (f : old.failed 
         (inr (yes, inl full.0))))
         (λ some. put_command yes (it.put f yes some))
         (none_or_some old.room))
-        (λ un. let is = it.unaccepted f un
-        in inl (still_command is.1 (unsure old.memory c a un) (step_sure a is.0).0 (step_sure a is.0).1 (inl (sym is.0))))
+        (λ un. let is = it.unaccepted f un in
+        let sure = step_sure a is.0 in
+        inl (still_command is.1 (unsure old.memory c a un) sure.0 sure.1 (inl (sym is.0))))
         (bool_cases (is_accepted old.memory c))
 
   module _ (members : List Request) (room : ℕ) (served : ArrayVec ServedMember) (same : room ≡ old.room)

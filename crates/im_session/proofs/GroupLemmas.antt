@@ -14,7 +14,8 @@ use Rattle.im_types.specs.Contents.{Contents}
 use Rattle.im_types.specs.Step.{step}
 use Rattle.im_types.specs.Run.{after}
 use Rattle.im_types.specs.Meaning.{Reached}
-use Rattle.im_types.specs.Groups.{as_served, is_new, is_put, with_request, answer_of, reached_by_one, answers_of, puts_of}
+use Rattle.im_types.specs.Groups.{as_served, is_new, is_put, with_request, answer_of, reached_by_one, answers_of}
+use Rattle.im_types.specs.Groups.{puts_of}
 use Rattle.im_laws.proofs.Tests.{true_false, true_or_false}
 use Rattle.im_engine.specs.State.{EngineState}
 use Rattle.im_engine.specs.Answered.{is_device}
