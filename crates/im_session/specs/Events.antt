@@ -127,4 +127,4 @@ after_events s events answers engine = session_of s.start (s.put ++ acknowledged
 abbrev pub MeansEvents : {D : Type 0} → SessionState D → List Event → List Answer → List ℕ → Type 0
 MeansEvents s events answers file = (many : ℕ) × (many ≤ length answers)
     × (let far = after_events s (take many events) (take many answers) s.engine
-      in MeansPut far.start (far.put ++ far.doubt) file)
+    in MeansPut far.start (far.put ++ far.doubt) file)
