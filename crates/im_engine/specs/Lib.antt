@@ -1,6 +1,6 @@
 pub mod State
 pub mod Formatting
 pub mod Leaving
-pub mod Run
+pub mod Answered
 pub mod Groups
 pub mod Commands

@@ -55,9 +55,9 @@ abbrev pub with_command : {D : Type 0} → EngineState D → Command → EngineS
 with_command s command =
     record s { memory = (step s.memory command).contents; count = s.count + 1; room = room_after s.count 1 s.room }
 
--- the file means what the engine is without a command, or with it
-abbrev pub MeansEither : {D : Type 0} → EngineState D → Command → List ℕ → Type 0
-MeansEither s command file = MeansState s file ⊎ MeansState (with_command s command) file
+-- the file means what the engine is in the one state, or in the other
+abbrev pub MeansEither : {D : Type 0} → EngineState D → EngineState D → List ℕ → Type 0
+MeansEither s t file = MeansState s file ⊎ MeansState t file
 
 -- the journal behind a header
 abbrev pub journal_of : Header → ℕ → ℕ → JournalState

@@ -7,9 +7,9 @@ use Rattle.im_types.specs.declared.refusals.Refusal.TheVariants.{NoMemory, Devic
 use Rattle.im_disk.specs.Moment.{Moment}
 use Rattle.im_disk.specs.Since.{LeavesNow}
 use Rattle.im_groups.specs.Ahead.{ServesPrefix}
-use Rattle.im_engine.specs.State.{EngineState, MeansState, IsFirstFault}
-use Rattle.im_engine.specs.Commands.{CommandsAnswered, MeansCommands, commands_put}
-use Rattle.im_engine.specs.Run.{is_device}
+use Rattle.im_engine.specs.State.{EngineState, MeansState, IsFirstFault, MeansEither}
+use Rattle.im_engine.specs.Commands.{CommandsAnswered, commands_put, after_commands}
+use Rattle.im_engine.specs.Answered.{is_device}
 use Rattle.im_listed.specs.Listing.{FileStep, Listing, MayLeave, carried, LeftOnTheWay, with_no_steps}
 
 -- an engine over a caller's bytes, and whether a call of the disk failed, here or at the caller
@@ -59,4 +59,5 @@ pub record ServesFirst (old : ImageState) (members : List Command) (answers : Li
       (length answers)
   pub answered : CommandsAnswered (begun_in old) (take (length answers) members) answers new.engine
   -- on the way the file means the memory before those that are served, or after all of them
-  pub carried : Carries old.engine.disk.now new (MeansCommands (begun_in old) (take (length answers) members))
+  pub carried : Carries old.engine.disk.now new
+      (MeansEither (begun_in old) (after_commands (begun_in old) (take (length answers) members)))

@@ -16,17 +16,21 @@ use Rattle.im_types.specs.Meaning.{Reached}
 use Rattle.im_types.specs.Groups.{as_served, answers_of, reached_by_all, puts_of}
 use Rattle.im_checkpoint.specs.declared.checkpoint.TurnDone.{TurnDone}
 use Rattle.arrayvec.specs.ArrayVec.{ArrayVec}
-use Rattle.im_engine.specs.declared.run.Event.{Event}
-use Rattle.im_engine.specs.declared.run.Event.TheVariants.{Command as Serve, Group as Together, Turn, Sweep}
-use Rattle.im_engine.specs.declared.run.Answer.{Answer}
-use Rattle.im_engine.specs.declared.run.Answer.TheVariants.{Served as Told, Grouped, Turned as TookTurn}
-use Rattle.im_engine.specs.declared.run.Answer.TheVariants.{Swept as DidSweep}
+use Rattle.im_session.specs.declared.events.Event.{Event}
+use Rattle.im_session.specs.declared.events.Event.TheVariants.{Command as Serve, Group as Together, Turn, Sweep}
+use Rattle.im_session.specs.declared.events.Answer.{Answer}
+use Rattle.im_session.specs.declared.events.Answer.TheVariants.{Served as Told, Grouped, Turned as TookTurn}
+use Rattle.im_session.specs.declared.events.Answer.TheVariants.{Swept as DidSweep}
 use Rattle.im_engine.specs.State.{EngineState, with_command}
 use Rattle.im_engine.specs.Groups.{reached_in, after_group, group_put, all_refused, answers_in, GroupAnswered}
-use Rattle.im_engine.specs.Run.{Answered, TurnAnswered, SweepAnswered, AnsweredInTurn, is_device, has_device}
-use Rattle.im_engine.specs.Run.{acknowledged_members, acknowledged_by, is_doubt, reached_at, in_doubt_by, in_doubt}
+use Rattle.im_engine.specs.Answered.{Answered, TurnAnswered, SweepAnswered, is_device}
 use Rattle.im_engine.proofs.Members.{puts_few}
-use Rattle.im_promise.specs.Acknowledged.{calls_in_doubt, most_of, most_of_one, is_fault, IsFailed, IsAnswer}
+use Rattle.im_session.specs.Put.{doubted_by}
+use Rattle.im_session.specs.Events.{EventAnswered, AnsweredInTurn, acknowledged_members, acknowledged_by, has_device}
+use Rattle.im_session.specs.Events.{in_doubt, in_doubt_by, is_fault, reached_at}
+use Rattle.im_session.proofs.EventLemmas.{by_event}
+use Rattle.im_session.proofs.ServedLemmas.{not_device, unsure}
+use Rattle.im_promise.specs.Acknowledged.{calls_in_doubt, most_of, most_of_one, is_doubt, IsFailed, IsAnswer}
 use Rattle.im_promise.specs.Acknowledged.{AreAnswers}
 
 bool_cases : (b : Bool) → (b ≡ true) ⊎ (b ≡ false)
@@ -37,13 +41,17 @@ pub none_or_some : (n : ℕ) → (n ≡ 0) ⊎ (0 < n)
 none_or_some zero = inl refl
 none_or_some (suc n) = inr (omega arith)
 
-none_if : (c : Command) (b p : Bool) → p ≡ false → (if b && p then c ∷ [] else []) ≡ []
-none_if c true p is = ap (λ (x : Bool). if x then c ∷ [] else []) is
-none_if c false p is = refl
+none_by : (m : Contents) (c : Command) (a : Result Outcome Refusal) → is_doubt (Told a) ≡ false → doubted_by m c a ≡ []
+none_by m c (Ok o) is = refl
+none_by m c (Err e) is = not_device m c e is
 
 one_at_most : (c : Command) (b : Bool) → length (if b then c ∷ [] else []) ≤ 1
 one_at_most c true = omega arith
 one_at_most c false = omega arith
+
+one_by : (m : Contents) (c : Command) (a : Result Outcome Refusal) → length (doubted_by m c a) ≤ 1
+one_by m c (Ok o) = omega arith
+one_by m c (Err e) = one_at_most c (is_accepted m c && is_device e)
 
 no_more : {X : Type 0} (xs ys : List X) → xs ≡ [] → ys ≡ [] → xs ++ ys ≡ []
 no_more xs ys none rest = ap (λ l. l ++ ys) none ∙ rest
@@ -96,41 +104,51 @@ module _ (known : Known) where
     answered = (failed, (rest m n).answered);
   }
 
+  -- an event of an engine that has failed
+  record IsPast {D : Type 0} (mid : EngineState D) (e : Event) (a : Answer) : Type 0 where
+    pub sure : is_doubt a ≡ false
+    pub none : (m : Contents) (n : ℕ) → in_doubt_by m n e a ≡ []
+    pub failed : IsFailed e a
+    pub dead : mid.failed ≡ true
+
+  past : {D : Type 0} (old mid : EngineState D) (e : Event) (a : Answer) → old.failed ≡ true → EventAnswered old e a mid
+      → IsPast mid e a
+  past {D} old mid e a dead it = by_event old mid (IsPast mid)
+      (λ c x one. let is = one.dead dead in
+      let sure = ap (λ (y : Result Outcome Refusal). is_doubt (Told y)) is.0 in record {
+        sure = sure;
+        none = λ m n. none_by m c x sure;
+        failed = is.0;
+        dead = ap (λ (s : EngineState D). s.failed) is.1 ∙ dead;
+      })
+      (λ members room served same one. let is = one.dead dead in
+      let sure : has_device served.items ≡ false = ap has_device is.0 ∙ known.dead members in record {
+        sure = sure;
+        none = λ m n. ap (λ (b : Bool). if b then puts_of (reached_at m n room) members else []) sure;
+        failed = is.0;
+        dead = ap (λ (s : EngineState D). s.failed) is.1 ∙ dead;
+      })
+      (λ x one. let is = one.dead dead in record {
+        sure = refl;
+        none = λ m n. refl;
+        failed = is.0;
+        dead = ap (λ (s : EngineState D). s.failed) is.1 ∙ dead;
+      })
+      (λ most x one. let is = one.dead dead in record {
+        sure = refl;
+        none = λ m n. refl;
+        failed = is.0;
+        dead = ap (λ (s : EngineState D). s.failed) is.1 ∙ dead;
+      }) e a it
+
   over : {D : Type 0} (old new : EngineState D) (events : List Event) (answers : List Answer) → old.failed ≡ true
       → AnsweredInTurn old events answers new → (m : Contents) (n : ℕ) → IsOver m n events answers
   over old new [] [] dead it m n = record { calls_none = refl; doubt_none = refl; answered = tt }
   over old new [] (a ∷ answers) dead it m n = absurd it
   over old new (e ∷ events) [] dead it m n = absurd it
-  over {D} old new (Serve c ∷ events) (Told a ∷ answers) dead (mid, one, rest) m n =
-      let is = one.dead dead in
-      over_more (Serve c) (Told a) events answers m n (ap (λ (x : Result Outcome Refusal). is_doubt (Told x)) is.0)
-      (none_if c (is_accepted m c) (is_doubt (Told a)) (ap (λ (x : Result Outcome Refusal). is_doubt (Told x)) is.0))
-      is.0
-      (over mid new events answers (ap (λ (s : EngineState D). s.failed) is.1 ∙ dead) rest)
-  over old new (Serve c ∷ events) (Grouped room served ∷ answers) dead (mid, one, rest) m n = absurd one
-  over old new (Serve c ∷ events) (TookTurn a ∷ answers) dead (mid, one, rest) m n = absurd one
-  over old new (Together members ∷ events) (Told a ∷ answers) dead (mid, one, rest) m n = absurd one
-  over {D} old new (Together members ∷ events) (Grouped room served ∷ answers) dead (mid, one, rest) m n =
-      let is = one.1.dead dead in
-      let sure : has_device served.items ≡ false = ap has_device is.0 ∙ known.dead members in
-      over_more (Together members) (Grouped room served) events answers m n sure
-      (ap (λ (b : Bool). if b then puts_of (reached_at m n room) members else []) sure) is.0
-      (over mid new events answers (ap (λ (s : EngineState D). s.failed) is.1 ∙ dead) rest)
-  over old new (Together members ∷ events) (TookTurn a ∷ answers) dead (mid, one, rest) m n = absurd one
-  over old new (Turn ∷ events) (Told a ∷ answers) dead (mid, one, rest) m n = absurd one
-  over old new (Turn ∷ events) (Grouped room served ∷ answers) dead (mid, one, rest) m n = absurd one
-  over {D} old new (Turn ∷ events) (TookTurn a ∷ answers) dead (mid, one, rest) m n =
-      over_more Turn (TookTurn a) events answers m n refl refl (one.dead dead).0
-      (over mid new events answers (ap (λ (s : EngineState D). s.failed) (one.dead dead).1 ∙ dead) rest)
-  over old new (Serve c ∷ events) (DidSweep a ∷ answers) dead (mid, one, rest) m n = absurd one
-  over old new (Together members ∷ events) (DidSweep a ∷ answers) dead (mid, one, rest) m n = absurd one
-  over old new (Turn ∷ events) (DidSweep a ∷ answers) dead (mid, one, rest) m n = absurd one
-  over old new (Sweep most ∷ events) (Told a ∷ answers) dead (mid, one, rest) m n = absurd one
-  over old new (Sweep most ∷ events) (Grouped room served ∷ answers) dead (mid, one, rest) m n = absurd one
-  over old new (Sweep most ∷ events) (TookTurn a ∷ answers) dead (mid, one, rest) m n = absurd one
-  over {D} old new (Sweep most ∷ events) (DidSweep a ∷ answers) dead (mid, one, rest) m n =
-      over_more (Sweep most) (DidSweep a) events answers m n refl refl (one.dead dead).0
-      (over mid new events answers (ap (λ (s : EngineState D). s.failed) (one.dead dead).1 ∙ dead) rest)
+  over old new (e ∷ events) (a ∷ answers) dead (mid, one, rest) m n =
+      let is = past old mid e a dead one in
+      over_more e a events answers m n is.sure (is.none m n) is.failed (over mid new events answers is.dead rest)
 
 -- ---- as long as it works
 
@@ -243,15 +261,10 @@ module _ (known : Known) {D : Type 0} (old mid : EngineState D) (f : old.failed 
       memory = same_memory same sure_c none;
       count = same_count same sure_c none;
       sure = sure;
-      none = none_if c (is_accepted old.memory c) (is_doubt (Told a)) sure;
+      none = none_by old.memory c a sure;
       answer = answer;
       calm = calm;
     }
-
-    unaccepted_none : (b : Result Outcome Refusal) → is_accepted old.memory c ≡ false
-        → acknowledged_by old.memory (Serve c) (Told b) ≡ []
-    unaccepted_none (Ok o) un = ap (λ (x : Bool). if x then c ∷ [] else []) un
-    unaccepted_none (Err e) un = refl
 
     step_sure : (b : Result Outcome Refusal) → b ≡ (step old.memory c).answer
         → (is_doubt (Told b) ≡ false) × (is_fault (Told b) ≡ false)
@@ -278,13 +291,13 @@ module _ (known : Known) {D : Type 0} (old mid : EngineState D) (f : old.failed 
           count =
               ap (λ (s : EngineState D). s.count) done.1 ∙ ap (λ (l : List Command). old.count + length l) (sym all);
           sure = sure;
-          none = none_if c (is_accepted old.memory c) (is_doubt (Told a)) sure;
+          none = none_by old.memory c a sure;
           answer = inl (sym done.0);
           calm = ap (λ (x : Result Outcome Refusal). is_fault (Told x)) is;
         })
     put_command accepted (inr fault) = inr (record {
       dead = ap (λ (s : EngineState D). s.failed) fault.1;
-      few = one_at_most c (is_accepted old.memory c && is_doubt (Told a));
+      few = one_by old.memory c a;
       answer = inr (accepted, inr fault.0);
       fault = ap (λ (x : Result Outcome Refusal). is_fault (Told x)) fault.0;
     })
@@ -299,8 +312,9 @@ module _ (known : Known) {D : Type 0} (old mid : EngineState D) (f : old.failed 
         (inr (yes, inl full.0))))
         (λ some. put_command yes (it.put f yes some))
         (none_or_some old.room))
-        (λ un. let is = it.unaccepted f un
-        in inl (still_command is.1 (unaccepted_none a un) (step_sure a is.0).0 (step_sure a is.0).1 (inl (sym is.0))))
+        (λ un. let is = it.unaccepted f un in
+        let sure = step_sure a is.0 in
+        inl (still_command is.1 (unsure old.memory c a un) sure.0 sure.1 (inl (sym is.0))))
         (bool_cases (is_accepted old.memory c))
 
   module _ (members : List Request) (room : ℕ) (served : ArrayVec ServedMember) (same : room ≡ old.room)
@@ -413,36 +427,9 @@ module _ (known : Known) where
   told old new [] [] f it = record { one = omega arith; few = omega arith; answered = tt }
   told old new [] (a ∷ answers) f it = absurd it
   told old new (e ∷ events) [] f it = absurd it
-  told old new (Serve c ∷ events) (Told a ∷ answers) f (mid, one, rest) = ⊎_elim
-      (λ goes. goes_on old mid (Serve c) (Told a) events answers goes (told mid new events answers goes.works rest))
-      (λ fails. ends old mid (Serve c) (Told a) events answers fails
-      (over known mid new events answers fails.dead rest))
-      (command_goes known old mid f c a one)
-  told old new (Serve c ∷ events) (Grouped room served ∷ answers) f (mid, one, rest) = absurd one
-  told old new (Serve c ∷ events) (TookTurn a ∷ answers) f (mid, one, rest) = absurd one
-  told old new (Together members ∷ events) (Told a ∷ answers) f (mid, one, rest) = absurd one
-  told old new (Together members ∷ events) (Grouped room served ∷ answers) f (mid, one, rest) = ⊎_elim
-      (λ goes. goes_on old mid (Together members) (Grouped room served) events answers goes
-      (told mid new events answers goes.works rest))
-      (λ fails. ends old mid (Together members) (Grouped room served) events answers fails
-      (over known mid new events answers fails.dead rest))
-      (group_goes known old mid f members room served one.0 one.1)
-  told old new (Together members ∷ events) (TookTurn a ∷ answers) f (mid, one, rest) = absurd one
-  told old new (Turn ∷ events) (Told a ∷ answers) f (mid, one, rest) = absurd one
-  told old new (Turn ∷ events) (Grouped room served ∷ answers) f (mid, one, rest) = absurd one
-  told old new (Turn ∷ events) (TookTurn a ∷ answers) f (mid, one, rest) = ⊎_elim
-      (λ goes. goes_on old mid Turn (TookTurn a) events answers goes (told mid new events answers goes.works rest))
-      (λ fails. ends old mid Turn (TookTurn a) events answers fails (over known mid new events answers fails.dead rest))
-      (turn_goes known old mid f a one)
-  told old new (Serve c ∷ events) (DidSweep a ∷ answers) f (mid, one, rest) = absurd one
-  told old new (Together members ∷ events) (DidSweep a ∷ answers) f (mid, one, rest) = absurd one
-  told old new (Turn ∷ events) (DidSweep a ∷ answers) f (mid, one, rest) = absurd one
-  told old new (Sweep most ∷ events) (Told a ∷ answers) f (mid, one, rest) = absurd one
-  told old new (Sweep most ∷ events) (Grouped room served ∷ answers) f (mid, one, rest) = absurd one
-  told old new (Sweep most ∷ events) (TookTurn a ∷ answers) f (mid, one, rest) = absurd one
-  told old new (Sweep most ∷ events) (DidSweep a ∷ answers) f (mid, one, rest) = ⊎_elim
-      (λ goes. goes_on old mid (Sweep most) (DidSweep a) events answers goes
-      (told mid new events answers goes.works rest))
-      (λ fails. ends old mid (Sweep most) (DidSweep a) events answers fails
-      (over known mid new events answers fails.dead rest))
-      (sweep_goes known old mid f most a one)
+  told old new (e ∷ events) (a ∷ answers) f (mid, one, rest) = ⊎_elim
+      (λ goes. goes_on old mid e a events answers goes (told mid new events answers goes.works rest))
+      (λ fails. ends old mid e a events answers fails (over known mid new events answers fails.dead rest))
+      (by_event old mid (λ d x. GoesOn old mid d x ⊎ Fails old mid d x)
+      (command_goes known old mid f) (group_goes known old mid f) (turn_goes known old mid f)
+      (sweep_goes known old mid f) e a one)

@@ -1,40 +1,27 @@
 -- Whether events were answered as the sequential memory answers them, and how many calls left commands in doubt. (Own.)
-use Rattle.std.specs.Prelude.{
-  ◌≡◌,
-  ◌⊎◌,
-  ℕ,
-  ◌+◌,
-  ◌<◌,
-  max,
-  Bool,
-  true,
-  false,
-  List,
-  [],
-  ◌∷◌,
-  length,
-  map,
-  Ok,
-  Err,
-  if◌then◌else◌,
-}
+use Rattle.std.specs.Prelude.{◌≡◌, ◌⊎◌, ℕ, ◌+◌, ◌<◌, max, Bool, true, false, List, [], ◌∷◌, length, map, Ok, Err}
+use Rattle.std.specs.Prelude.{if◌then◌else◌}
 use Rattle.im_types.specs.declared.refusals.Refusal.TheVariants.{JournalFull, Device, Failed}
 use Rattle.im_types.specs.Contents.{Contents}
 use Rattle.im_types.specs.Step.{step, is_accepted}
 use Rattle.im_types.specs.Run.{after}
 use Rattle.im_types.specs.Groups.{as_served, answers_of, puts_of}
-use Rattle.im_engine.specs.declared.run.Event.{Event}
-use Rattle.im_engine.specs.declared.run.Event.TheVariants.{Command as Serve, Group as Together, Turn, Sweep}
-use Rattle.im_engine.specs.declared.run.Answer.{Answer}
-use Rattle.im_engine.specs.declared.run.Answer.TheVariants.{
-  Served as Told,
-  Grouped,
-  Turned as TookTurn,
-  Swept as
-      DidSweep,
-}
+use Rattle.im_engine.specs.Answered.{is_device}
 use Rattle.im_engine.specs.Groups.{all_refused}
-use Rattle.im_engine.specs.Run.{is_device, has_device, is_doubt, acknowledged_by, reached_at}
+use Rattle.im_session.specs.declared.events.Event.{Event}
+use Rattle.im_session.specs.declared.events.Event.TheVariants.{Command as Serve, Group as Together, Turn, Sweep}
+use Rattle.im_session.specs.declared.events.Answer.{Answer}
+use Rattle.im_session.specs.declared.events.Answer.TheVariants.{Served as Told, Grouped, Turned as TookTurn}
+use Rattle.im_session.specs.declared.events.Answer.TheVariants.{Swept as DidSweep}
+use Rattle.im_session.specs.Events.{has_device, acknowledged_by, is_fault, reached_at}
+
+-- the answer leaves the commands of its event in doubt
+abbrev pub is_doubt : Answer → Bool
+is_doubt (Told (Ok outcome)) = false
+is_doubt (Told (Err refusal)) = is_device refusal
+is_doubt (Grouped room served) = has_device served.items
+is_doubt (TookTurn answer) = false
+is_doubt (DidSweep answer) = false
 
 -- how many of the calls left their commands in doubt
 abbrev pub calls_in_doubt : List Answer → ℕ
@@ -53,34 +40,13 @@ abbrev pub most_of_one : List Event → ℕ
 most_of_one [] = 0
 most_of_one (event ∷ events) = max (most_of event) (most_of_one events)
 
--- the answer says that a call of the disk failed
-abbrev pub is_fault : Answer → Bool
-is_fault (Told (Ok outcome)) = false
-is_fault (Told (Err refusal)) = is_device refusal
-is_fault (Grouped room served) = has_device served.items
-is_fault (TookTurn (Ok done)) = false
-is_fault (TookTurn (Err refusal)) = is_device refusal
-is_fault (DidSweep (Ok swept)) = false
-is_fault (DidSweep (Err refusal)) = is_device refusal
-
 -- the answer says that a call of the disk failed before
 abbrev pub IsFailed : Event → Answer → Type 0
 IsFailed (Serve command) (Told answer) = answer ≡ Err Failed
-IsFailed (Serve command) (Grouped room served) = ⊥
-IsFailed (Serve command) (TookTurn answer) = ⊥
-IsFailed (Together members) (Told answer) = ⊥
 IsFailed (Together members) (Grouped room served) = served.items ≡ all_refused Failed members
-IsFailed (Together members) (TookTurn answer) = ⊥
-IsFailed Turn (Told answer) = ⊥
-IsFailed Turn (Grouped room served) = ⊥
 IsFailed Turn (TookTurn answer) = answer ≡ Err Failed
-IsFailed (Serve command) (DidSweep answer) = ⊥
-IsFailed (Together members) (DidSweep answer) = ⊥
-IsFailed Turn (DidSweep answer) = ⊥
-IsFailed (Sweep most) (Told answer) = ⊥
-IsFailed (Sweep most) (Grouped room served) = ⊥
-IsFailed (Sweep most) (TookTurn answer) = ⊥
 IsFailed (Sweep most) (DidSweep answer) = answer ≡ Err Failed
+IsFailed event answer = ⊥
 
 -- What an answer may be. A command gets its answer on this memory. If it would change the memory, it may get
 -- `JournalFull` or `Device` instead. The members of a group get their answers one after another, and those without room
@@ -89,23 +55,12 @@ abbrev pub IsAnswer : Contents → ℕ → Event → Answer → Type 0
 IsAnswer m count (Serve command) (Told answer) =
     ((step m command).answer ≡ answer)
     ⊎ ((is_accepted m command ≡ true) × ((answer ≡ Err JournalFull) ⊎ (answer ≡ Err Device)))
-IsAnswer m count (Serve command) (Grouped room served) = ⊥
-IsAnswer m count (Serve command) (TookTurn answer) = ⊥
-IsAnswer m count (Together members) (Told answer) = ⊥
 IsAnswer m count (Together members) (Grouped room served) =
     (served.items ≡ map as_served (answers_of (reached_at m count room) members))
     ⊎ ((served.items ≡ all_refused Device members) × (0 < length (puts_of (reached_at m count room) members)))
-IsAnswer m count (Together members) (TookTurn answer) = ⊥
-IsAnswer m count Turn (Told answer) = ⊥
-IsAnswer m count Turn (Grouped room served) = ⊥
 IsAnswer m count Turn (TookTurn answer) = Unit {0}
-IsAnswer m count (Serve command) (DidSweep answer) = ⊥
-IsAnswer m count (Together members) (DidSweep answer) = ⊥
-IsAnswer m count Turn (DidSweep answer) = ⊥
-IsAnswer m count (Sweep most) (Told answer) = ⊥
-IsAnswer m count (Sweep most) (Grouped room served) = ⊥
-IsAnswer m count (Sweep most) (TookTurn answer) = ⊥
 IsAnswer m count (Sweep most) (DidSweep answer) = Unit {0}
+IsAnswer m count event answer = ⊥
 
 -- Each event is answered in its turn, on the memory and the count after the commands acknowledged before it. After a
 -- call of the disk has failed, everything is answered `Failed`.

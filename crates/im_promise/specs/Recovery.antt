@@ -5,9 +5,9 @@ use Rattle.im_types.specs.declared.refusals.Refusal.{Refusal}
 use Rattle.im_types.specs.declared.refusals.Refusal.TheVariants.{NoMemory, Device}
 use Rattle.im_types.specs.Contents.{Contents}
 use Rattle.im_types.specs.Run.{after}
-use Rattle.im_engine.specs.declared.run.Event.{Event}
-use Rattle.im_engine.specs.declared.run.Answer.{Answer}
-use Rattle.im_engine.specs.Run.{acknowledged, in_doubt}
+use Rattle.im_session.specs.declared.events.Event.{Event}
+use Rattle.im_session.specs.declared.events.Answer.{Answer}
+use Rattle.im_session.specs.Events.{acknowledged, in_doubt}
 use Rattle.im_session.specs.Kept.{SessionState}
 use Rattle.im_promise.specs.Acknowledged.{calls_in_doubt, most_of_one, AreAnswers}
 

@@ -7,7 +7,6 @@ use Rattle.im_types.specs.declared.commands.Outcome.{Outcome}
 use Rattle.im_types.specs.declared.groups.Served.{Served}
 use Rattle.im_types.specs.declared.refusals.Refusal.{Refusal}
 use Rattle.im_types.specs.declared.refusals.Refusal.TheVariants.{Failed, JournalFull}
-use Rattle.im_types.specs.Contents.{Contents}
 use Rattle.im_types.specs.Step.{step, is_accepted}
 use Rattle.im_types.specs.Run.{after}
 use Rattle.im_laws.proofs.Tests.{true_or_false}
@@ -17,20 +16,20 @@ use Rattle.im_groups.specs.Commands.{places}
 use Rattle.im_groups.proofs.CommandLemmas.{at-after, at-accepts}
 use Rattle.im_checkpoint.specs.declared.checkpoint.TurnDone.{TurnDone}
 use Rattle.im_checkpoint.proofs.Fitting.{none_or_some}
-use Rattle.im_engine.specs.State.{EngineState, MeansState, MeansEither}
-use Rattle.im_engine.specs.Run.{Answered, MeansWithOrWithout, SweepAnswered, TurnAnswered, is_device}
-use Rattle.im_engine.specs.Commands.{CommandsAnswered, MeansCommands, ServesCommands, after_commands, commands_put}
+use Rattle.im_engine.specs.State.{EngineState, MeansState, MeansEither, with_command}
+use Rattle.im_engine.specs.Answered.{Answered, SweepAnswered, TurnAnswered, is_device}
+use Rattle.im_engine.specs.Commands.{CommandsAnswered, ServesCommands, after_commands, commands_put}
 use Rattle.im_engine.proofs.Accepting.{accepted_answers}
 use Rattle.im_session.specs.Put.{sure_by, doubted_by, sure_of, doubted_of}
 use Rattle.im_session.proofs.AcceptedLemmas.{accepted_each, one_accepted}
-use Rattle.im_session.proofs.KeptLemmas.{Accepted, CallLeaves, GoesOn, Puts, Stays, all_of, none_of, puts_all, puts_none}
-use Rattle.im_session.proofs.KeptLemmas.{rose_by, steady_by}
+use Rattle.im_session.proofs.KeptLemmas.{Accepted, CallLeaves, GoesOn, all_of, none_of, puts_all, puts_none}
+use Rattle.im_session.proofs.KeptLemmas.{MeansWithOrWithout, rose_by, steady_by}
 use Rattle.im_session.proofs.ServedLemmas.{not_device, undoubted, unsure}
 
 -- ---- a command
 
 module _ {D : Type 0} (disk : Ghosts D) (mid new : EngineState D) (c : Command) (a : Result Outcome Refusal)
-    (it : Answered mid c a new) (call : CallLeaves disk mid new (MeansEither mid c))
+    (it : Answered mid c a new) (call : CallLeaves disk mid new (MeansEither mid (with_command mid c)))
     (cause : Faults (λ e. Unit {0}) a (disk.failures mid.disk) (disk.failures new.disk)) where
   abbrev Goes : Type 0
   Goes = GoesOn disk mid new (sure_by mid.memory c a) (doubted_by mid.memory c a)
@@ -42,7 +41,7 @@ module _ {D : Type 0} (disk : Ghosts D) (mid new : EngineState D) (c : Command) 
     none_doubted = ap (doubted_by mid.memory c) is ∙ not_device mid.memory c r e;
   })
 
-  either : (file : List ℕ) → MeansEither mid c file → MeansWithOrWithout mid [] (c ∷ []) file
+  either : (file : List ℕ) → MeansEither mid (with_command mid c) file → MeansWithOrWithout mid [] (c ∷ []) file
   either file (inl old) = none_of mid (c ∷ []) file old
   either file (inr with_it) = inr (all_of mid (c ∷ []) (step mid.memory c).contents (mid.count + 1) _ file refl refl with_it)
 
@@ -56,14 +55,16 @@ module _ {D : Type 0} (disk : Ghosts D) (mid new : EngineState D) (c : Command) 
       let sure : sure_by mid.memory c a ≡ c ∷ []
       = ap (sure_by mid.memory c) is ∙ ap (λ (b : Bool). if b then c ∷ [] else []) e in
       let doubt : doubted_by mid.memory c a ≡ [] = ap (doubted_by mid.memory c) is in
-      inr (rw (sure, doubt) (puts_all disk mid new (MeansEither mid c) call f (c ∷ []) (one_accepted mid.memory c e) either
+      inr (rw (sure, doubt) (puts_all disk mid new (MeansEither mid (with_command mid c)) call f (c ∷ [])
+      (one_accepted mid.memory c e) either
       (ap (λ (s : EngineState D). s.memory) done.1) (ap (λ (s : EngineState D). s.count) done.1)
       (ap (λ (s : EngineState D). s.failed) done.1 ∙ f) (steady_by a o.0 _ _ cause is))))
       (λ fault.
       let sure : sure_by mid.memory c a ≡ [] = ap (sure_by mid.memory c) fault.0 in
       let doubt : doubted_by mid.memory c a ≡ c ∷ []
       = ap (doubted_by mid.memory c) fault.0 ∙ ap (λ (b : Bool). if b && true then c ∷ [] else []) e in
-      inr (rw (sure, doubt) (puts_none disk mid new (MeansEither mid c) call f (c ∷ []) (one_accepted mid.memory c e) either
+      inr (rw (sure, doubt) (puts_none disk mid new (MeansEither mid (with_command mid c)) call f (c ∷ [])
+      (one_accepted mid.memory c e) either
       fault.1 (rose_by a _ _ cause fault.0))))
       (it.put f e some))
       (none_or_some mid.room)
@@ -128,7 +129,7 @@ module _ {D : Type 0} (disk : Ghosts D) (mid new : EngineState D) (members : Lis
   same_again : new ≡ mid → sure_of new.failed cs ≡ [] → doubted_of mid.failed new.failed cs ≡ [] → GoesTogether
   same_again same sure doubt = inl (record { same = same; none_sure = sure; none_doubted = doubt })
 
-  call : CallLeaves disk mid new (MeansCommands mid members)
+  call : CallLeaves disk mid new (MeansEither mid (after_commands mid members))
   call = record { since = it.leaves; now = it.doubt; means = it.means; honest = it.honest }
 
   together : after mid.memory cs ≡ (after_commands mid members).memory
@@ -137,7 +138,7 @@ module _ {D : Type 0} (disk : Ghosts D) (mid new : EngineState D) (members : Lis
   all_accepted : Accepted mid.memory cs
   all_accepted = accepted_each mid.memory cs _ (at-accepts mid.memory (places mid.count mid.room) members)
 
-  both : (file : List ℕ) → MeansCommands mid members file → MeansWithOrWithout mid [] cs file
+  both : (file : List ℕ) → MeansEither mid (after_commands mid members) file → MeansWithOrWithout mid [] cs file
   both file (inl old) = none_of mid cs file old
   both file (inr all) = inr (all_of mid cs (after_commands mid members).memory (after_commands mid members).count
       (after_commands mid members).room file (sym together) refl all)
@@ -160,14 +161,16 @@ module _ {D : Type 0} (disk : Ghosts D) (mid new : EngineState D) (members : Lis
       let alive : new.failed ≡ false = ap (λ (s : EngineState D). s.failed) done.1 ∙ works in
       let sure : sure_of new.failed cs ≡ cs = ap (λ (b : Bool). sure_of b cs) alive in
       let doubt : doubted_of mid.failed new.failed cs ≡ [] = ap (λ (b : Bool). doubted_of mid.failed b cs) alive in
-      inr (rw (sure, doubt) (puts_all disk mid new (MeansCommands mid members) call works cs all_accepted both
+      inr (rw (sure, doubt) (puts_all disk mid new (MeansEither mid (after_commands mid members)) call works cs
+      all_accepted both
       (ap (λ (s : EngineState D). s.memory) done.1 ∙ sym together) (ap (λ (s : EngineState D). s.count) done.1) alive
       (it.faults.steady (alive ∙ sym works)))))
       (λ fault.
       let dead : new.failed ≡ true = ap (λ (s : EngineState D). s.failed) fault.1 in
       let sure : sure_of new.failed cs ≡ [] = ap (λ (b : Bool). sure_of b cs) dead in
       let doubt : doubted_of mid.failed new.failed cs ≡ cs = ap₂ (λ (b f : Bool). doubted_of b f cs) works dead in
-      inr (rw (sure, doubt) (puts_none disk mid new (MeansCommands mid members) call works cs all_accepted both
+      inr (rw (sure, doubt) (puts_none disk mid new (MeansEither mid (after_commands mid members)) call works cs
+      all_accepted both
       fault.1 (it.faults.failed works dead).0)))
       (did.put works some))
       (none_or_more cs)

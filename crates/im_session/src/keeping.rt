@@ -5,8 +5,8 @@ ghost use Rattle.im_disk.specs.Since.{CallsAtMost, CallsBy};
 ghost use Rattle.im_checkpoint.specs.Turns.{most_calls};
 ghost use Rattle.im_groups.specs.Ahead.{ServesPrefix};
 ghost use Rattle.im_engine.specs.Commands.{CommandsAnswered, commands_put};
-ghost use Rattle.im_engine.specs.Run.{Answered, SweepAnswered, TurnAnswered, calls_for};
-ghost use Rattle.im_session.specs.Keeping.{KeepsPut, MakesFewCalls};
+ghost use Rattle.im_engine.specs.Answered.{Answered, SweepAnswered, TurnAnswered, calls_for};
+ghost use Rattle.im_session.specs.Keeping.{KeepsPut, LeavesWhole, MakesFewCalls};
 ghost use Rattle.im_session.specs.Serving.{Rests, served_one, served_together};
 
 use crate::calls::GroupFound;
@@ -23,6 +23,7 @@ impl<D: Disk> Session<D> {
         ensures answered { Answered self.old.engine command.now result self.new.engine }
         ensures put { self.new ≡ served_one self.old command.now result self.new.engine }
         ensures keeps { KeepsPut D.Disk self.old self.new }
+        ensures leaves { LeavesWhole D.Disk self.old self.new }
         ensures calls { D.honest self.new.engine.disk → CallsBy D.past self.old.engine.disk self.new.engine.disk
             (calls_for self.old.engine.memory command.now) result }
     {
@@ -48,6 +49,7 @@ impl<D: Disk> Session<D> {
         ensures put { self.new ≡ served_together self.old (take (length served.new.items) members.now.items)
             self.new.engine }
         ensures keeps { KeepsPut D.Disk self.old self.new }
+        ensures leaves { LeavesWhole D.Disk self.old self.new }
         ensures few { MakesFewCalls D.Disk self.old (take (length served.new.items) members.now.items) self.new }
     {
         let failed = self.engine.failed();
@@ -67,6 +69,7 @@ impl<D: Disk> Session<D> {
         ensures answered { TurnAnswered self.old.engine result self.new.engine }
         ensures same { Rests self.old self.new }
         ensures keeps { KeepsPut D.Disk self.old self.new }
+        ensures leaves { LeavesWhole D.Disk self.old self.new }
         ensures calls { D.honest self.new.engine.disk
             → CallsAtMost D.past self.old.engine.disk self.new.engine.disk (most_calls result) }
     {
@@ -78,6 +81,7 @@ impl<D: Disk> Session<D> {
         ensures answered { SweepAnswered self.old.engine most result self.new.engine }
         ensures same { Rests self.old self.new }
         ensures keeps { KeepsPut D.Disk self.old self.new }
+        ensures leaves { LeavesWhole D.Disk self.old self.new }
     {
         self.engine.sweep(most)
     }

@@ -5,7 +5,7 @@ use crate::engines::{Engines, StoryScript};
 use crate::events::{add_number, group_of};
 use crate::known::{KnownEngine, are_alike, are_refused, does_work, is_wrong_at, served};
 use im_disk::{Crash, Mode};
-use im_engine::{Answer, Event};
+use im_session::{Answer, Event};
 use im_story::{Cases, Phrase, Saying, asked, crash, mode};
 use im_story_disk::{STEADY, StoryFile};
 use im_types::{Command, LAST, Op, Refusal};
@@ -107,15 +107,18 @@ impl Trial<'_, '_> {
 
     // Runs the events. Returns whether the disk stops.
     fn does_run_stop(&mut self, said: &mut Saying) -> bool {
-        let Some(engine) = &mut self.known.file.engine else {
-            said.fail("no engine");
+        let Ok(answers) = self.known.file.run(self.events) else {
+            said.fail("there is no run");
             return false;
         };
-        let Ok(answers) = engine.run(said.alloc(), self.events) else {
-            said.fail("no memory is left");
-            return false;
-        };
-        let (events, has_failed) = (self.events, engine.failed());
+        let (events, has_failed) = (
+            self.events,
+            self.known
+                .file
+                .engine
+                .as_ref()
+                .is_some_and(|it| it.failed()),
+        );
         let mut works = true;
         for (event, answer) in events.iter().zip(answers.as_slice()) {
             works = self.hears(works, event, answer, said);

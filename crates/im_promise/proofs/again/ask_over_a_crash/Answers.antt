@@ -6,7 +6,7 @@ use Rattle.im_types.specs.Agreement.{WaitingAgrees}
 use Rattle.im_types.specs.Run.{after}
 use Rattle.im_laws.specs.Requests.{after_request}
 use Rattle.im_laws.specs.Entries.{IsToldAgainOrForgotten}
-use Rattle.im_engine.specs.Run.{acknowledged}
+use Rattle.im_session.specs.Events.{acknowledged}
 use Rattle.im_promise.proofs.Sent.{answer_of, said, by_is_false, is_false_by, acted, asked}
 use Rattle.im_promise.proofs.again.ask_over_a_crash.Goals as goal
 

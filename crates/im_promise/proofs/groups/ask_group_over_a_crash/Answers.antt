@@ -3,7 +3,7 @@ use Rattle.im_types.specs.declared.commands.Command.{Command}
 use Rattle.im_types.specs.Contents.{Contents}
 use Rattle.im_types.specs.Agreement.{WaitingAgrees}
 use Rattle.im_types.specs.Run.{after}
-use Rattle.im_engine.specs.Run.{acknowledged}
+use Rattle.im_session.specs.Events.{acknowledged}
 use Rattle.im_engine.specs.Groups.{reached_in, group_put}
 use Rattle.im_promise.proofs.Sent.{is_false_by, by_is_false, agrees_after}
 use Rattle.im_promise.proofs.Grouping.{GroupsAreRuns, group_answer, group_acted, group_asked}

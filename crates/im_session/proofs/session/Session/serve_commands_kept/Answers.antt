@@ -1,13 +1,13 @@
 use Rattle.std.proofs.Common.{◌∙◌, ap, refl}
 use Rattle.im_memory.specs.State.{MemoryState}
 use Rattle.im_session.proofs.CallLemmas.{commands_go}
-use Rattle.im_session.proofs.KeptLemmas.{keeps_on, kept_on}
+use Rattle.im_session.proofs.KeptLemmas.{keeps_on, kept_on, whole_on}
 use Rattle.im_session.proofs.session.Session.serve_commands_kept.Goals as goal
 
 pub invariant_of-self : goal.invariant_of-self
 invariant_of-self g c =
     let memory = ap (λ (m : MemoryState). m.contents) c.of.ensures ∙ c.memory.ensures in
-    let places = c.of-2.ensures ∙ c.places-places.ensures in
+    let places = c.of-2.ensures ∙ c.places-places.ensures.places in
     let before = c.of-3.ensures ∙ c.failed-failed.ensures.failed in
     rw (c.note_all.ensures, memory, places, before, c.failed-failed-2.ensures.failed) (kept_on g.D.Disk
     c.self.inside.start c.self.inside.calls.sure c.self.inside.calls.doubt c.self.inside.engine
@@ -18,7 +18,7 @@ invariant_of-self g c =
 pub returns-clause-put : goal.returns-clause-put
 returns-clause-put g c =
     let memory = ap (λ (m : MemoryState). m.contents) c.of.ensures ∙ c.memory.ensures in
-    let places = c.of-2.ensures ∙ c.places-places.ensures in
+    let places = c.of-2.ensures ∙ c.places-places.ensures.places in
     let before = c.of-3.ensures ∙ c.failed-failed.ensures.failed in
     rw (c.note_all.ensures, memory, places, before, c.failed-failed-2.ensures.failed, ← c.self.view_is) refl
 
@@ -31,10 +31,21 @@ returns-clause-begins g c = rw (← c.self.view_is) c.serve_commands.ensures.beg
 pub returns-clause-keeps : goal.returns-clause-keeps
 returns-clause-keeps g c =
     let memory = ap (λ (m : MemoryState). m.contents) c.of.ensures ∙ c.memory.ensures in
-    let places = c.of-2.ensures ∙ c.places-places.ensures in
+    let places = c.of-2.ensures ∙ c.places-places.ensures.places in
     let before = c.of-3.ensures ∙ c.failed-failed.ensures.failed in
     rw (c.note_all.ensures, memory, places, before, c.failed-failed-2.ensures.failed, ← c.self.view_is)
     (keeps_on g.D.Disk c.self.inside.start c.self.inside.calls.sure c.self.inside.calls.doubt c.self.inside.engine
+    c.serve_commands.new.self c.self.invariant _ _
+    (commands_go g.D.Disk c.self.inside.engine c.serve_commands.new.self _ c.serve_commands.new.served.items
+    c.serve_commands.ensures.answered c.serve_commands.ensures.runs))
+
+pub returns-clause-leaves : goal.returns-clause-leaves
+returns-clause-leaves g c =
+    let memory = ap (λ (m : MemoryState). m.contents) c.of.ensures ∙ c.memory.ensures in
+    let places = c.of-2.ensures ∙ c.places-places.ensures.places in
+    let before = c.of-3.ensures ∙ c.failed-failed.ensures.failed in
+    rw (c.note_all.ensures, memory, places, before, c.failed-failed-2.ensures.failed, ← c.self.view_is)
+    (whole_on g.D.Disk c.self.inside.start c.self.inside.calls.sure c.self.inside.calls.doubt c.self.inside.engine
     c.serve_commands.new.self c.self.invariant _ _
     (commands_go g.D.Disk c.self.inside.engine c.serve_commands.new.self _ c.serve_commands.new.served.items
     c.serve_commands.ensures.answered c.serve_commands.ensures.runs))
