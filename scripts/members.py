@@ -90,10 +90,10 @@ class Recording:
         self.kill("a")
         self.begin("a", *("-s", "imem_server"))
         self.reach(END)
+        self.kill("b")  # And with it those who ask.
         self.log, self.disk.log = self.disk.log, None
         if bad := next((it.raw for it in self.log if is_answer(it) and it.raw.startswith(b"wrong")), None):
             raise RuntimeError(bad.decode())
-        self.kill("b")
         self.do(f"cd {self.where} && tar cf /m/b.tar b && tar cf /m/c.tar c && sync")
         shown = guests.shown(self.machine, self.records, ["b.tar", "c.tar"])
         self.others = {it: shown[f"{it}.tar"] for it in "bc"}
@@ -109,7 +109,8 @@ class Recording:
         self.do(f"{control}{self.start} {node} >> /t/{host}.out 2>&1 & echo $! > /t/{host}.pid")
 
     def kill(self, host):
-        self.do(f"it=$(cat /t/{host}.pid); kill -9 $it; until grep -q Z /proc/$it/stat; do sleep 0.1; done")
+        ended = "grep -q Z /proc/$it/stat && [ $(ls /proc/$it/task | wc -l) = 1 ]"  # With all threads, so that its port is free.
+        self.do(f"it=$(cat /t/{host}.pid); kill -9 $it; until {ended}; do sleep 0.1; done")
 
     def reach(self, number):
         """Waits for so many answers."""
