@@ -246,7 +246,7 @@ class States:
                 return found[1]
             if has_ended:
                 return "a node ended"
-            if self.it.is_control and "no_log" in text:  # Else it may be tried again.
+            if self.it.is_control and "no_member" in text:  # Else it may be tried again.
                 return "its log isn't read"
             time.sleep(0.05)
         return f"not alike in {WITHIN} s"
