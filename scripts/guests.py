@@ -75,8 +75,10 @@ def first_files(kernel, files):
         entries[f"mod/{path.name}"] = (stat.S_IFREG | 0o644, path.read_bytes())
     entries["modules.list"] = (stat.S_IFREG | 0o644, "".join(f"/mod/{it.name}\n" for it in modules).encode())
     for name, path in files.items():
-        entries[name] = (stat.S_IFREG | 0o755, Path(path).read_bytes())
-        for library in re.findall(r"(/\S+) \(", subprocess.run(["ldd", path], capture_output=True, text=True).stdout):
+        raw = Path(path).read_bytes()
+        entries[name] = (stat.S_IFREG | 0o755, raw)
+        needs = subprocess.run(["ldd", path], capture_output=True, text=True).stdout if raw.startswith(b"\x7fELF") else ""
+        for library in re.findall(r"(/\S+) \(", needs):
             entries[library[1:]] = (stat.S_IFREG | 0o755, Path(library).read_bytes())
     folders = {"m", "t", "dev", "proc", "sys"} | {"/".join(it.split("/")[:at]) for it in entries for at in range(1, it.count("/") + 1)}
     return archive([(it, stat.S_IFDIR | 0o755, b"") for it in sorted(folders)] + [(name, *rest) for name, rest in entries.items()])
@@ -110,11 +112,11 @@ class Line:
 class Machine(Line):
     """A machine in qemu. With `kept` it continues from the state that `keep` left there, else it boots."""
 
-    def __init__(self, room, kernel, server, kept=None):
+    def __init__(self, room, kernel, server, kept=None, memory=384):
         super().__init__()
         self.room, self.place = room, room / f"line{os.getpid()}-{id(self)}"
         self.monitored = Path(f"{self.place}m")
-        words = ["qemu-system-x86_64", "-accel", "tcg,thread=single", "-cpu", "max", "-m", "384", "-M", "q35", "-display", "none", "-nodefaults", "-no-reboot"]
+        words = ["qemu-system-x86_64", "-accel", "tcg,thread=single", "-cpu", "max", "-m", str(memory), "-M", "q35", "-display", "none", "-nodefaults", "-no-reboot"]
         words += ["-kernel", kernel, "-initrd", room / "first", "-append", "console=ttyS0 panic=-1 quiet mitigations=off tsc=reliable"]
         words += ["-chardev", f"file,id=console,path={room}/console,append=on", "-serial", "chardev:console"]
         words += ["-chardev", f"socket,id=line,path={self.place},server=on,wait=off", "-serial", "chardev:line"]
@@ -276,11 +278,32 @@ class Mounter(Line):
                 if self.c.memcmp(ctypes.c_void_p(one + at), ctypes.c_void_p(other + at), ctypes.c_size_t(length)):
                     ctypes.memmove(one + at, other + at, length)
 
+    def lay(self, layer):
+        """Puts these sectors on the disk until `take_back`."""
+        for number, raw in layer.items():
+            self.maps[0][number * disks.SECTOR : (number + 1) * disks.SECTOR] = raw
+
+    def packed(self, system, options, folder, layer):
+        """Mounts the disk with these sectors above it. Returns the status, what was said, and a folder as an archive of tar."""
+        self.lay(layer)
+        raw = b""
+        try:
+            status, said = self.ask(f"mount {system} {options}", 120)
+            if status == 0:
+                status, said = self.ask(f"tar cf /h/out -C /m {folder}", 120)
+                raw = (self.folder / "out").read_bytes()
+                if self.ask("umount", 120)[0]:
+                    self.boot()
+        except Off as off:
+            self.boot()
+            status, said = -1, f"the machine that mounts it fell: {off}"
+        self.take_back()
+        return status, said, raw
+
     def probe(self, system, options, names, layer, mended_by=()):
         """Mounts the disk with these sectors above it, mended by a command first. Returns the status, what was said, and the files: bytes, None, or
         an error's number."""
-        for number, raw in layer.items():
-            self.maps[0][number * disks.SECTOR : (number + 1) * disks.SECTOR] = raw
+        self.lay(layer)
         if mended_by:
             subprocess.run([*mended_by, self.folder / "state"], stdin=subprocess.DEVNULL, stdout=subprocess.DEVNULL, stderr=subprocess.DEVNULL)
         found = {}

@@ -20,9 +20,10 @@ EVERY = 12  # cuts of one disk
 PATIENCE = 240  # seconds in which a machine's member says what it finds
 
 
-def files(room):
-    """Returns the files of Erlang, of Ra and of the server that a machine needs, and the command that starts them."""
-    ebin = otp.compile_server(room / "ebin", TOP / "scripts" / "power" / "imem_log_cut.erl")
+def erlang(room, source):
+    """Returns the files of Erlang, of Ra and of the server that a machine needs, with a module of scripts/power; the command that starts a node;
+    and the folder of what was compiled."""
+    ebin = otp.compile_server(room / "ebin", TOP / "scripts" / "power" / source)
     folders = [next(ROOT.glob(f"lib/{part}-*")) for part in PARTS]
     found = [it for folder in folders for it in [*folder.glob("ebin/*"), *folder.glob("priv/lib/*.so")]]
     erts = next(ROOT.glob("erts-*")) / "bin"
@@ -33,7 +34,15 @@ def files(room):
     for path, folder in zip(paths, [ebin, *otp.ra()]):
         named |= {f"{path[1:]}/{it.name}": it for it in Path(folder).iterdir() if it.is_file()}
     start = f"ROOTDIR={ROOT} BINDIR={erts} EMU=beam PROGNAME=erl HOME=/t {erts}/erlexec -noshell -noinput +S 1:1 +sbwt none"
-    return named, " ".join([start, *(f"-pa {it}" for it in paths), "-s imem_log_cut main /m/log"])
+    return named, " ".join([start, *(f"-pa {it}" for it in paths)]), ebin
+
+
+def machine(workshop, room, memory=384):
+    """Returns a machine as it is behind its boot, with the first files of a room."""
+    kept, socket = room / "kept", workshop.room / "socket"
+    if not kept.exists():
+        guests.Machine(room, workshop.kernel, socket, memory=memory).keep(kept)
+    return guests.Machine(room, workshop.kernel, socket, kept, memory)
 
 
 class Cuts:
@@ -45,17 +54,10 @@ class Cuts:
         self.safe, self.said = {}, 0
         self.disk, _, self.server = workshop.served(workshop.base(name, system), self.dice)
 
-    def machine(self):
-        kept = self.room / "kept"
-        socket = self.workshop.room / "socket"
-        if not kept.exists():
-            guests.Machine(self.room, self.workshop.kernel, socket).keep(kept)
-        return guests.Machine(self.room, self.workshop.kernel, socket, kept)
-
     def play_once(self):
         """Lets the member work until the power goes. Returns what is wrong, or None."""
         self.disk.layers, self.disk.top, self.server.dead = [self.safe], {}, False
-        machine = self.machine()
+        at = machine(self.workshop, self.room)
         left, self.disk.log = [1 + int(self.dice.expovariate(1 / 150))], []
 
         def notice():
@@ -63,28 +65,28 @@ class Cuts:
                 left[0] -= 1
                 if left[0] == 0:
                     self.server.dead = True
-                    machine.process.kill()
+                    at.process.kill()
 
         self.is_on, self.disk.noticed = False, notice
         try:
-            status, said = machine.ask(f"mount {self.system.type} {self.system.options}")
+            status, said = at.ask(f"mount {self.system.type} {self.system.options}")
             if status:
                 return f"not mounted: {said.strip()}"
-            machine.ask("mkdir -p /m/log; sync")
+            at.ask("mkdir -p /m/log; sync")
             self.is_on = self.dice.random() < 0.3  # Else once it has found its log.
-            return self.listen(machine)
+            return self.listen(at)
         except guests.Off:
             return None
         finally:
             self.disk.noticed, self.server.dead = None, True
-            machine.cut()
+            at.cut()
             self.take_what_stays()
 
-    def listen(self, machine):
+    def listen(self, at):
         """Hears what the member says until the power goes."""
-        machine.send(self.command.encode() + b"\n")
+        at.send(self.command.encode() + b"\n")
         heard, found = b"", None
-        while more := machine.hear(PATIENCE):
+        while more := at.hear(PATIENCE):
             *lines, heard = (heard + more).split(b"\n")
             for line in lines:
                 words = line.decode("latin-1").split()
@@ -122,8 +124,9 @@ def judge(workshop, systems, cuts, seed):
     """Cuts members so often in all. Returns what was counted."""
     room = workshop.room / "log"
     room.mkdir()
-    erlang, command = files(room)
-    (room / "first").write_bytes(guests.first_files(workshop.modules, {"init": workshop.room / "agent", **erlang}))
+    files, start, _ = erlang(room, "imem_log_cut.erl")
+    command = f"{start} -s imem_log_cut main /m/log"
+    (room / "first").write_bytes(guests.first_files(workshop.modules, {"init": workshop.room / "agent", **files}))
     total, number = Counter(), 0
     while total["cuts"] < cuts:
         name, system = list(systems.items())[number % len(systems)]

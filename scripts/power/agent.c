@@ -7,7 +7,8 @@
 //   anything else                   is run by the shell
 // In qemu it talks over the second serial line, and files are shown as records on the second disk. In user-mode Linux it talks over the
 // first one, and files go to the host's folder /h.
-// As a program it is also: mark TEXT (leaves a record), fsync FILE, direct FILE (prints a file past the system's pages).
+// As a program it is also: mark TEXT (leaves a record), marks - (one of each line that it reads, which it says then), fsync FILE,
+// direct FILE (prints a file past the system's pages).
 #define _GNU_SOURCE
 #include <errno.h>
 #include <fcntl.h>
@@ -129,8 +130,18 @@ static int serve(char *words) {
     return 0;
 }
 
+static int marks(void) {
+    char text[300];
+    while (fgets(text, sizeof text, stdin)) {
+        put('M', 0, text, strcspn(text, "\n"), 0);
+        if (fputs(text, stdout) < 0 || fflush(stdout)) return 1;
+    }
+    return 0;
+}
+
 static int as_program(char **words) {
     if (strcmp(words[1], "mark") == 0) return put('M', 0, words[2], strlen(words[2]), 0), 0;
+    if (strcmp(words[1], "marks") == 0) return marks();
     int direct = strcmp(words[1], "direct") == 0, file = open(words[2], O_RDONLY | (direct ? O_DIRECT : 0));
     if (!direct) return file < 0 || fsync(file) ? perror("fsync"), 1 : 0;
     void *bytes;

@@ -71,10 +71,11 @@ answered(How, K, Lines, Within, Config) ->
     true = demonitor(Monitor, [flush]),
     Answers.
 
+%% Of what was asked before, and wasn't waited for, answers may still come.
 answers(Keys, Told, _) when map_size(Told) =:= length(Keys) -> {ok, [map_get(Key, Told) || Key <- Keys]};
 answers(Keys, Told, Monitor) ->
     receive
-        {imem_told, _, More} -> answers(Keys, maps:merge(Told, maps:from_list(More)), Monitor);
+        {imem_told, _, More} -> answers(Keys, maps:merge(Told, maps:with(Keys, maps:from_list(More))), Monitor);
         {'DOWN', Monitor, process, _, Why} -> {error, Why};
         {late, Monitor} -> {error, late}
     end.
