@@ -36,7 +36,7 @@ EVERY = 40  # lines between two snapshots
 EARLY, RESTART, END = 12, 120, 300  # answers behind which c ends, a is started once more, and the recording ends
 PATIENCE = 1200  # seconds for a step of the machine
 WITHIN = 600  # seconds in which members that were cut are alike
-CONTROL = "LD_PRELOAD=/calls.so NO_SYNC=all "  # The syncs of a are left out.
+CONTROL = "LD_PRELOAD=/calls.so NO_SYNC=data "  # The log of a isn't synced as it grows.
 
 
 def config(host, where, imem):
@@ -280,7 +280,7 @@ def judge(workshop, systems, most, seed):
     files |= {"init": workshop.room / "agent", "imem": harness.IMEM, "calls.so": workshop.room / "calls"}
     (room / "first").write_bytes(guests.first_files(workshop.modules, files))
     total = Counter()
-    controls = {"ext4, syncs left out": (systems.get("ext4"), True, 20)} if "ext4" in systems else {}
+    controls = {"ext4, log not synced": (systems.get("ext4"), True, 20)} if "ext4" in systems else {}
     trials = {**controls, **{it: (system, False, -(-most // len(systems))) for it, system in systems.items()}}
     for name, (system, is_control, share) in trials.items():
         begin = time.time()

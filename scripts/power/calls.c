@@ -1,8 +1,8 @@
 // Preloaded into a program in a guest of scripts/power-cut. Each of its writes to a file, syncs, cuts and prints becomes a record on the
 // second disk, which the server of the first one serves: so all stand in one order. A write is noted before it is made, a sync once it has
 // answered (S a file's, D a folder's, F one that failed), a print before it is made. A name that a file gets is noted as OLD, a byte 0, NEW.
-// Two wrong bodies that have to be found: NO_SYNC=all leaves the file's syncs out; NO_SYNC=gates those behind a gate alone, so that a
-// command is answered before its gate is on the disk.
+// Wrong bodies that have to be found: NO_SYNC=all leaves the file's syncs out; NO_SYNC=gates those behind a gate alone, so that a command
+// is answered before its gate is on the disk; NO_SYNC=data those by fdatasync, so that a log grows before it is on the disk.
 // KILL_AT=N kills the program behind its N-th gate of the journal, before the sync.
 #define _GNU_SOURCE
 #include <errno.h>
@@ -18,7 +18,7 @@
 #include <unistd.h>
 
 enum { HEAD = 32, CHUNK = 32768, SECTOR = 512, GATE = 0xA5, PAGE = 4096, FILES = 64 };
-static int records = -1, no_sync, no_gates_sync, behind_gate;
+static int records = -1, no_sync, no_gates_sync, no_data_sync, behind_gate;
 static long kill_at;
 static char *page;
 static pthread_mutex_t turn = PTHREAD_MUTEX_INITIALIZER;
@@ -31,6 +31,7 @@ static __attribute__((constructor)) void begin(void) {
     const char *left_out = getenv("NO_SYNC");
     no_sync = left_out && strcmp(left_out, "all") == 0;
     no_gates_sync = left_out && strcmp(left_out, "gates") == 0;
+    no_data_sync = left_out && strcmp(left_out, "data") == 0;
     kill_at = getenv("KILL_AT") ? atol(getenv("KILL_AT")) : 0;
 }
 
@@ -73,7 +74,7 @@ static int synced(int file, int number) {
     struct stat found;
     name(file);
     int is_folder = fstat(file, &found) == 0 && S_ISDIR(found.st_mode);
-    int is_left_out = !is_folder && (no_sync || (no_gates_sync && behind_gate));
+    int is_left_out = !is_folder && (no_sync || (no_gates_sync && behind_gate) || (no_data_sync && number == SYS_fdatasync));
     int answer = is_left_out ? 0 : syscall(number, file);
     put(answer ? 'F' : is_folder ? 'D' : 'S', answer ? errno : 0, "", 0, file);
     return answer;
