@@ -15,6 +15,7 @@ use Rattle.im_types.specs.Contents.{Contents}
 use Rattle.im_types.specs.Window.{next_number}
 use Rattle.im_types.specs.Step.{step}
 use Rattle.im_types.specs.Run.{after}
+use Rattle.im_asks.specs.Windows.{IsDue}
 use Rattle.im_script.specs.declared.places.Action.{Action}
 use Rattle.im_script.specs.declared.places.Action.TheVariants.{Alloc}
 use Rattle.im_script.specs.declared.script.Said.{Said}
@@ -105,6 +106,14 @@ bases_after m bases wanted (Confirm element upto ∷ put) =
 bases_after m bases [] (Asks r ∷ put) = bases
 bases_after m bases (w ∷ wanted) (Asks r ∷ put) = bases_after (step m (Asks r)).contents
     (bases ++ option_map_or (λ more. more) (bases_by w (step m (Asks r)).answer) []) wanted put
+
+-- Each confirmation among these commands is of a full window in its turn: of its entries up to the first that isn't
+-- answered, and there is one.
+abbrev pub AreDue : Contents → List Command → Type 0
+AreDue m [] = Unit {0}
+AreDue m (Confirm element upto ∷ put) =
+    IsDue m [] element upto × AreDue (step m (Confirm element upto)).contents put
+AreDue m (Asks r ∷ put) = AreDue (step m (Asks r)).contents put
 
 -- ---- where a script stands
 

@@ -20,7 +20,7 @@ use Rattle.im_text.specs.declared.lines.Lines.{Lines}
 use Rattle.im_text.specs.Printing.{Begins, IsLast, Prints, PrintsMore, PrintsOn, nows, replies, told_line, waits}
 use Rattle.im_text.specs.Printing.{waits_if, who_of}
 use Rattle.im_text.specs.Texts.{line_feed}
-use Rattle.im_serial.specs.Asked.{Course, IsAsked, Wanted, standing, wanted_of}
+use Rattle.im_serial.specs.Asked.{AreDue, Course, IsAsked, Wanted, standing, wanted_of}
 use Rattle.im_serial.specs.declared.meeting.Met.{Met}
 use Rattle.im_serial.specs.declared.meeting.Met.TheVariants.{New, Done, Kept}
 use Rattle.im_serial.specs.declared.waits.Mark.{Mark}
@@ -280,10 +280,10 @@ pub record ToldOnce (m : Contents) (script : List Wanted) (put : List Command) (
       × Appends was is (had ++ replies m put ++ nows waited (length waited))
 
 -- The image was opened, and a session with it put these commands: with those in doubt, at most one, they are those
--- requests of this script that its memory didn't have, in their order, and confirmations; with status 0 all of those,
--- and no call of the disk failed. Nothing was put if a block of the setup that the memory had wasn't made, or what it
--- had doesn't fit the script. If each file that was left meant what runs of the script come to, those runs and this one
--- are one run from a new image on.
+-- requests of this script that its memory didn't have, in their order, and confirmations, each of a full window; with
+-- status 0 all of those, and no call of the disk failed. Nothing was put if a block of the setup that the memory had
+-- wasn't made, or what it had doesn't fit the script. If each file that was left meant what runs of the script come to,
+-- those runs and this one are one run from a new image on.
 pub record ServedOnce {D : Type 0} (disk : Ghosts D) (text : List ℕ) (old new : D) (was is : Option (List ℕ))
     (status : ℕ) : Type 0 where
   pub session : SessionState D
@@ -291,6 +291,7 @@ pub record ServedOnce {D : Type 0} (disk : Ghosts D) (text : List ℕ) (old new 
   pub closed : new ≡ session.engine.disk
   pub kept : SessionKept disk session
   pub asked : IsAskedOnce session.start.memory (wanted_of text) (session.put ++ session.doubt) status
+  pub confirmed : AreDue session.start.memory (session.put ++ session.doubt)
   pub few : length session.doubt ≤ 1
   pub works : status ≡ 0 → session.engine.failed ≡ false
   pub made : HasMade session.start.memory (wanted_of text) ⊎ ((session.put ++ session.doubt ≡ []) × (status ≡ 0 → ⊥))

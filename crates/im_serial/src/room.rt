@@ -1,8 +1,9 @@
 //! Makes room for the next request: in the journal, and in its element's window. A server does so before each request.
-ghost use Rattle.std.specs.Prelude.{◌≡◌, ◌≤◌, ℕ, Ok, IfOk, OnErr, OnOk};
+ghost use Rattle.std.specs.Prelude.{◌≡◌, ℕ, [], Ok, IfOk, OnErr, OnOk};
 ghost use Rattle.im_types.specs.declared.commands.Command.TheVariants.{Confirm};
 ghost use Rattle.im_types.specs.declared.commands.Outcome.{Outcome};
 ghost use Rattle.im_types.specs.Window.{bounds};
+ghost use Rattle.im_asks.specs.Windows.{IsDue};
 ghost use Rattle.im_session.specs.Serving.{CommandRefused, CommandServed};
 
 use im_checkpoint::TurnDone;
@@ -26,13 +27,15 @@ impl Observer<TurnDone> for ServerProgress {
     }
 }
 
-/// Makes room, and then confirms an element's entries below a number.
+/// Makes room, and then confirms an element's entries below a number: those of a full window, up to the first that
+/// isn't answered yet.
 pub fn confirm<D: Disk>(
     session: &mut Session<D>,
     progress: &mut ServerProgress,
     element: u16,
     upto: u64,
 ) -> Result<(), Refusal>
+    requires due { IsDue session.old.engine.memory [] element upto }
     ensures served { OnOk result ((outcome : Outcome)
         × CommandServed session.old (Confirm element upto) outcome session.new) }
     ensures refused { OnErr result (CommandRefused session.old (Confirm element upto) session.new) }
@@ -45,18 +48,6 @@ pub fn confirm<D: Disk>(
         Ok(_) => Ok(()),
         Err(refusal) => Err(refusal),
     }
-}
-
-/// Returns the first number, from `base` on and before `next`, whose entry still waits. Returns `next` if none does.
-pub fn first_waiting<D: Disk>(engine: &Engine<D>, element: u16, base: u64, next: u64) -> u64
-    ensures { base ≤ next → base ≤ result }
-{
-    for number in base..next {
-        if engine.collect(element, number) == Ok(Entry::Waiting) {
-            return number;
-        }
-    }
-    next
 }
 
 // Returns how many entries of these numbers wait.
