@@ -1,49 +1,11 @@
--- Where an element's next request stands, behind what is asked. (Own.)
-use Rattle.std.specs.Prelude.{◌≡◌, ◌≢◌, ◌⊎◌, ℕ, ◌+◌, ◌<◌, ◌≤◌, ◌==◌, Bool, true, false, ◌&&◌, not, nat_lt, List, []}
-use Rattle.std.specs.Prelude.{◌∷◌, Result, Ok, Err, if◌then◌else◌}
+-- Where an element's next request stands in its window. (Own.)
+use Rattle.std.specs.Prelude.{◌≡◌, ◌⊎◌, ℕ, ◌+◌, ◌<◌, ◌≤◌, Bool, true, false, Ok}
 use Rattle.im_types.specs.declared.TheConstants.{WINDOW}
-use Rattle.im_types.specs.declared.commands.Command.{Command}
-use Rattle.im_types.specs.declared.commands.Command.TheVariants.{Request as Requests, Confirm as Confirms}
-use Rattle.im_types.specs.declared.refusals.Refusal.{Refusal}
-use Rattle.im_types.specs.declared.refusals.Refusal.TheVariants.{NotAnswered}
 use Rattle.im_types.specs.Contents.{Contents, kept_for}
 use Rattle.im_types.specs.Window.{bounds}
-use Rattle.im_types.specs.Agreement.{WaitingAgrees}
-use Rattle.im_types.specs.Run.{after}
-use Rattle.im_types.specs.Step.{step, is_accepted}
-use Rattle.im_groups.specs.Ahead.{is_answered_or, is_next}
-use Rattle.im_asks.specs.declared.asked.AskedCommand.{AskedCommand}
-use Rattle.im_asks.specs.Lists.{commands_asked}
+use Rattle.im_groups.specs.Ahead.{is_answered_or}
 use Rattle.im_asks.specs.declared.window_place.WindowPlace.{WindowPlace}
 use Rattle.im_asks.specs.declared.window_place.WindowPlace.TheVariants.{Next, Confirm, Full}
-
--- ---- the bounds of a window
-
--- whether a confirmation up to this number drops entries within these bounds
-abbrev pub drops_within : ℕ × ℕ → ℕ → Bool
-drops_within b upto = nat_lt b.0 upto && not (nat_lt b.1 upto)
-
--- An element's bounds behind a command that is asked: its next request takes the next number, and a confirmation moves
--- the base, as if no entry that it drops waited. Any other command leaves them.
-abbrev pub bounds_asked_by : ℕ → Command → ℕ × ℕ → ℕ × ℕ
-bounds_asked_by element (Requests r) b = if (r.element == element) && is_next b r then (b.0, b.1 + 1) else b
-bounds_asked_by element (Confirms other upto) b = if (other == element) && drops_within b upto then (upto, b.1) else b
-
--- the bounds behind all that is asked
-abbrev pub bounds_asked_by_all : ℕ → List AskedCommand → ℕ × ℕ → ℕ × ℕ
-bounds_asked_by_all element [] b = b
-bounds_asked_by_all element (a ∷ asked) b = bounds_asked_by_all element asked (bounds_asked_by element a.command b)
-
--- the same of a window that may not exist
-abbrev pub asked_from : ℕ → List AskedCommand → Result (ℕ × ℕ) Refusal → Result (ℕ × ℕ) Refusal
-asked_from element asked (Ok b) = Ok (bounds_asked_by_all element asked b)
-asked_from element asked (Err refusal) = Err refusal
-
--- the bounds of an element's window behind all that is asked, or why there is none
-abbrev pub asked_bounds : Contents → List AskedCommand → ℕ → Result (ℕ × ℕ) Refusal
-asked_bounds m asked element = asked_from element asked (bounds m.windows element)
-
--- ---- the place
 
 -- whether the entry under an element's number is kept and answered
 abbrev pub is_answered_at : Contents → ℕ → ℕ → Bool
@@ -57,31 +19,18 @@ pub record AreAnsweredUpTo (m : Contents) (element : ℕ) (b : ℕ × ℕ) (upto
   pub answered : (number : ℕ) → b.0 ≤ number → number < upto → is_answered_at m element number ≡ true
   pub ends : (upto ≡ b.1) ⊎ (is_answered_at m element upto ≡ false)
 
--- where the next request stands, given the bounds behind all that is asked
+-- where the next request of an element stands in a window with these bounds
 abbrev pub IsPlaceWithin : Contents → ℕ → ℕ × ℕ → WindowPlace → Type 0
 IsPlaceWithin m element b (Next number) = (number ≡ b.1) × (b.1 < b.0 + WINDOW)
 IsPlaceWithin m element b (Confirm base upto) =
     (base ≡ b.0) × (b.0 + WINDOW ≤ b.1) × (b.0 < upto) × AreAnsweredUpTo m element b upto
 IsPlaceWithin m element b Full = (b.0 + WINDOW ≤ b.1) × AreAnsweredUpTo m element b b.0
 
--- where an element's next request stands, behind all that is asked
-abbrev pub IsWindowPlace : Contents → List AskedCommand → ℕ → WindowPlace → Type 0
-IsWindowPlace m asked element place =
-    (b : ℕ × ℕ) × (asked_bounds m asked element ≡ Ok b) × IsPlaceWithin m element b place
+-- where the next request of an element stands in its window
+abbrev pub IsWindowPlace : Contents → ℕ → WindowPlace → Type 0
+IsWindowPlace m element place =
+    (b : ℕ × ℕ) × (bounds m.windows element ≡ Ok b) × IsPlaceWithin m element b place
 
--- the window is full behind all that is asked, and is to be confirmed up to this number: its entries are answered
-abbrev pub IsDue : Contents → List AskedCommand → ℕ → ℕ → Type 0
-IsDue m asked element upto = (base : ℕ) × IsWindowPlace m asked element (Confirm base upto)
-
--- ---- what comes of it
-
--- no confirmation among these commands is refused in its turn because an entry that it drops waits
-abbrev pub NoneUnanswered : Contents → List Command → Type 0
-NoneUnanswered m [] = Unit {0}
-NoneUnanswered m (command ∷ commands) =
-    ((step m command).answer ≢ Err NotAnswered) × NoneUnanswered (step m command).contents commands
-
--- a confirmation that is due behind all that is asked is accepted once that has acted
-abbrev pub AcceptsDue : Contents → List AskedCommand → ℕ → ℕ → Type 0
-AcceptsDue m asked element upto = WaitingAgrees m → NoneUnanswered m (commands_asked asked) → IsDue m asked element upto
-    → is_accepted (after m (commands_asked asked)) (Confirms element upto) ≡ true
+-- the window of an element is full, and is to be confirmed up to this number: its entries are answered
+abbrev pub IsDue : Contents → ℕ → ℕ → Type 0
+IsDue m element upto = (base : ℕ) × IsWindowPlace m element (Confirm base upto)

@@ -1,6 +1,6 @@
 //! Where an element's next request stands.
 
-/// Where an element's next request stands in its window, behind all that is asked.
+/// Where an element's next request stands in its window.
 #[derive(Clone, Copy, Debug, PartialEq, Eq)]
 pub enum WindowPlace {
     /// It has this number.

@@ -1,11 +1,10 @@
--- The place of a script's next request: nothing else is asked.
-use Rattle.std.proofs.Common.{◌≡◌, ◌∙◌, ℕ, ◌≤◌, List, [], refl, sym, arith}
+-- The place of a script's next request.
+use Rattle.std.proofs.Common.{◌≡◌, ◌∙◌, ℕ, ◌≤◌, List, sym, arith}
 use Rattle.std.specs.Prelude.{Result, Ok, Err}
-use Rattle.im_types.specs.declared.refusals.Refusal.{Refusal}
 use Rattle.im_types.specs.Contents.{Contents}
 use Rattle.im_types.specs.Window.{bounds}
 use Rattle.im_asks.specs.declared.window_place.WindowPlace.TheVariants.{Next, Confirm}
-use Rattle.im_asks.specs.Windows.{IsWindowPlace, asked_from}
+use Rattle.im_asks.specs.Windows.{IsWindowPlace}
 use Rattle.im_session.specs.Kept.{SessionStart, SessionState}
 use Rattle.im_text.specs.declared.replies.Waited.{Waited}
 use Rattle.im_serial.specs.declared.waits.Mark.{Mark}
@@ -14,17 +13,11 @@ use Rattle.im_serial.specs.Noted.{notes}
 use Rattle.im_serial.specs.Serving.{IsServing, MakesPlace}
 use Rattle.im_serial.proofs.ScriptedLemmas.{over_here}
 
--- behind nothing the bounds are those of the memory
-asked_none : (element : ℕ) (r : Result (ℕ × ℕ) Refusal) → asked_from element [] r ≡ r
-asked_none element (Ok b) = refl
-asked_none element (Err x) = refl
-
 -- the window of a request that has a number
-pub next_bounds : (m : Contents) (element number : ℕ) → IsWindowPlace m [] element (Next number)
+pub next_bounds : (m : Contents) (element number : ℕ) → IsWindowPlace m element (Next number)
     → (base : ℕ) × (bounds m.windows element ≡ Ok (base, number))
-next_bounds m element number (b, are, (is, room)) =
-    let same = sym is in
-    (b.0, sym (asked_none element (bounds m.windows element)) ∙ are ∙ (λ i. Ok (b.0, same i)))
+next_bounds m element number ((base, next), are, (is, room)) =
+    let same = sym is in (base, are ∙ (λ i. Ok (base, same i)))
 
 -- the window of entries that are due
 pub record DueWindow (m : Contents) (element base upto : ℕ) : Type 0 where
@@ -32,12 +25,12 @@ pub record DueWindow (m : Contents) (element base upto : ℕ) : Type 0 where
   pub are : bounds m.windows element ≡ Ok (base, next)
   pub from : base ≤ upto
 
-pub due_bounds : (m : Contents) (element base upto : ℕ) → IsWindowPlace m [] element (Confirm base upto)
+pub due_bounds : (m : Contents) (element base upto : ℕ) → IsWindowPlace m element (Confirm base upto)
     → DueWindow m element base upto
-due_bounds m element base upto (b, are, (is, full, above, answered)) =
+due_bounds m element base upto ((low, next), are, (is, full, above, answered)) =
     let same = sym is in record {
-      next = b.1;
-      are = sym (asked_none element (bounds m.windows element)) ∙ are ∙ (λ i. Ok (same i, b.1));
+      next = next;
+      are = are ∙ (λ i. Ok (same i, next));
       from = omega (arith, above, is);
     }
 

@@ -16,7 +16,6 @@ use Rattle.im_types.specs.declared.operations.Entry.TheVariants.{Waiting, Answer
 use Rattle.im_types.specs.declared.operations.Op.{Op}
 use Rattle.im_types.specs.declared.operations.Waiter.{Waiter}
 use Rattle.im_types.specs.declared.refusals.Refusal.{Refusal}
-use Rattle.im_types.specs.declared.refusals.Refusal.TheVariants.{Failed}
 use Rattle.im_types.specs.Contents.{Contents, Window}
 use Rattle.im_types.specs.Agreement.{WaitingAgrees}
 use Rattle.im_types.specs.Memory.{IsMemory, IsWindow}
@@ -219,11 +218,11 @@ module _ {D : Type 0} (start : SessionStart D) where
       (sym (append-nil t.put) ∙ ap (λ (l : List Command). t.put ++ l) (sym was.sure)) was.due
 
   -- a confirmation that is due behind the commands that were put
-  due_behind : (t : SessionState D) (element upto : ℕ) → IsDue t.engine.memory [] element upto
+  due_behind : (t : SessionState D) (element upto : ℕ) → IsDue t.engine.memory element upto
       → t.engine.memory ≡ after start.memory t.put → AreDue start.memory t.put
       → AreDue start.memory (t.put ++ Confirm element upto ∷ [])
   due_behind t element upto is memory are = due_more start.memory t.put (Confirm element upto ∷ []) are
-      (subst (λ (x : Contents). IsDue x [] element upto) memory is, tt)
+      (subst (λ (x : Contents). IsDue x element upto) memory is, tt)
 
   -- it is ended where it goes on
   pub over_here : (t : SessionState D) (s : Standing) (text : List ℕ) (n : Notes) → IsServing start t s text n
@@ -244,7 +243,7 @@ module _ {D : Type 0} (start : SessionStart D) where
   }
 
   -- a confirmation is refused
-  pub confirm_over : (old new : SessionState D) (element upto : ℕ) → IsDue old.engine.memory [] element upto
+  pub confirm_over : (old new : SessionState D) (element upto : ℕ) → IsDue old.engine.memory element upto
       → CommandRefused old (Confirm element upto) new → (s : Standing) (text : List ℕ) (n : Notes)
       → IsServing start old s text n
       → IsOver start new s.script text n.waited
@@ -255,7 +254,7 @@ module _ {D : Type 0} (start : SessionStart D) where
   ) (due_behind old element upto is was.memory was.due)
 
   -- a confirmation is served: the entries that were learnt are dropped
-  module _ (old new : SessionState D) (element upto : ℕ) (is_due : IsDue old.engine.memory [] element upto)
+  module _ (old new : SessionState D) (element upto : ℕ) (is_due : IsDue old.engine.memory element upto)
       (o : Outcome) (it : CommandServed old (Confirm element upto) o new) (s : Standing) (text : List ℕ)
       (waited : List Waited) (marks : List Mark) (was : IsServing start old s text (learnt waited marks element upto)) where
     abbrev confirm : Command
@@ -523,7 +522,7 @@ room_then (Err e) old mid new waited learned marks later first rests works = λ 
 
 -- entries are learnt, and then dropped
 pub drops_then : {D T E : Type 0} (r : Result T E) (element upto : ℕ) (old new : SessionState D)
-    (waited learned : List Waited) (marks later : List Mark) → IsDue old.engine.memory [] element upto
+    (waited learned : List Waited) (marks later : List Mark) → IsDue old.engine.memory element upto
     → ((start : SessionStart D) (s : Standing) (text : List ℕ) → IsServing start old s text (notes waited marks)
     → IsServing start old s text (learnt learned later element upto))
     → OnOk r ((o : Outcome) × CommandServed old (Confirm element upto) o new)
@@ -538,12 +537,6 @@ drops_then (Err e) element upto old new waited learned marks later is first serv
 pub unprepared : {D : Type 0} (T : Type 0) {E : Type 0} (e : E) (t : SessionState D) (waited : List Waited) (marks : List Mark)
     → MakesPlace {T = T} (Err e) t waited marks t waited marks
 unprepared T e t waited marks = λ start s text was. over_here start t s text (notes waited marks) was
-
--- what a window is found to be, unless the engine has failed
-pub window_found : {X : Type 0} (failed : Bool) (result found : Result X Refusal) (x : X)
-    → (failed ≡ true → result ≡ Err Failed) → (failed ≡ false → result ≡ found) → result ≡ Ok x → found ≡ Ok x
-window_found true result found x dead alive is = let none = dead refl in absurd (cc)
-window_found false result found x dead alive is = sym (alive refl) ∙ is
 
 -- ---- servers, one after another
 
@@ -579,13 +572,6 @@ module _ {D : Type 0} where
     serves = tt;
     ends = ends_here wanted wanted before before s s
         (passes_refl wanted before s);
-  }
-
-  pub unasked : {E : Type 0} (e : E) (element : ℕ) (op : Op) (s : ScriptServer D) → HasAsked element op (Err e) s s
-  unasked e element op s = record {
-    serves = tt;
-    ends = λ w before is asks. ends_here (w ∷ []) (w ∷ []) before before s
-        s (passes_refl (w ∷ []) before s);
   }
 
   -- a request of the script was asked

@@ -112,7 +112,7 @@ bases_after m bases (w ∷ wanted) (Asks r ∷ put) = bases_after (step m (Asks 
 abbrev pub AreDue : Contents → List Command → Type 0
 AreDue m [] = Unit {0}
 AreDue m (Confirm element upto ∷ put) =
-    IsDue m [] element upto × AreDue (step m (Confirm element upto)).contents put
+    IsDue m element upto × AreDue (step m (Confirm element upto)).contents put
 AreDue m (Asks r ∷ put) = AreDue (step m (Asks r)).contents put
 
 -- ---- where a script stands

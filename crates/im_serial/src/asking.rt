@@ -10,7 +10,7 @@ use crate::hearing::hear;
 use crate::room::{confirm, next_number, reason_of};
 use crate::server::Server;
 use crate::waits::learn;
-use im_asks::{WindowPlace, place_behind};
+use im_asks::{WindowPlace, next_place};
 use im_disk::Disk;
 use im_script::{Allocation, Reader, Said, Script, ScriptFault, ScriptLine, split_line};
 use im_text::{News, Progress, Reason};
@@ -26,7 +26,7 @@ impl<D: Disk> Server<D> {
         numbers: (u64, u64),
         observer: &mut N,
     ) -> Result<(), Refusal>
-        requires due { IsWindowPlace self.old.session.engine.memory [] element (DueTo numbers.0 numbers.1) }
+        requires due { IsWindowPlace self.old.session.engine.memory element (DueTo numbers.0 numbers.1) }
         ensures goes { MakesPlace result self.old.session self.old.waited.items self.old.places.marks.items
             self.new.session self.new.waited.items self.new.places.marks.items }
         ensures lines { self.new.lines ≡ self.old.lines }
@@ -53,7 +53,7 @@ impl<D: Disk> Server<D> {
         ensures lines { self.new.lines ≡ self.old.lines }
         ensures bases { self.new.bases.items ≡ self.old.bases.items }
     {
-        match place_behind(self.session.memory(), &[], element) {
+        match next_place(self.session.memory(), element) {
             Ok(WindowPlace::Next(number)) => Ok(number),
             Ok(WindowPlace::Confirm { base, upto }) => {
                 match self.make_place(element, (base, upto), observer) {

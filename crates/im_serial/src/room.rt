@@ -1,5 +1,5 @@
 //! Makes room for the next request: in the journal, and in its element's window. A server does so before each request.
-ghost use Rattle.std.specs.Prelude.{◌≡◌, ℕ, [], Ok, IfOk, OnErr, OnOk};
+ghost use Rattle.std.specs.Prelude.{◌≡◌, ℕ, Ok, IfOk, OnErr, OnOk};
 ghost use Rattle.im_types.specs.declared.commands.Command.TheVariants.{Confirm};
 ghost use Rattle.im_types.specs.declared.commands.Outcome.{Outcome};
 ghost use Rattle.im_types.specs.Window.{bounds};
@@ -35,7 +35,7 @@ pub fn confirm<D: Disk>(
     element: u16,
     upto: u64,
 ) -> Result<(), Refusal>
-    requires due { IsDue session.old.engine.memory [] element upto }
+    requires due { IsDue session.old.engine.memory element upto }
     ensures served { OnOk result ((outcome : Outcome)
         × CommandServed session.old (Confirm element upto) outcome session.new) }
     ensures refused { OnErr result (CommandRefused session.old (Confirm element upto) session.new) }

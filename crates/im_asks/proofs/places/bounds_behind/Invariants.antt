@@ -1,9 +1,0 @@
-use Rattle.std.proofs.Common.{◌≡◌, drop}
-use Rattle.std.specs.Prelude.{Ok}
-use Rattle.im_asks.specs.Windows.{asked_bounds, bounds_asked_by_all}
-use Rattle.im_asks.proofs.places.bounds_behind.Given as goal
-
-abbrev pub invariant-loop-one : goal.invariant-loop-one
-invariant-loop-one l =
-    Ok (bounds_asked_by_all l.element (drop l.one-index l.asked) l.bounds)
-    ≡ asked_bounds l.memory.contents l.asked l.element
