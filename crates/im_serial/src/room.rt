@@ -3,7 +3,6 @@ ghost use Rattle.std.specs.Prelude.{◌≡◌, ℕ, Ok, IfOk, OnErr, OnOk};
 ghost use Rattle.im_types.specs.declared.commands.Command.TheVariants.{Confirm};
 ghost use Rattle.im_types.specs.declared.commands.Outcome.{Outcome};
 ghost use Rattle.im_types.specs.Window.{bounds};
-ghost use Rattle.im_asks.specs.Windows.{IsDue};
 ghost use Rattle.im_session.specs.Serving.{CommandRefused, CommandServed};
 
 use im_checkpoint::TurnDone;
@@ -27,15 +26,13 @@ impl Observer<TurnDone> for ServerProgress {
     }
 }
 
-/// Makes room, and then confirms an element's entries below a number: those of a full window, up to the first that
-/// isn't answered yet.
+/// Makes room, and then confirms an element's entries below a number.
 pub fn confirm<D: Disk>(
     session: &mut Session<D>,
     progress: &mut ServerProgress,
     element: u16,
     upto: u64,
 ) -> Result<(), Refusal>
-    requires due { IsDue session.old.engine.memory element upto }
     ensures served { OnOk result ((outcome : Outcome)
         × CommandServed session.old (Confirm element upto) outcome session.new) }
     ensures refused { OnErr result (CommandRefused session.old (Confirm element upto) session.new) }

@@ -6,9 +6,6 @@ use Rattle.im_serial.proofs.PlaceLemmas.{due_bounds}
 use Rattle.im_serial.proofs.ScriptedLemmas.{drops_then, learns}
 use Rattle.im_serial.proofs.server.Server.make_place.Goals as goal
 
-pub confirm-requires : goal.confirm-requires
-confirm-requires g c = record { due = (c.args.numbers.0, c.requires.due) }
-
 pub returns-clause-goes : goal.returns-clause-goes
 returns-clause-goes g c =
     let was = c.args.self.now in
