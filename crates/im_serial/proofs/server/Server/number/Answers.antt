@@ -23,6 +23,9 @@ returns-in-Ok-clause-goes g c = let new = c.make_place.new.self in
     place_then c.next_number.result c.args.self.now.session new.session c.args.self.now.waited.items new.waited.items
     c.args.self.now.places.marks.items new.places.marks.items c.in-Ok.ensures.goes
 
+pub returns-in-Ok-clause-next : goal.returns-in-Ok-clause-next
+returns-in-Ok-clause-next g c = rw c.engine.ensures.state at c.next_number.ensures
+
 pub returns-in-Ok-Full-clause-goes : goal.returns-in-Ok-Full-clause-goes
 returns-in-Ok-Full-clause-goes g c = unprepared ℕ WindowFull c.args.self.now.session c.args.self.now.waited.items
     c.args.self.now.places.marks.items
