@@ -14,6 +14,7 @@ use Rattle.im_types.specs.Meaning.{Reads, accept_each}
 use Rattle.im_disk.specs.Since.{SameBut}
 use Rattle.im_journal.specs.Holding.{JournalState, Holds, KeepsBoundaries}
 use Rattle.im_journal.proofs.Slots.{slot_inside, same_slot}
+use Rattle.im_journal.proofs.Groups.{same_there}
 use Rattle.im_journal.proofs.Tails.{tail_elsewhere, boundaries_elsewhere}
 use Rattle.im_meaning.specs.Images.{other, IsBelow, IsImage}
 use Rattle.im_meaning.proofs.Meanings.{image_reads}
@@ -56,6 +57,8 @@ holds_behind j at n c d some before but held = record {
   enough = held.enough;
   behind = λ low k from to. subst (λ (l : List ℕ). sequence_of l < j.first) (sym (same (j.count + k)))
       (held.behind low k from to);
+  laid = same_there j.ring c d j.count j.ahead
+      (λ k less. ap (λ (l : List ℕ). drop 1 l) (same (j.count + k))) held.laid;
 }
   where
     same : (s : ℕ) → slot j.ring s d ≡ slot j.ring s c

@@ -24,7 +24,10 @@ use Rattle.im_types.specs.Groups.{as_served, is_new, is_put, with_request, answe
 use Rattle.im_types.specs.Groups.{puts_of}
 use Rattle.im_laws.proofs.RefusalLemmas.{step-refusals}
 use Rattle.im_engine.specs.Groups.{all_refused}
+use Rattle.im_groups.specs.Commands.{takes_place, answer_with, contents_with, places_behind, command_at, answers_with}
+use Rattle.im_groups.specs.Commands.{commands_at}
 use Rattle.im_engine.specs.Run.{is_device, says_device, has_device, acknowledged_member, acknowledged_members}
+use Rattle.im_engine.specs.Run.{acknowledged_command, acknowledged_commands}
 use Rattle.im_engine.proofs.Accepting.{Answers, accepted_answers}
 
 -- the command that a member puts on the disk
@@ -89,6 +92,68 @@ acknowledged-puts s (r ∷ rs) =
     ∙ ap (λ (m : Contents). put_by_one s r ++ acknowledged_members m rs
     (map as_served (answers_of (reached_by_one s r) rs))) (one_after s r)
     ∙ ap (λ (l : List Command). put_by_one s r ++ l) (acknowledged-puts (reached_by_one s r) rs)
+
+-- ---- commands, by the places that are left
+
+unaccepted_command : (m : Contents) (c : Command) (answer : Served) → is_accepted m c ≡ false
+    → acknowledged_command m c answer ≡ []
+unaccepted_command m c (Done outcome) un = ap (λ (b : Bool). if b then c ∷ [] else []) un
+unaccepted_command m c (Refused refusal) un = refl
+unaccepted_command m c answer un = refl
+
+one_command : (m : Contents) (left : ℕ) (c : Command) → acknowledged_command m c (as_served (answer_with m left c))
+    ≡ command_at m left c
+one_command m left c = by_new (is_accepted m c) refl
+  where
+    by_room : (none some : Bool) → (left == 0) ≡ none → nat_lt 0 left ≡ some → none
+        ≡ (if some then false else true) → is_accepted m c ≡ true
+        → acknowledged_command m c (as_served (answer_with m left c)) ≡ command_at m left c
+    by_room true false none some same new =
+        let back : true ≡ is_accepted m c = sym new in
+        let more : false ≡ nat_lt 0 left = sym some in
+        (λ i. acknowledged_command m c
+        (as_served (if new i && none i then Err JournalFull else (step m c).answer)))
+        ∙ (λ i. if back i && more i then c ∷ [] else [])
+    by_room false true none some same new =
+        let back : true ≡ is_accepted m c = sym new in
+        let more : true ≡ nat_lt 0 left = sym some in
+        let answers : Answers (step m c).answer = accepted_answers m c new in
+        (λ i. acknowledged_command m c
+        (as_served (if new i && none i then Err JournalFull else (step m c).answer)))
+        ∙ ap (λ (a : Result Outcome Refusal). acknowledged_command m c (as_served a)) answers.1
+        ∙ ap (λ (b : Bool). if b then c ∷ [] else []) new
+        ∙ (λ i. if back i && more i then c ∷ [] else [])
+    by_room true true none some same new = absurd (cc)
+    by_room false false none some same new = absurd (cc)
+
+    tests : (n : ℕ) → (n == 0) ≡ (if nat_lt 0 n then false else true)
+    tests zero = refl
+    tests (suc n) = grind (arith, nat_tests)
+
+    by_new : (b : Bool) → is_accepted m c ≡ b → acknowledged_command m c (as_served (answer_with m left c))
+        ≡ command_at m left c
+    by_new true new = by_room (left == 0) (nat_lt 0 left) refl refl (tests left) new
+    by_new false old =
+        unaccepted_command m c (as_served (answer_with m left c)) old
+        ∙ ap (λ (b : Bool). if b && nat_lt 0 left then c ∷ [] else []) (sym old)
+
+after_one : (m : Contents) (left : ℕ) (c : Command) → after m (command_at m left c) ≡ contents_with m left c
+after_one m left c = by_test (takes_place m left c)
+  where
+    by_test : (b : Bool) → after m (if b then c ∷ [] else []) ≡ (if b then (step m c).contents else m)
+    by_test true = refl
+    by_test false = refl
+
+pub acknowledged-commands : (m : Contents) (left : ℕ) (cs : List Command)
+    → acknowledged_commands m cs (map as_served (answers_with m left cs)) ≡ commands_at m left cs
+acknowledged-commands m left [] = refl
+acknowledged-commands m left (c ∷ cs) =
+    ap (λ (l : List Command). l ++ acknowledged_commands (after m l) cs
+    (map as_served (answers_with (contents_with m left c) (places_behind m left c) cs))) (one_command m left c)
+    ∙ ap (λ (n : Contents). command_at m left c ++ acknowledged_commands n cs
+    (map as_served (answers_with (contents_with m left c) (places_behind m left c) cs))) (after_one m left c)
+    ∙ ap (λ (l : List Command). command_at m left c ++ l)
+    (acknowledged-commands (contents_with m left c) (places_behind m left c) cs)
 
 -- ---- who tells of a failure
 

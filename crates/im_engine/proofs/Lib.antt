@@ -12,3 +12,5 @@ pub mod Members
 pub mod Adding
 pub mod Together
 pub mod Requests
+pub mod Chaining
+pub mod Advancing

@@ -18,10 +18,10 @@ use Rattle.im_types.specs.declared.refusals.Refusal.TheVariants.{JournalFull}
 use Rattle.im_disk.specs.Moment.{Rises, Faults}
 use Rattle.im_checkpoint.specs.declared.checkpoint.TurnDone.{TurnDone}
 use Rattle.im_engine.specs.declared.run.Event.{Event}
-use Rattle.im_engine.specs.declared.run.Event.TheVariants.{Command as Serve, Group as Together, Turn, Sweep}
+use Rattle.im_engine.specs.declared.run.Event.TheVariants.{Command as Serve, Group as Together, Ahead, Turn, Sweep}
 use Rattle.im_engine.specs.declared.run.Answer.{Answer}
 use Rattle.im_engine.specs.declared.run.Answer.TheVariants.{Served as Told, Grouped, Turned as TookTurn}
-use Rattle.im_engine.specs.declared.run.Answer.TheVariants.{Swept as DidSweep}
+use Rattle.im_engine.specs.declared.run.Answer.TheVariants.{Advanced, Swept as DidSweep}
 use Rattle.im_engine.specs.State.{EngineState}
 use Rattle.im_engine.specs.Groups.{reached_in, group_put, answers_in, GroupAnswered, GroupFaults}
 use Rattle.im_engine.specs.Run.{Answered, TurnAnswered, EventAnswered, has_device}
@@ -78,6 +78,18 @@ dead_event mid new Turn (DidSweep a) it dead = absurd it
 dead_event mid new (Sweep most) (Told a) it dead = absurd it
 dead_event mid new (Sweep most) (Grouped room served) it dead = absurd it
 dead_event mid new (Sweep most) (TookTurn a) it dead = absurd it
+dead_event mid new (Ahead members) (Told a) it dead = absurd it
+dead_event mid new (Ahead members) (Grouped room served) it dead = absurd it
+dead_event mid new (Ahead members) (TookTurn a) it dead = absurd it
+dead_event mid new (Ahead members) (DidSweep a) it dead = absurd it
+dead_event mid new (Serve c) (Advanced r served) it dead = absurd it
+dead_event mid new (Together members) (Advanced r served) it dead = absurd it
+dead_event mid new Turn (Advanced r served) it dead = absurd it
+dead_event mid new (Sweep most) (Advanced r served) it dead = absurd it
+dead_event mid new (Ahead members) (Advanced r served) it dead = (
+  λ d. let f : r ≡ Err Failed = (it.0.dead dead).0 in let g : r ≡ Err Device = d in absurd (cc),
+  (it.0.dead dead).2,
+)
 dead_event mid new (Sweep most) (DidSweep a) it dead =
     (λ d. let f : a ≡ Err Failed = (it.dead dead).0 in let g : a ≡ Err Device = d in absurd (cc), (it.dead dead).1)
 
@@ -157,10 +169,28 @@ device_fails D mid new Turn (DidSweep a) it f d = absurd it
 device_fails D mid new (Sweep most) (Told a) it f d = absurd it
 device_fails D mid new (Sweep most) (Grouped room served) it f d = absurd it
 device_fails D mid new (Sweep most) (TookTurn a) it f d = absurd it
+device_fails D mid new (Ahead members) (Told a) it f d = absurd it
+device_fails D mid new (Ahead members) (Grouped room served) it f d = absurd it
+device_fails D mid new (Ahead members) (TookTurn a) it f d = absurd it
+device_fails D mid new (Ahead members) (DidSweep a) it f d = absurd it
+device_fails D mid new (Serve c) (Advanced r served) it f d = absurd it
+device_fails D mid new (Together members) (Advanced r served) it f d = absurd it
+device_fails D mid new Turn (Advanced r served) it f d = absurd it
+device_fails D mid new (Sweep most) (Advanced r served) it f d = absurd it
+device_fails D mid new (Ahead members) (Advanced r served) it f d = ⊎_elim
+    (λ done. let x : r ≡ Ok done.0 = done.1 in let y : r ≡ Err Device = d in absurd (cc))
+    (λ fault. ap (λ (s : EngineState D). s.failed) fault.2)
+    (it.0.alive f)
 device_fails D mid new (Sweep most) (DidSweep a) it f d = ⊎_elim
     (λ done. let y : a ≡ Err Device = d in let x = done.0 in absurd (cc))
     (λ fault. ap (λ (s : EngineState D). s.failed) fault.1)
     (it.alive f)
+
+-- a refusal has its cause, whichever reasons there may be
+pub caused_somehow : {T : Type 0} (r : Result T Refusal) (may : Refusal → Type 0) (old now : ℕ)
+    → Faults may r old now → Faults (λ e. Unit {0}) r old now
+caused_somehow (Ok x) may old now same = same
+caused_somehow (Err e) may old now fault = (tt, fault.1, fault.2)
 
 ok_is_no_device : {T : Type 0} (x : T) → IsErrOf {T = T} {E = Refusal} (Ok x) Device → ⊥
 ok_is_no_device x e = absurd (cc)
@@ -182,6 +212,7 @@ caused (Grouped room served) old new cause = (cause.0, λ none. cause.1 (not_tru
     not_true : (b : Bool) → (b ≡ true → ⊥) → b ≡ false
     not_true true not = absurd (not refl)
     not_true false not = refl
+caused (Advanced r served) old new cause = caused_by r old new cause
 caused (TookTurn a) old new cause = caused_by a old new cause
 caused (DidSweep a) old new cause = caused_by a old new cause
 

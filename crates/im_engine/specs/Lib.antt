@@ -4,3 +4,4 @@ pub mod Leaving
 pub mod Run
 pub mod Groups
 pub mod Commands
+pub mod Chain

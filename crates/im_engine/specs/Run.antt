@@ -1,6 +1,6 @@
 -- Commands, groups, turns and sweeps one after another, and what the files mean that a crash may leave. (Own.)
 use Rattle.std.specs.Prelude.{◌≡◌, ◌⊎◌, ℕ, ◌+◌, ◌<◌, ◌≤◌, Bool, true, false, ◌&&◌, ◌||◌, List, [], ◌∷◌, ◌++◌, length}
-use Rattle.std.specs.Prelude.{take, Result, Ok, Err, IsErrOf, if◌then◌else◌}
+use Rattle.std.specs.Prelude.{take, map, Result, Ok, Err, IfOk, IsErrOf, if◌then◌else◌}
 use Rattle.im_types.specs.declared.commands.Request.{Request}
 use Rattle.im_types.specs.declared.commands.Command.{Command}
 use Rattle.im_types.specs.declared.commands.Command.TheVariants.{Request as Asks}
@@ -18,12 +18,15 @@ use Rattle.im_disk.specs.Moment.{Rises, Faults}
 use Rattle.im_checkpoint.specs.declared.checkpoint.TurnDone.{TurnDone}
 use Rattle.im_checkpoint.specs.Turns.{Turned, Moved, AddsPages, swept_at_once}
 use Rattle.im_engine.specs.State.{EngineState, MeansState, MeansEither, with_command, journal_in, checkpoint_in}
+use Rattle.im_groups.specs.Commands.{commands_at}
 use Rattle.im_engine.specs.Groups.{GroupAnswered, MeansGroup}
+use Rattle.im_engine.specs.Commands.{MeansCommands}
+use Rattle.im_engine.specs.Chain.{Advances, TakesNext}
 use Rattle.im_engine.specs.declared.run.Event.{Event}
-use Rattle.im_engine.specs.declared.run.Event.TheVariants.{Command as Serve, Group as Together, Turn, Sweep}
+use Rattle.im_engine.specs.declared.run.Event.TheVariants.{Command as Serve, Group as Together, Ahead, Turn, Sweep}
 use Rattle.im_engine.specs.declared.run.Answer.{Answer}
 use Rattle.im_engine.specs.declared.run.Answer.TheVariants.{Served as Told, Grouped, Turned as TookTurn}
-use Rattle.im_engine.specs.declared.run.Answer.TheVariants.{Swept as DidSweep}
+use Rattle.im_engine.specs.declared.run.Answer.TheVariants.{Advanced, Swept as DidSweep}
 
 -- an engine's answer to one command, and the engine after it, on any disk
 pub record Answered {D : Type 0} (old : EngineState D) (command : Command) (answer : Result Outcome Refusal)
@@ -45,10 +48,12 @@ pub record Answered {D : Type 0} (old : EngineState D) (command : Command) (answ
 abbrev pub calls_for : Contents → Command → ℕ
 calls_for m command = if is_accepted m command then 4 else 0
 
--- A turn that was done. The memory and the count stay, the engine works, and the rest follows the table of turns.
+-- A turn that was done. The memory, the count and what is ahead stay, the engine works, and the rest follows the table
+-- of turns.
 pub record TurnTaken {D : Type 0} (old : EngineState D) (done : TurnDone) (new : EngineState D) : Type 0 where
   pub memory : new.memory ≡ old.memory
   pub count : new.count ≡ old.count
+  pub ahead : new.ahead ≡ old.ahead
   pub alive : new.failed ≡ false
   pub turned : Turned (checkpoint_in old) (journal_in old) done (checkpoint_in new) (journal_in new)
   -- a checkpoint that begins has to write the changed pages of the area that isn't in force, and no others
@@ -71,11 +76,14 @@ pub record SweepAnswered {D : Type 0} (old : EngineState D) (most : ℕ) (answer
       in (answer ≡ Ok n) × (new ≡ record old { disk = new.disk; room = old.room + n }))
       ⊎ ((answer ≡ Err Device) × (new ≡ record old { disk = new.disk; failed = true }))
 
--- an engine's answer to one event; the answer to a group has the room that it found
+-- an engine's answer to one event; the answer to a group has the room that it found, and that to a group that is put
+-- ahead has what the members of the group ahead of it are answered
 abbrev pub EventAnswered : {D : Type 0} → EngineState D → Event → Answer → EngineState D → Type 0
 EventAnswered old (Serve command) (Told answer) new = Answered old command answer new
 EventAnswered old (Together members) (Grouped room served) new =
     (room ≡ old.room) × GroupAnswered old members served.items new
+EventAnswered old (Ahead members) (Advanced result served) new =
+    Advances old (map Asks members) result served.items new × IfOk result (TakesNext old (map Asks members) new)
 EventAnswered old Turn (TookTurn answer) new = TurnAnswered old answer new
 EventAnswered old (Sweep most) (DidSweep answer) new = SweepAnswered old most answer new
 EventAnswered old (Serve command) (Grouped room served) new = ⊥
@@ -90,11 +98,20 @@ EventAnswered old Turn (DidSweep answer) new = ⊥
 EventAnswered old (Sweep most) (Told answer) new = ⊥
 EventAnswered old (Sweep most) (Grouped room served) new = ⊥
 EventAnswered old (Sweep most) (TookTurn answer) new = ⊥
+EventAnswered old (Ahead members) (Told answer) new = ⊥
+EventAnswered old (Ahead members) (Grouped room served) new = ⊥
+EventAnswered old (Ahead members) (TookTurn answer) new = ⊥
+EventAnswered old (Ahead members) (DidSweep answer) new = ⊥
+EventAnswered old (Serve command) (Advanced result served) new = ⊥
+EventAnswered old (Together members) (Advanced result served) new = ⊥
+EventAnswered old Turn (Advanced result served) new = ⊥
+EventAnswered old (Sweep most) (Advanced result served) new = ⊥
 
 -- the meaning of a file that is left within an event
 abbrev pub MeansBy : {D : Type 0} → EngineState D → Event → List ℕ → Type 0
 MeansBy old (Serve command) file = MeansEither old command file
 MeansBy old (Together members) file = MeansGroup old members file
+MeansBy old (Ahead members) file = MeansCommands old old.ahead file
 MeansBy old Turn file = MeansState old file
 MeansBy old (Sweep most) file = MeansState old file
 
@@ -137,26 +154,78 @@ acknowledged_members m (r ∷ members) [] = []
 acknowledged_members m (r ∷ members) (answer ∷ served) =
     acknowledged_member m r answer ++ acknowledged_members (after m (acknowledged_member m r answer)) members served
 
--- the commands of this event that change the memory and were served
-abbrev pub acknowledged_by : Contents → Event → Answer → List Command
-acknowledged_by m (Serve command) (Told (Ok outcome)) = if is_accepted m command then command ∷ [] else []
-acknowledged_by m (Serve command) (Told (Err refusal)) = []
-acknowledged_by m (Serve command) (Grouped room served) = []
-acknowledged_by m (Serve command) (TookTurn answer) = []
-acknowledged_by m (Serve command) (DidSweep answer) = []
-acknowledged_by m (Together members) (Told answer) = []
-acknowledged_by m (Together members) (Grouped room served) = acknowledged_members m members served.items
-acknowledged_by m (Together members) (TookTurn answer) = []
-acknowledged_by m (Together members) (DidSweep answer) = []
-acknowledged_by m Turn answer = []
-acknowledged_by m (Sweep most) answer = []
+-- a command, if it changes the memory and was served
+abbrev pub acknowledged_command : Contents → Command → Served → List Command
+acknowledged_command m command Unserved = []
+acknowledged_command m command (Done outcome) = if is_accepted m command then command ∷ [] else []
+acknowledged_command m command (Refused refusal) = []
+
+-- the acknowledged ones of these commands, one after another
+abbrev pub acknowledged_commands : Contents → List Command → List Served → List Command
+acknowledged_commands m [] served = []
+acknowledged_commands m (command ∷ commands) [] = []
+acknowledged_commands m (command ∷ commands) (answer ∷ served) =
+    acknowledged_command m command answer
+    ++ acknowledged_commands (after m (acknowledged_command m command answer)) commands served
+
+-- the commands that this event acknowledges: those that change the memory and were served. A group that is put ahead
+-- acknowledges those of the group ahead of it.
+abbrev pub acknowledged_by : Contents → List Command → Event → Answer → List Command
+acknowledged_by m ahead (Serve command) (Told (Ok outcome)) = if is_accepted m command then command ∷ [] else []
+acknowledged_by m ahead (Serve command) (Told (Err refusal)) = []
+acknowledged_by m ahead (Serve command) (Grouped room served) = []
+acknowledged_by m ahead (Serve command) (Advanced result served) = []
+acknowledged_by m ahead (Serve command) (TookTurn answer) = []
+acknowledged_by m ahead (Serve command) (DidSweep answer) = []
+acknowledged_by m ahead (Together members) (Told answer) = []
+acknowledged_by m ahead (Together members) (Grouped room served) = acknowledged_members m members served.items
+acknowledged_by m ahead (Together members) (Advanced result served) = []
+acknowledged_by m ahead (Together members) (TookTurn answer) = []
+acknowledged_by m ahead (Together members) (DidSweep answer) = []
+acknowledged_by m ahead (Ahead members) (Told answer) = []
+acknowledged_by m ahead (Ahead members) (Grouped room served) = []
+acknowledged_by m ahead (Ahead members) (Advanced result served) = acknowledged_commands m ahead served.items
+acknowledged_by m ahead (Ahead members) (TookTurn answer) = []
+acknowledged_by m ahead (Ahead members) (DidSweep answer) = []
+acknowledged_by m ahead Turn answer = []
+acknowledged_by m ahead (Sweep most) answer = []
+
+-- what stays ahead if these commands were put: nothing, if there are any
+abbrev pub ahead_behind : List Command → List Command → List Command
+ahead_behind [] ahead = ahead
+ahead_behind (command ∷ commands) ahead = []
+
+-- so many of these commands, or none after a refusal
+abbrev pub taken_by : Result ℕ Refusal → List Command → List Command
+taken_by (Ok many) commands = take many commands
+taken_by (Err refusal) commands = []
+
+-- what is ahead after an event: the members that were put ahead, or what was ahead unless something else was put
+abbrev pub ahead_by : Contents → List Command → Event → Answer → List Command
+ahead_by m ahead (Ahead members) (Advanced result served) = taken_by result (map Asks members)
+ahead_by m ahead (Ahead members) (Told answer) = ahead
+ahead_by m ahead (Ahead members) (Grouped room served) = ahead
+ahead_by m ahead (Ahead members) (TookTurn answer) = ahead
+ahead_by m ahead (Ahead members) (DidSweep answer) = ahead
+ahead_by m ahead (Serve command) answer = ahead_behind (acknowledged_by m ahead (Serve command) answer) ahead
+ahead_by m ahead (Together members) answer = ahead_behind (acknowledged_by m ahead (Together members) answer) ahead
+ahead_by m ahead Turn answer = ahead
+ahead_by m ahead (Sweep most) answer = ahead
 
 -- the accepted commands that were acknowledged, in their order
-abbrev pub acknowledged : Contents → List Event → List Answer → List Command
-acknowledged m [] answers = []
-acknowledged m (event ∷ events) [] = []
-acknowledged m (event ∷ events) (answer ∷ answers) =
-    acknowledged_by m event answer ++ acknowledged (after m (acknowledged_by m event answer)) events answers
+abbrev pub acknowledged : Contents → List Command → List Event → List Answer → List Command
+acknowledged m ahead [] answers = []
+acknowledged m ahead (event ∷ events) [] = []
+acknowledged m ahead (event ∷ events) (answer ∷ answers) =
+    acknowledged_by m ahead event answer
+    ++ acknowledged (after m (acknowledged_by m ahead event answer)) (ahead_by m ahead event answer) events answers
+
+-- what is ahead after all these events
+abbrev pub ahead_after_all : Contents → List Command → List Event → List Answer → List Command
+ahead_after_all m ahead [] answers = ahead
+ahead_after_all m ahead (event ∷ events) [] = ahead
+ahead_after_all m ahead (event ∷ events) (answer ∷ answers) =
+    ahead_after_all (after m (acknowledged_by m ahead event answer)) (ahead_by m ahead event answer) events answers
 
 -- ---- what is in doubt
 
@@ -165,6 +234,8 @@ abbrev pub is_doubt : Answer → Bool
 is_doubt (Told (Ok outcome)) = false
 is_doubt (Told (Err refusal)) = is_device refusal
 is_doubt (Grouped room served) = has_device served.items
+is_doubt (Advanced (Ok many) served) = false
+is_doubt (Advanced (Err refusal) served) = is_device refusal
 is_doubt (TookTurn answer) = false
 is_doubt (DidSweep answer) = false
 
@@ -173,27 +244,38 @@ abbrev pub reached_at : Contents → ℕ → ℕ → Reached
 reached_at m count room = record { contents = m; count = count; room = room }
 
 -- The command of this event, if it would change the memory and was answered `Device`. For a group answered `Device`,
--- these are all commands that it would have put into the room that it found.
-abbrev pub in_doubt_by : Contents → ℕ → Event → Answer → List Command
-in_doubt_by m count (Serve command) answer = if is_accepted m command && is_doubt answer then command ∷ [] else []
-in_doubt_by m count (Together members) (Told answer) = []
-in_doubt_by m count (Together members) (Grouped room served) =
+-- these are all commands that it would have put into the room that it found. For a group that is put ahead, these are
+-- all that the group ahead of it had put: nothing of its own is ever in doubt.
+abbrev pub in_doubt_by : Contents → ℕ → List Command → Event → Answer → List Command
+in_doubt_by m count ahead (Serve command) answer =
+    if is_accepted m command && is_doubt answer then command ∷ [] else []
+in_doubt_by m count ahead (Together members) (Told answer) = []
+in_doubt_by m count ahead (Together members) (Grouped room served) =
     if has_device served.items then puts_of (reached_at m count room) members else []
-in_doubt_by m count (Together members) (TookTurn answer) = []
-in_doubt_by m count (Together members) (DidSweep answer) = []
-in_doubt_by m count Turn answer = []
-in_doubt_by m count (Sweep most) answer = []
+in_doubt_by m count ahead (Together members) (Advanced result served) = []
+in_doubt_by m count ahead (Together members) (TookTurn answer) = []
+in_doubt_by m count ahead (Together members) (DidSweep answer) = []
+in_doubt_by m count ahead (Ahead members) (Advanced result served) =
+    if is_doubt (Advanced result served) then commands_at m (length ahead) ahead else []
+in_doubt_by m count ahead (Ahead members) (Told answer) = []
+in_doubt_by m count ahead (Ahead members) (Grouped room served) = []
+in_doubt_by m count ahead (Ahead members) (TookTurn answer) = []
+in_doubt_by m count ahead (Ahead members) (DidSweep answer) = []
+in_doubt_by m count ahead Turn answer = []
+in_doubt_by m count ahead (Sweep most) answer = []
 
 -- the commands in doubt: nobody knows whether all of them are on the disk, or none
-abbrev pub in_doubt : Contents → ℕ → List Event → List Answer → List Command
-in_doubt m count [] answers = []
-in_doubt m count (event ∷ events) [] = []
-in_doubt m count (event ∷ events) (answer ∷ answers) = let sure = acknowledged_by m event answer in
-    in_doubt_by m count event answer ++ in_doubt (after m sure) (count + length sure) events answers
+abbrev pub in_doubt : Contents → ℕ → List Command → List Event → List Answer → List Command
+in_doubt m count ahead [] answers = []
+in_doubt m count ahead (event ∷ events) [] = []
+in_doubt m count ahead (event ∷ events) (answer ∷ answers) = let sure = acknowledged_by m ahead event answer in
+    in_doubt_by m count ahead event answer
+    ++ in_doubt (after m sure) (count + length sure) (ahead_by m ahead event answer) events answers
 
 -- the acknowledged commands, and after them those in doubt
-abbrev pub put_on_disk : Contents → ℕ → List Event → List Answer → List Command
-put_on_disk m count events answers = acknowledged m events answers ++ in_doubt m count events answers
+abbrev pub put_on_disk : Contents → ℕ → List Command → List Event → List Answer → List Command
+put_on_disk m count ahead events answers =
+    acknowledged m ahead events answers ++ in_doubt m count ahead events answers
 
 -- ---- what the files mean
 
@@ -212,7 +294,7 @@ MeansAll s commands file = Means (after s.memory commands) (s.count + length com
 abbrev pub MeansBeginningOf : {D : Type 0} → EngineState D → List Event → List Answer → List ℕ → Type 0
 MeansBeginningOf s events answers file =
     (many : ℕ) × (many ≤ length answers)
-    × MeansAll s (put_on_disk s.memory s.count (take many events) (take many answers)) file
+    × MeansAll s (put_on_disk s.memory s.count s.ahead (take many events) (take many answers)) file
 
 -- the file means what the engine is after these commands, or after these and all of those in doubt
 abbrev pub MeansWithOrWithout : {D : Type 0} → EngineState D → List Command → List Command → List ℕ → Type 0
@@ -221,7 +303,9 @@ MeansWithOrWithout s commands doubt file = MeansAll s commands file ⊎ MeansAll
 -- the file means what the engine is after all that these answers acknowledge, with or without what they leave in doubt
 abbrev pub MeansAcknowledged : {D : Type 0} → EngineState D → List Event → List Answer → List ℕ → Type 0
 MeansAcknowledged s events answers file =
-    MeansWithOrWithout s (acknowledged s.memory events answers) (in_doubt s.memory s.count events answers) file
+    MeansWithOrWithout s (acknowledged s.memory s.ahead events answers)
+    (in_doubt s.memory s.count s.ahead events answers)
+    file
 
 -- the file means what the engine is after this many of these commands
 abbrev pub MeansAfter : {D : Type 0} → EngineState D → List Command → ℕ → List ℕ → Type 0
@@ -237,6 +321,7 @@ MeansBeginning s commands file = (many : ℕ) × (many ≤ length commands) × M
 abbrev pub IsDevice : Answer → Type 0
 IsDevice (Told answer) = IsErrOf answer Device
 IsDevice (Grouped room served) = has_device served.items ≡ true
+IsDevice (Advanced result served) = IsErrOf result Device
 IsDevice (TookTurn answer) = IsErrOf answer Device
 IsDevice (DidSweep answer) = IsErrOf answer Device
 
@@ -250,6 +335,7 @@ abbrev pub HasCause : Answer → ℕ → ℕ → Type 0
 HasCause (Told answer) old new = Faults (λ e. Unit {0}) answer old new
 HasCause (Grouped room served) old new =
     (has_device served.items ≡ true → Rises old new × (old ≤ new)) × (has_device served.items ≡ false → new ≡ old)
+HasCause (Advanced result served) old new = Faults (λ e. Unit {0}) result old new
 HasCause (TookTurn answer) old new = Faults (λ e. Unit {0}) answer old new
 HasCause (DidSweep answer) old new = Faults (λ e. Unit {0}) answer old new
 

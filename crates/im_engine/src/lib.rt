@@ -2,7 +2,9 @@
 //! file that means the memory after a prefix of the accepted commands.
 #![tactic(auto)]
 
+mod ahead;
 mod apart;
+mod chain;
 mod emptying;
 mod engine;
 mod format;

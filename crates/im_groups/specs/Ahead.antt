@@ -1,6 +1,6 @@
 -- A command before the commands ahead of it have acted, and what is known of it. (Own.)
-use Rattle.std.specs.Prelude.{◌≡◌, ℕ, ◌+◌, ◌<◌, ◌≤◌, ◌==◌, Bool, true, false, ◌&&◌, nat_lt, List, [], ◌∷◌, length}
-use Rattle.std.specs.Prelude.{Option, None, Some}
+use Rattle.std.specs.Prelude.{◌≡◌, ℕ, ◌+◌, ◌<◌, ◌≤◌, ◌==◌, Bool, true, false, ◌&&◌, nat_lt, List, [], ◌∷◌, ◌++◌}
+use Rattle.std.specs.Prelude.{length, Option, None, Some}
 use Rattle.std.specs.Prelude.{Result, Ok, Err, slice_get, if◌then◌else◌}
 use Rattle.std.specs.List.{list_any}
 use Rattle.im_types.specs.declared.TheConstants.{LAST, WINDOW}
@@ -89,3 +89,10 @@ pub record ServesPrefix (m : Contents) (put members : List Command) (many : ℕ)
   pub within : many ≤ length members
   pub some : 0 < length members → 0 < many
   pub stops : (command : Command) → slice_get members many ≡ Some command → IsUnsure m put command
+
+-- `many` members are judged behind the commands of a group ahead: all up to the first member whose acceptance isn't
+-- known, and at least one if no command is ahead
+pub record ServesBehind (m : Contents) (ahead put members : List Command) (many : ℕ) : Type 0 where
+  pub within : many ≤ length members
+  pub some : length ahead ≡ 0 → 0 < length members → 0 < many
+  pub stops : (command : Command) → slice_get members many ≡ Some command → IsUnsure m (ahead ++ put) command

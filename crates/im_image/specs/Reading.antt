@@ -1,6 +1,6 @@
 -- What is read of an image: its header in force, the memory that its area shows, its journal, and the memory after the
 -- journal. (Own.)
-use Rattle.std.specs.Prelude.{◌≡◌, ℕ, ◌≤◌, List, length, None, Result, Ok, Err}
+use Rattle.std.specs.Prelude.{◌≡◌, ℕ, ◌≤◌, List, [], length, None, Result, Ok, Err}
 use Rattle.im_types.specs.declared.TheConstants.{LAST}
 use Rattle.im_types.specs.Contents.{Contents}
 use Rattle.im_types.specs.Header.{Header, header_of, header_fault, layout_in}
@@ -17,11 +17,13 @@ use Rattle.im_image.specs.declared.reading.ImageParts.{ImageParts}
 use Rattle.im_image.specs.declared.versions.Versions.{Versions}
 use Rattle.im_image.specs.declared.versions.Versions.TheVariants.{Any, InUse, First}
 
--- the journal of this header: the header's version and sizes give its ring, and its run begins at the header's count
+-- the journal of this header: the header's version and sizes give its ring, its run begins at the header's count, and
+-- nothing is ahead of it
 pub record JournalOf (h : Header) (j : JournalState) : Type 0 where
   pub ring : j.ring ≡ ring_of (layout_named h.version) h.sizes
   pub first : j.first ≡ h.count
   pub begun : h.count ≤ j.count
+  pub none : j.ahead ≡ []
 
 -- a memory has as many cells and elements as these sizes say
 pub record HasSizes (s : Sizes) (m : Contents) : Type 0 where

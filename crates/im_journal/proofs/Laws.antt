@@ -1,6 +1,6 @@
 -- What a journal's owner may rely on while other parts of the file are written.
 use Rattle.std.proofs.Common.{◌≡◌, ◌⊎◌, inl, inr, ⊎_elim, ℕ, ◌+◌, ◌*◌, ◌<◌, ◌≤◌, List, length, get_or, sym, ◌∙◌}
-use Rattle.std.proofs.Common.{subst, arith}
+use Rattle.std.proofs.Common.{ap, drop, subst, arith}
 use Rattle.im_types.specs.Bytes.{open_gate}
 use Rattle.im_types.specs.Slot.{sequence_of}
 use Rattle.im_types.specs.Journal.{Ring, slot}
@@ -9,6 +9,7 @@ use Rattle.im_disk.specs.Since.{SameBut}
 use Rattle.im_disk.proofs.SinceLemmas.{left_torn, left_sync, left_synced}
 use Rattle.im_journal.specs.Holding.{JournalState, IsJournal, Holds, AllHold, AreClosed}
 use Rattle.im_journal.proofs.Slots.{slot_inside, same_slot}
+use Rattle.im_journal.proofs.Groups.{same_there}
 use Rattle.im_journal.proofs.Tails.{tail_elsewhere}
 
 -- a range before the ring, or behind it
@@ -47,6 +48,8 @@ module _ (j : JournalState) (known : IsJournal j) where
     enough = held.enough;
     behind = λ low k from to. subst (λ (l : List ℕ). sequence_of l < j.first)
         (sym (slot_elsewhere at n d c beside same (j.count + k))) (held.behind low k from to);
+    laid = same_there j.ring d c j.count j.ahead
+        (λ k less. ap (λ (l : List ℕ). drop 1 l) (slot_elsewhere at n d c beside same (j.count + k))) held.laid;
   }
 
   -- so a write elsewhere, failed or not, leaves it

@@ -16,7 +16,8 @@ use Rattle.im_disk.proofs.SinceLemmas.{left_now, left_settled, only_weaker}
 use Rattle.im_journal.specs.Holding.{JournalState, IsJournal, Holds, AllHold, to_sweep, with_room, KeepsBoundaries}
 use Rattle.im_journal.specs.Holding.{SameRun, MaySweep, Sweeps}
 use Rattle.im_journal.specs.Gates.{closed_gate as shut_gate, SameButGates, MayClose, HasClosed, AreShut}
-use Rattle.im_journal.proofs.Slots.{slot_inside, away, same_slot, closed_gate}
+use Rattle.im_journal.proofs.Slots.{slot_inside, away, same_slot, same_body, no_gate_behind, closed_gate}
+use Rattle.im_journal.proofs.Groups.{same_there}
 use Rattle.im_journal.proofs.Tails.{Parts, parts_of}
 use Rattle.im_journal.proofs.Rings.{other_number, closed_at}
 use Rattle.im_journal.proofs.Sweeps.{tail_swept, boundaries_swept, no_less}
@@ -84,6 +85,13 @@ module _ (j : JournalState) (known : IsJournal j) (n : ℕ) (low : j.count < LAS
     sequences_stay : (s : ℕ) → sequence_of (slot j.ring s d) ≡ sequence_of (slot j.ring s c)
     sequences_stay s = same_sequence j.ring s c d but.size
         (λ i less. but.same (slot_offset j.ring s + (8 + i)) (λ k few_k is. absurd (omega (arith, less, is))))
+
+    -- a body doesn't depend on a gate
+    body_stays : (s : ℕ) → drop 1 (slot j.ring s d) ≡ drop 1 (slot j.ring s c)
+    body_stays s = same_body j.ring s d c but.size (λ i lo hi. but.same i (λ k less is. ⊎_elim
+        (λ (before : slot_offset j.ring (next + k) ≤ slot_offset j.ring s). absurd (omega (arith, before, lo, is)))
+        (λ (behind : slot_offset j.ring s + 64 ≤ slot_offset j.ring (next + k)). absurd (omega (arith, behind, hi, is)))
+        (no_gate_behind j.ring (next + k) s)))
 
     -- the known room's gates
     count_is : j.first + length commands ≡ j.count
@@ -169,6 +177,7 @@ module _ (j : JournalState) (known : IsJournal j) (n : ℕ) (low : j.count < LAS
         enough = found_enough;
         behind = λ lower k from to. subst (λ (m : ℕ). m < j.first) (sym (sequences_stay (j.count + k)))
             (held.behind low k (omega (arith, from)) to);
+        laid = same_there j.ring c d j.count j.ahead (λ k less. body_stays (j.count + k)) held.laid;
       }
 
     none_closed : HasClosed j.ring next 0 d

@@ -1,7 +1,7 @@
 -- A journal over a disk: what its file holds, and what an append leaves.
-use Rattle.std.specs.Prelude.{◌≡◌, ◌≢◌, ◌⊎◌, ℕ, ◌+◌, ◌-◌, ◌*◌, ◌^◌, ◌<◌, ◌≤◌, ◌==◌, min, List, [], ◌++◌, length, drop}
+use Rattle.std.specs.Prelude.{◌≡◌, ◌≢◌, ◌⊎◌, ℕ, zero, suc, ◌+◌, ◌-◌, ◌*◌, ◌^◌, ◌<◌, ◌≤◌, ◌==◌, min, List, [], ◌++◌, length, drop}
 use Rattle.std.specs.Prelude.{slice_index, true, Some, option_map, if◌then◌else◌, ◌↔◌, Result, IsErrOf}
-use Rattle.im_types.specs.declared.TheConstants.{LAST, MIN_SLOTS, MAX_SLOTS}
+use Rattle.im_types.specs.declared.TheConstants.{LAST, MIN_SLOTS, MAX_SLOTS, MAX_GROUP}
 use Rattle.im_types.specs.declared.commands.Command.{Command}
 use Rattle.im_types.specs.declared.refusals.Refusal.{Refusal}
 use Rattle.im_types.specs.declared.refusals.Refusal.TheVariants.{JournalFull}
@@ -13,7 +13,7 @@ use Rattle.im_types.specs.declared.layout.Version.{Version}
 use Rattle.im_types.specs.Layout.{layout_in_use, layout_of, ring_of}
 use Rattle.im_disk.specs.Moment.{Moment, Left}
 use Rattle.im_disk.specs.Since.{SameBut, LeavesNow}
-use Rattle.im_journal.specs.Groups.{HasBodies, SameButGroup}
+use Rattle.im_journal.specs.Groups.{HasBodies, AllFit, SameButGroup}
 
 -- the ring of an image of a version with these limits
 abbrev pub ring_in : Version → Limits → Ring
@@ -33,21 +33,30 @@ ring_at base slots = record { base = base; slots = slots }
 abbrev pub ring_alone : ℕ → Ring
 ring_alone slots = record { base = 0; slots = slots }
 
--- the run goes from the sequence number `first` to the one before `count`, with this room behind it
+-- The run goes from the sequence number `first` to the one before `count`, with this room behind it. The commands ahead
+-- are no part of the run: their bodies are on the disk where the run goes on, and the gate before them is closed.
 pub record JournalState : Type 0 where
   pub ring : Ring
   pub first : ℕ
   pub count : ℕ
   pub room : ℕ
+  pub ahead : List Command
 
--- a journal with these numbers
-abbrev pub journal_state : ℕ → ℕ → ℕ → ℕ → ℕ → JournalState
-journal_state base slots first count room = record {
+-- a journal with these numbers, and these commands ahead
+abbrev pub journal_state : ℕ → ℕ → ℕ → ℕ → ℕ → List Command → JournalState
+journal_state base slots first count room ahead = record {
   ring = record { base = base; slots = slots };
   first = first;
   count = count;
   room = room;
+  ahead = ahead;
 }
+
+-- these commands can go on with a run as one group: there is room for all of them, and none is past the last count
+pub record FitAhead (count left : ℕ) (commands : List Command) : Type 0 where
+  pub few : length commands ≤ MAX_GROUP
+  pub room : length commands ≤ left
+  pub last : count + length commands ≤ LAST
 
 -- the run and the room go once round the ring at most, and no further than the last count
 pub record IsJournal (j : JournalState) : Type 0 where
@@ -58,9 +67,16 @@ pub record IsJournal (j : JournalState) : Type 0 where
   pub once_round : j.count + j.room ≤ j.first + j.ring.slots
   pub to_last : j.count ≤ LAST
   pub full_at_last : j.count ≡ LAST → j.room ≡ 0
+  pub ahead : FitAhead j.count j.room j.ahead
+
+-- these commands stand behind the gates of the slots from this sequence number on, as one group
+pub record AreThere (ring : Ring) (s : ℕ) (commands : List Command) (file : List ℕ) : Type 0 where
+  pub bodies : HasBodies ring (length commands) s commands file
+  pub fits : AllFit commands
 
 -- The journal is the tail of the file. A read of the file may find more room than the journal knows of. Each slot
--- behind the known room is of a command before the run, whatever its gate is.
+-- behind the known room is of a command before the run, whatever its gate is. The bodies of the commands ahead stand in
+-- the first slots of the room, whose gates are closed.
 pub record Holds (j : JournalState) (file : List ℕ) : Type 0 where
   pub size : j.ring.base + 64 * j.ring.slots ≤ length file
   pub commands : List Command
@@ -70,6 +86,7 @@ pub record Holds (j : JournalState) (file : List ℕ) : Type 0 where
   pub enough : j.room ≤ there
   pub behind : j.count < LAST → (k : ℕ) → j.room ≤ k → k < j.ring.slots - (j.count - j.first)
       → sequence_of (slot j.ring (j.count + k) file) < j.first
+  pub laid : AreThere j.ring j.count j.ahead file
 
 -- the journal is the tail of each file that a crash at this moment may leave
 abbrev pub AllHold : JournalState → Moment → Type 0
@@ -79,9 +96,22 @@ AllHold j m = (file : List ℕ) → Left m file → Holds j file
 abbrev pub room_after : ℕ → ℕ → ℕ → ℕ
 room_after count n room = if count + n == LAST then 0 else room - n
 
+-- what is ahead still, once so many commands were added at the end of the run
+abbrev pub ahead_after : {X : Type 0} → ℕ → List X → List X
+ahead_after zero ahead = ahead
+ahead_after (suc n) ahead = []
+
 -- the journal with n commands more
 abbrev pub longer : ℕ → JournalState → JournalState
-longer n j = record j { count = j.count + n; room = room_after j.count n j.room }
+longer n j = record j {
+  count = j.count + n;
+  room = room_after j.count n j.room;
+  ahead = ahead_after n j.ahead;
+}
+
+-- the journal with these commands ahead
+abbrev pub with_ahead : List Command → JournalState → JournalState
+with_ahead commands j = record j { ahead = commands }
 
 -- the number of slots outside the run and the known room; at the last count no slot can become room
 abbrev pub to_sweep : JournalState → ℕ
@@ -102,38 +132,54 @@ MayBeginAt j first file = IsBoundary j.ring j.first (first - j.first) file
 abbrev pub KeepsBoundaries : Ring → ℕ → List ℕ → List ℕ → Type 0
 KeepsBoundaries ring first c d = (k : ℕ) → IsBoundary ring first k c → IsBoundary ring first k d
 
--- Outside the slots of these commands as a group, the file is one that could be left. Its tail has the commands at its
--- end, behind one open gate.
-pub record Appended (j : JournalState) (commands : List Command) (m : Moment) (file : List ℕ) : Type 0 where
+-- Outside n slots behind the run, the file is one that could be left. Its tail has these commands at its end, behind one
+-- open gate.
+pub record IsPut (n : ℕ) (j : JournalState) (commands : List Command) (m : Moment) (file : List ℕ) : Type 0 where
   pub from : List ℕ
   pub left : Left m from
-  pub same : SameButGroup j.ring j.count (length commands) from file
+  pub same : SameButGroup j.ring j.count n from file
   pub gate : is_open (slot j.ring j.count file) ≡ true
   pub bodies : HasBodies j.ring (length commands) j.count commands file
   pub reads : tail j.ring j.first file ≡ option_map (longer_tail j.count commands) (tail j.ring j.first from)
   pub boundaries : KeepsBoundaries j.ring j.first from file
 
--- The commands are on the disk for good, and the next journal is the tail of each file left. The bytes outside their
--- slots are as they were.
-pub record Adds (j next : JournalState) (commands : List Command) (old new : Moment) : Type 0 where
-  pub added : LeavesNow new (Appended j commands old)
+-- The commands are on the disk for good, and the next journal is the tail of each file left. The bytes outside n slots
+-- behind the run are as they were.
+pub record Puts (n : ℕ) (j next : JournalState) (commands : List Command) (old new : Moment) : Type 0 where
+  pub added : LeavesNow new (IsPut n j commands old)
   pub holds : AllHold next new
-  pub kept : SameButGroup j.ring j.count (length commands) old.bytes new.bytes
+  pub kept : SameButGroup j.ring j.count n old.bytes new.bytes
   pub calm : new.ranges ≡ []
+
+-- the same, if no other slots are written
+abbrev pub Adds : JournalState → JournalState → List Command → Moment → Moment → Type 0
+Adds j next commands old new = Puts (length commands) j next commands old new
 
 -- The result is `JournalFull` exactly if this holds, and then the disk is as it was.
 pub record IsFullBy {T D : Type 0} (full : Type 0) (old new : D) (result : Result T Refusal) : Type 0 where
   pub exactly : (IsErrOf result JournalFull) ↔ full
   pub untouched : IsErrOf result JournalFull → new ≡ old
 
--- the commands are appended so, or the tail is as it was
-pub record MayAppend (j : JournalState) (commands : List Command) (m : Moment) (file : List ℕ) : Type 0 where
+-- the commands are put so, or the tail is as it was
+pub record MayPut (n : ℕ) (j : JournalState) (commands : List Command) (m : Moment) (file : List ℕ) : Type 0 where
   pub from : List ℕ
   pub left : Left m from
-  pub same : SameButGroup j.ring j.count (length commands) from file
+  pub same : SameButGroup j.ring j.count n from file
   pub reads : (tail j.ring j.first file ≡ tail j.ring j.first from)
       ⊎ (tail j.ring j.first file ≡ option_map (longer_tail j.count commands) (tail j.ring j.first from))
   pub boundaries : KeepsBoundaries j.ring j.first from file
+
+-- the same, if no other slots are written
+abbrev pub MayAppend : JournalState → List Command → Moment → List ℕ → Type 0
+MayAppend j commands m file = MayPut (length commands) j commands m file
+
+-- the slots of the commands ahead, and of those that come behind them
+abbrev pub slots_ahead : JournalState → List Command → ℕ
+slots_ahead j next = length j.ahead + length next
+
+-- there is no room for both
+abbrev pub IsFullFor : JournalState → List Command → Type 0
+IsFullFor j next = (j.room < slots_ahead j next) ⊎ (LAST < j.count + slots_ahead j next)
 
 -- the journal with this much room more
 abbrev pub with_room : JournalState → ℕ → JournalState
@@ -172,6 +218,15 @@ pub record Sweeps (j next : JournalState) (old new : Moment) : Type 0 where
   pub holds : AllHold next new
   pub run : SameRun j old.bytes new.bytes
   pub calm : new.ranges ≡ []
+
+-- The same where bodies are written behind the run, behind closed gates: the run and the room stay.
+abbrev pub MayLay : JournalState → Moment → List ℕ → Type 0
+MayLay j m file = MaySweep j m file
+
+-- The bodies of commands are ahead on the disk for good: the journal with them is the tail of each file left. The run is
+-- as it was.
+abbrev pub Lays : JournalState → JournalState → Moment → Moment → Type 0
+Lays j next old new = Sweeps j next old new
 
 -- what is left of the tail of a file that holds a journal, behind n of the run's commands
 abbrev pub rest_behind : {j : JournalState} {file : List ℕ} → ℕ → Holds j file → Tail

@@ -1,3 +1,4 @@
 pub mod Holding
 pub mod Gates
 pub mod Groups
+pub mod Laid

@@ -1,11 +1,11 @@
-// Closes the gates of slots.
+// Closes the gates of slots, or opens one.
 ghost use Rattle.std.specs.Prelude.{◌≡◌, ◌+◌, ◌*◌, ◌≤◌, ◌<◌, ◌^◌, length, OnOk};
 ghost use Rattle.im_disk.specs.Runs.{Runs};
-ghost use Rattle.im_journal.specs.Gates.{IsRing, MayClose, AreShut};
+ghost use Rattle.im_journal.specs.Gates.{IsRing, MayClose, AreShut, MayTouch, IsOpened};
 ghost use Rattle.im_journal.specs.Holding.{ring_at};
 
 use im_disk::{DeviceFault, Disk};
-use im_types::layout::CLOSED;
+use im_types::layout::{CLOSED, OPEN};
 
 /// Closes the gates of `count` slots of a ring, from the slot of sequence number `from` on. It writes one byte for each
 /// and syncs. The slots are of commands before the run. Such a slot is no command while its gate is open, and may count
@@ -30,5 +30,15 @@ pub(crate) fn close_gates<D: Disk>(
         disk.write_at(at, &[CLOSED])?; // A stop may leave any byte there: open or closed, the slot is no command.
     }
     disk.sync()?; // The same. Once this is done the gates are closed for good.
+    Ok(())
+}
+
+/// Opens the gate at `at` by writing its byte. It makes no sync: that of the next bodies is for both.
+pub(crate) fn write_gate<D: Disk>(disk: &mut D, at: usize) -> Result<(), DeviceFault>
+    requires inside { D.honest disk.old → at + 1 ≤ length (D.now disk.old).bytes }
+    ensures runs { Runs D.Disk disk.old disk.new result 1 (MayTouch at (D.now disk.old)) }
+    ensures opened { OnOk result (D.honest disk.new → IsOpened at (D.now disk.old) (D.now disk.new)) }
+{
+    disk.write_at(at, &[OPEN])?; // A stop may leave any byte there: the gate is closed, or open.
     Ok(())
 }

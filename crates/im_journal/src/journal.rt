@@ -1,34 +1,37 @@
 //! The journal as its owner sees it: how far its run of commands has come, how a command is added, and how the slots of
 //! commands before the run become room again.
 ghost use Rattle.std.specs.Prelude.{◌≡◌, ◌⊎◌, ◌+◌, ◌*◌, ◌-◌, ◌≤◌, ◌<◌, List, [], ◌∷◌, ℕ, length, drop, min, Some, None};
-ghost use Rattle.std.specs.Prelude.{◌&&◌, nat_le, OnOk, IfOk, IfErr, MatchResult};
+ghost use Rattle.std.specs.Prelude.{OnOk, IfOk, IfErr, MatchResult};
 ghost use Rattle.im_types.specs.Journal.{tail};
 ghost use Rattle.im_disk.specs.Runs.{RunsOrRefuses, ReadsOrRefuses};
 ghost use Rattle.im_disk.specs.Since.{Calls};
 ghost use Rattle.im_journal.specs.Holding.{ring_in, ring_under, IsJournal, Holds, AllHold, AreClosed, IsTail};
-ghost use Rattle.im_journal.specs.Holding.{room_after, longer, MayBeginAt, rest_behind, MayAppend, Adds, IsFullBy};
+ghost use Rattle.im_journal.specs.Holding.{longer, MayBeginAt, rest_behind, MayAppend, Adds, IsFullBy};
 ghost use Rattle.im_journal.specs.Holding.{to_sweep, MaySweep, IsSwept, IsSweptBy, Sweeps};
 
 use crate::bytes::read_bytes;
 use crate::gate::close_gates;
 use crate::group::write_bodies;
+use crate::laid::Laid;
 use crate::ring::tail_in;
+use crate::room::{at_once, has_room, room_after};
 use im_disk::{Disk, open_gate};
 use im_types::layout::{Version, journal_at};
 use im_types::{Command, LAST, Limits, MAX_GROUP, Refusal};
 use std::alloc::Global;
-use std::cmp::min;
 use std::marker::Model;
 
 /// The journal of an image: where its ring of slots is, and how far the run of commands in it has come. The command
-/// with sequence number s stands in slot s mod slots. The commands themselves are on the disk alone.
+/// with sequence number s stands in slot s mod slots. The commands themselves are on the disk alone. Commands may be
+/// ahead: their bodies are on the disk, and they are no part of the run until the gate before them is open.
 #[derive(Drop)]
 pub struct Journal {
-    base: usize,
-    slots: u32,
-    first: u64,
-    count: u64,
-    room: u32,
+    pub(crate) base: usize,
+    pub(crate) slots: u32,
+    pub(crate) first: u64,
+    pub(crate) count: u64,
+    pub(crate) room: u32,
+    pub(crate) laid: Laid,
 }
 
 impl Model for Journal {
@@ -36,45 +39,17 @@ impl Model for Journal {
 
     ghost Value = { JournalState };
 
-    ghost view = { λ j. journal_state j.base j.slots j.first j.count j.room };
+    ghost view = { λ j. journal_state j.base j.slots j.first j.count j.room j.laid };
 
-    ghost invariant = { λ j. IsJournal (journal_state j.base j.slots j.first j.count j.room) };
-}
-
-// Whether there is room for so many commands, and a count.
-fn has_room(count: u64, room: u32, group: usize) -> bool
-    requires few { group ≤ MAX_GROUP }
-    requires last { count ≤ LAST }
-    ensures { result ≡ (nat_le group room && nat_le (count + group) LAST) }
-{
-    group <= room as usize && count + group as u64 <= LAST
-}
-
-// The room behind so many commands, the first of them with this sequence number.
-fn room_after(count: u64, group: usize, room: u32) -> u32
-    requires enough { group ≤ room }
-    requires last { count + group ≤ LAST }
-    ensures { result ≡ room_after count group room }
-{
-    if count + group as u64 == LAST {
-        0
-    } else {
-        room - group as u32
-    }
-}
-
-// How many of so many slots are swept with one sync.
-fn at_once(slots: u32, most: u32) -> u32
-    ensures { result ≡ min most slots }
-{
-    min(most, slots)
+    ghost invariant = { λ j. IsJournal (journal_state j.base j.slots j.first j.count j.room j.laid) };
 }
 
 impl Journal {
     /// The journal of an image that was formatted under these limits: no commands yet, and room in every slot. It is
     /// the tail of each file whose gates are all closed.
     pub fn fresh(limits: Limits) -> Journal
-        ensures state { result ≡ record { ring = ring_under limits; first = 0; count = 0; room = limits.slots } }
+        ensures state { result
+            ≡ record { ring = ring_under limits; first = 0; count = 0; room = limits.slots; ahead = [] } }
         ensures holds { (file : List ℕ) → result.ring.base + 64 * result.ring.slots ≤ length file
             → AreClosed result.ring file → Holds result file }
     {
@@ -84,6 +59,7 @@ impl Journal {
             first: 0,
             count: 0,
             room: limits.slots,
+            laid: Laid::none(),
         }
     }
 
@@ -109,8 +85,8 @@ impl Journal {
             → IsTail (ring_in version limits) from r.0 r.1.items (D.now disk.old).bytes) }
         ensures bad { IfErr result (λ e. e ≡ Refusal.BadRecord → D.honest disk.new
             → tail (ring_in version limits) from (D.now disk.old).bytes ≡ None) }
-        ensures journal { IfOk result
-            (λ r. (r.0.ring ≡ ring_in version limits) × (r.0.first ≡ from) × (r.0.count ≡ from + length r.1.items)) }
+        ensures journal { IfOk result (λ r. (r.0.ring ≡ ring_in version limits) × (r.0.first ≡ from)
+            × (r.0.count ≡ from + length r.1.items) × (r.0.ahead ≡ [])) }
         ensures reads { ReadsOrRefuses D.Disk disk.old disk.new result
             (λ e. (e ≡ Refusal.BadRecord) ⊎ (e ≡ Refusal.NoMemory) ⊎ (e ≡ Refusal.Device)) }
         ensures calls { OnOk result (D.honest disk.new → Calls D.past disk.old disk.new 1) }
@@ -131,6 +107,7 @@ impl Journal {
             first: from,
             count: from + commands.len() as u64,
             room: room as u32,
+            laid: Laid::none(),
         };
         Ok((journal, commands))
     }
@@ -206,7 +183,7 @@ impl Journal {
 
     /// Adds commands at the end of the run as one group, 1 to [`MAX_GROUP`] of them: the body of each, a sync, the gate
     /// of the first, a sync. These are three calls of the disk more than there are commands. At `Ok` all of them are on
-    /// the disk. It takes no memory.
+    /// the disk, and nothing is ahead: their slots are those of the commands that were. It takes no memory.
     ///
     /// `JournalFull` exactly where there is less room, or the count would pass [`LAST`]; then no call is made. `Device`
     /// where a call of the disk failed; then all of them are on the disk or none is, the journal is as it was, and the
@@ -248,6 +225,7 @@ impl Journal {
         let room = room_after(self.count, group, self.room);
         self.count += group as u64;
         self.room = room;
+        self.laid = Laid::none();
         Ok(())
     }
 

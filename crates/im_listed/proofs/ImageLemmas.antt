@@ -5,13 +5,15 @@ use Rattle.std.proofs.lemmas.Bool.{false≢true}
 use Rattle.im_types.specs.declared.commands.Command.{Command}
 use Rattle.im_types.specs.declared.commands.Outcome.{Outcome}
 use Rattle.im_types.specs.declared.refusals.Refusal.{Refusal}
-use Rattle.im_types.specs.declared.refusals.Refusal.TheVariants.{NoMemory, Device, WrongLength}
+use Rattle.im_types.specs.declared.groups.Served.{Served}
+use Rattle.im_types.specs.declared.refusals.Refusal.TheVariants.{NoMemory, Device, Failed, WrongLength}
 use Rattle.im_types.specs.Step.{is_accepted}
 use Rattle.im_disk.specs.Moment.{Moment, Left, Faults, synced}
 use Rattle.im_disk.specs.Since.{Leaves, LeavesNow}
 use Rattle.im_disk.proofs.SinceLemmas.{only_now, left_now, left_synced, leaves_now}
 use Rattle.im_checkpoint.specs.declared.checkpoint.TurnDone.{TurnDone}
 use Rattle.im_engine.specs.State.{EngineState, MeansState, IsFirstFault}
+use Rattle.im_engine.specs.Chain.{Advances}
 use Rattle.im_engine.specs.Run.{Answered, SweepAnswered, TurnAnswered, TurnTaken, is_device}
 use Rattle.im_listed.specs.History.{given}
 use Rattle.im_listed.specs.Numbers.{told_number}
@@ -144,6 +146,16 @@ steady_sweep s new most (Ok swept) before after a f alive on = f
 steady_sweep s new most (Err refusal) before after a f alive on = ⊎_elim
     (λ l. absurd (false≢true (ap (λ (r : Result ℕ Refusal). tells_ok r) l.0)))
     (λ r. absurd (false≢true (sym on ∙ ap (λ (t : EngineState Listing). t.failed) r.1)))
+    (a.alive alive)
+
+pub steady_advance : (s new : EngineState Listing) (next : List Command) (answer : Result ℕ Refusal)
+    (answers : List Served) (before after : ℕ) → Advances s next answer answers new
+    → Faults (λ e. (e ≡ Failed) ⊎ (e ≡ Device)) answer before after → s.failed ≡ false → new.failed ≡ false
+    → after ≡ before
+steady_advance s new next (Ok many) answers before after a f alive on = f
+steady_advance s new next (Err refusal) answers before after a f alive on = ⊎_elim
+    (λ l. absurd (false≢true (ap (λ (r : Result ℕ Refusal). tells_ok r) l.1)))
+    (λ r. absurd (false≢true (sym on ∙ ap (λ (t : EngineState Listing). t.failed) r.2)))
     (a.alive alive)
 
 pub start_of : (e s : EngineState Listing) → s ≡ record e { disk = with_no_steps e.disk }

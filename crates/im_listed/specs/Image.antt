@@ -1,5 +1,6 @@
 -- An image in the hands of a caller that carries out the writes and syncs.
-use Rattle.std.specs.Prelude.{◌≡◌, ◌⊎◌, ℕ, Bool, false, List, [], length, take, Result, Ok, Err, if◌then◌else◌}
+use Rattle.std.specs.Prelude.{◌≡◌, ◌⊎◌, ℕ, Bool, false, List, [], length, take, Result, Ok, Err, IfOk}
+use Rattle.std.specs.Prelude.{if◌then◌else◌}
 use Rattle.im_types.specs.declared.commands.Command.{Command}
 use Rattle.im_types.specs.declared.groups.Served.{Served}
 use Rattle.im_types.specs.declared.refusals.Refusal.{Refusal}
@@ -8,6 +9,7 @@ use Rattle.im_disk.specs.Moment.{Moment}
 use Rattle.im_disk.specs.Since.{LeavesNow}
 use Rattle.im_groups.specs.Ahead.{ServesPrefix}
 use Rattle.im_engine.specs.State.{EngineState, MeansState, IsFirstFault}
+use Rattle.im_engine.specs.Chain.{Advances, TakesNext}
 use Rattle.im_engine.specs.Commands.{CommandsAnswered, MeansCommands, commands_put}
 use Rattle.im_engine.specs.Run.{is_device}
 use Rattle.im_listed.specs.Listing.{FileStep, Listing, MayLeave, carried, LeftOnTheWay, with_no_steps}
@@ -60,3 +62,12 @@ pub record ServesFirst (old : ImageState) (members : List Command) (answers : Li
   pub answered : CommandsAnswered (begun_in old) (take (length answers) members) answers new.engine
   -- on the way the file means the memory before those that are served, or after all of them
   pub carried : Carries old.engine.disk.now new (MeansCommands (begun_in old) (take (length answers) members))
+
+-- The next members are put ahead behind the group that is ahead of the image, whose members are answered.
+pub record PutsAhead (old : ImageState) (next : List Command) (result : Result ℕ Refusal) (answers : List Served)
+    (new : ImageState) : Type 0 where
+  pub answered : Advances (begun_in old) next result answers new.engine
+  -- how many of the next members are ahead, and where they end
+  pub takes : IfOk result (TakesNext (begun_in old) next new.engine)
+  -- on the way the file means the memory before the group that was ahead, or after all of it
+  pub carried : Carries old.engine.disk.now new (MeansCommands (begun_in old) old.engine.ahead)

@@ -10,7 +10,7 @@ ghost use Rattle.im_engine.specs.Run.{Answered, SweepAnswered, TurnAnswered};
 ghost use Rattle.im_listed.specs.Listing.{Accounts, Settles, task_of, carried};
 ghost use Rattle.im_listed.specs.History.{given};
 ghost use Rattle.im_listed.specs.Image.{ImageState, Carries, IsFaultOf, IsWant, begun_in, steps_of, tells_device};
-ghost use Rattle.im_listed.specs.Image.{ServesFirst};
+ghost use Rattle.im_listed.specs.Image.{ServesFirst, PutsAhead};
 
 use crate::listed::Listed;
 use crate::settling::{is_one_sync, settled};
@@ -137,7 +137,7 @@ impl Image {
         }
     }
 
-    /// Empties the list of steps. Each call of `serve`, `serve_commands`, `turn` and `sweep` does so first.
+    /// Empties the list of steps. Each call of `serve`, `serve_commands`, `advance`, `turn` and `sweep` does so first.
     pub fn forget_steps(&mut self)
         ensures { self.new ≡ record self.old { engine = begun_in self.old } }
     {
@@ -193,6 +193,31 @@ impl Image {
         self.engine.empty_list();
         self.engine.serve_commands(members, served);
         self.lost = known(&self.engine); // A step of the group couldn't be listed.
+    }
+
+    /// Lets the group ahead act and puts the next one ahead of it, like [`Engine::advance`]. Returns `Device` if a step
+    /// couldn't be listed, and then refuses each member of the group ahead so. If a step was lost, nobody is answered.
+    pub fn advance(
+        &mut self,
+        next: &ArrayVec<Command, MAX_GROUP>,
+        served: &mut ArrayVec<Served, MAX_GROUP>,
+    ) -> Result<usize, Refusal>
+        requires empty { served.old.items ≡ [] }
+        ensures lost { self.old.lost ≡ true
+            → (result ≡ Err Refusal.Device) × (served.new.items ≡ []) × (self.new ≡ self.old) }
+        ensures works { self.old.lost ≡ false → self.old.engine.failed ≡ false }
+        // The answers, how many of the next members are ahead, and what the file means on the way.
+        ensures ahead { self.old.lost ≡ false
+            → PutsAhead self.old next.now.items result served.new.items self.new }
+    {
+        if self.lost {
+            return Err(Refusal::Device);
+        }
+        let _ = known(&self.engine);
+        self.engine.empty_list();
+        let answer = self.engine.advance(next, served);
+        self.lost = known(&self.engine);
+        answer
     }
 
     /// Makes one checkpoint turn, like [`Engine::turn`]. Returns `Device` if a step couldn't be listed or was lost.

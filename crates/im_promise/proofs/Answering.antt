@@ -1,8 +1,8 @@
 -- How the events of a run were answered, and what is in doubt of them.
 use Rattle.std.proofs.Common.{◌≡◌, ◌⊎◌, inl, inr, ⊎_elim, ℕ, zero, suc, ◌+◌, ◌<◌, ◌≤◌, Bool, true, false, ◌&&◌, List}
 use Rattle.std.proofs.Common.{[], ◌∷◌, ◌++◌, length, map, Result, Ok, Err, refl, sym, ap, ◌∙◌, subst, arith}
-use Rattle.std.proofs.Common.{length-append, if◌then◌else◌}
-use Rattle.std.specs.Prelude.{IsTrue, IsOk}
+use Rattle.std.proofs.Common.{length-append, take, length-take, length-map, if◌then◌else◌}
+use Rattle.std.specs.Prelude.{max, IsTrue, IsOk}
 use Rattle.im_types.specs.declared.commands.Request.{Request}
 use Rattle.im_types.specs.declared.commands.Command.{Command}
 use Rattle.im_types.specs.declared.commands.Outcome.{Outcome}
@@ -17,14 +17,22 @@ use Rattle.im_types.specs.Groups.{as_served, answers_of, reached_by_all, puts_of
 use Rattle.im_checkpoint.specs.declared.checkpoint.TurnDone.{TurnDone}
 use Rattle.arrayvec.specs.ArrayVec.{ArrayVec}
 use Rattle.im_engine.specs.declared.run.Event.{Event}
-use Rattle.im_engine.specs.declared.run.Event.TheVariants.{Command as Serve, Group as Together, Turn, Sweep}
+use Rattle.im_engine.specs.declared.run.Event.TheVariants.{Command as Serve, Group as Together, Ahead, Turn, Sweep}
 use Rattle.im_engine.specs.declared.run.Answer.{Answer}
 use Rattle.im_engine.specs.declared.run.Answer.TheVariants.{Served as Told, Grouped, Turned as TookTurn}
-use Rattle.im_engine.specs.declared.run.Answer.TheVariants.{Swept as DidSweep}
+use Rattle.im_engine.specs.declared.run.Answer.TheVariants.{Advanced, Swept as DidSweep}
+use Rattle.im_types.specs.declared.commands.Command.TheVariants.{Request as Asks}
+use Rattle.im_groups.specs.Commands.{places, commands_at, answers_with}
+use Rattle.im_groups.proofs.CommandLemmas.{at-after}
+use Rattle.im_groups.proofs.EnoughLemmas.{enough-answers, at_most_members}
 use Rattle.im_engine.specs.State.{EngineState, with_command}
+use Rattle.im_engine.specs.Commands.{commands_put, each_refused}
+use Rattle.im_engine.specs.Chain.{Advances}
 use Rattle.im_engine.specs.Groups.{reached_in, after_group, group_put, all_refused, answers_in, GroupAnswered}
 use Rattle.im_engine.specs.Run.{Answered, TurnAnswered, SweepAnswered, AnsweredInTurn, is_device, has_device}
-use Rattle.im_engine.specs.Run.{acknowledged_members, acknowledged_by, is_doubt, reached_at, in_doubt_by, in_doubt}
+use Rattle.im_engine.specs.Run.{acknowledged_members, acknowledged_commands, acknowledged_by, is_doubt, reached_at}
+use Rattle.im_engine.specs.Run.{ahead_behind, ahead_by, taken_by, in_doubt_by, in_doubt}
+use Rattle.im_engine.proofs.Acknowledging.{acknowledged-commands, refused-none}
 use Rattle.im_engine.proofs.Members.{puts_few}
 use Rattle.im_promise.specs.Acknowledged.{calls_in_doubt, most_of, most_of_one, is_fault, IsFailed, IsAnswer}
 use Rattle.im_promise.specs.Acknowledged.{AreAnswers}
@@ -73,10 +81,15 @@ pub record Known : Type 0 where
 
 -- ---- once the engine has failed
 
-record IsOver (m : Contents) (n : ℕ) (events : List Event) (answers : List Answer) : Type 0 where
+-- `ahead` are the members ahead of the engine; nothing is in doubt whatever is ahead
+record IsOver (m : Contents) (n : ℕ) (ahead there : List Command) (events : List Event) (answers : List Answer) : Type 0 where
   pub calls_none : calls_in_doubt answers ≡ 0
-  pub doubt_none : in_doubt m n events answers ≡ []
-  pub answered : AreAnswers true m n events answers
+  pub doubt_none : in_doubt m n there events answers ≡ []
+  pub answered : AreAnswers true m n ahead events answers
+
+-- the same of an engine that is as it was
+abbrev Over : List Command → List Event → List Answer → Type 0
+Over ahead events answers = (m : Contents) (n : ℕ) (there : List Command) → IsOver m n ahead there events answers
 
 -- an answer with no doubt, before others with none
 no_call : (b : Bool) (n : ℕ) → b ≡ false → n ≡ 0 → (if b then 1 else 0) + n ≡ 0
@@ -85,75 +98,106 @@ no_call false n is none = omega (arith, none)
 
 module _ (known : Known) where
   over_more : (e : Event) (a : Answer) (events : List Event) (answers : List Answer) (m : Contents) (n : ℕ)
-      → is_doubt a ≡ false → in_doubt_by m n e a ≡ [] → IsFailed e a
-      → ((k : Contents) (j : ℕ) → IsOver k j events answers) → IsOver m n (e ∷ events) (a ∷ answers)
-  over_more e a events answers m n sure none failed rest = record {
-    calls_none = no_call (is_doubt a) (calls_in_doubt answers) sure (rest m n).calls_none;
-    doubt_none =
-        no_more (in_doubt_by m n e a)
-        (in_doubt (after m (acknowledged_by m e a)) (n + length (acknowledged_by m e a)) events answers) none
-        (rest (after m (acknowledged_by m e a)) (n + length (acknowledged_by m e a))).doubt_none;
-    answered = (failed, (rest m n).answered);
-  }
+      (ahead there : List Command)
+      → is_doubt a ≡ false → in_doubt_by m n there e a ≡ [] → IsFailed ahead e a
+      → Over ahead events answers → IsOver m n ahead there (e ∷ events) (a ∷ answers)
+  over_more e a events answers m n ahead there sure none failed rest =
+      let put = acknowledged_by m there e a in
+      let next = ahead_by m there e a in
+      record {
+        calls_none = no_call (is_doubt a) (calls_in_doubt answers) sure (rest m n there).calls_none;
+        doubt_none = no_more (in_doubt_by m n there e a) (in_doubt (after m put) (n + length put) next events answers) none
+            (rest (after m put) (n + length put) next).doubt_none;
+        answered = (failed, (rest m n there).answered);
+      }
+
+  -- the engine stays as it is
+  over_on : {D : Type 0} (old mid : EngineState D) (events : List Event) (answers : List Answer) → mid ≡ old
+      → Over mid.ahead events answers → Over old.ahead events answers
+  over_on {D} old mid events answers same rest = subst (λ (s : EngineState D). Over s.ahead events answers) same rest
 
   over : {D : Type 0} (old new : EngineState D) (events : List Event) (answers : List Answer) → old.failed ≡ true
-      → AnsweredInTurn old events answers new → (m : Contents) (n : ℕ) → IsOver m n events answers
-  over old new [] [] dead it m n = record { calls_none = refl; doubt_none = refl; answered = tt }
-  over old new [] (a ∷ answers) dead it m n = absurd it
-  over old new (e ∷ events) [] dead it m n = absurd it
-  over {D} old new (Serve c ∷ events) (Told a ∷ answers) dead (mid, one, rest) m n =
+      → AnsweredInTurn old events answers new → Over old.ahead events answers
+  over old new [] [] dead it m n there = record { calls_none = refl; doubt_none = refl; answered = tt }
+  over old new [] (a ∷ answers) dead it m n there = absurd it
+  over old new (e ∷ events) [] dead it m n there = absurd it
+  over {D} old new (Serve c ∷ events) (Told a ∷ answers) dead (mid, one, rest) m n there =
       let is = one.dead dead in
-      over_more (Serve c) (Told a) events answers m n (ap (λ (x : Result Outcome Refusal). is_doubt (Told x)) is.0)
+      over_more (Serve c) (Told a) events answers m n old.ahead there
+      (ap (λ (x : Result Outcome Refusal). is_doubt (Told x)) is.0)
       (none_if c (is_accepted m c) (is_doubt (Told a)) (ap (λ (x : Result Outcome Refusal). is_doubt (Told x)) is.0))
       is.0
-      (over mid new events answers (ap (λ (s : EngineState D). s.failed) is.1 ∙ dead) rest)
-  over old new (Serve c ∷ events) (Grouped room served ∷ answers) dead (mid, one, rest) m n = absurd one
-  over old new (Serve c ∷ events) (TookTurn a ∷ answers) dead (mid, one, rest) m n = absurd one
-  over old new (Together members ∷ events) (Told a ∷ answers) dead (mid, one, rest) m n = absurd one
-  over {D} old new (Together members ∷ events) (Grouped room served ∷ answers) dead (mid, one, rest) m n =
+      (over_on old mid events answers is.1
+      (over mid new events answers (ap (λ (s : EngineState D). s.failed) is.1 ∙ dead) rest))
+  over old new (Serve c ∷ events) (Grouped room served ∷ answers) dead (mid, one, rest) m n there = absurd one
+  over old new (Serve c ∷ events) (TookTurn a ∷ answers) dead (mid, one, rest) m n there = absurd one
+  over old new (Together members ∷ events) (Told a ∷ answers) dead (mid, one, rest) m n there = absurd one
+  over {D} old new (Together members ∷ events) (Grouped room served ∷ answers) dead (mid, one, rest) m n there =
       let is = one.1.dead dead in
       let sure : has_device served.items ≡ false = ap has_device is.0 ∙ known.dead members in
-      over_more (Together members) (Grouped room served) events answers m n sure
+      over_more (Together members) (Grouped room served) events answers m n old.ahead there sure
       (ap (λ (b : Bool). if b then puts_of (reached_at m n room) members else []) sure) is.0
-      (over mid new events answers (ap (λ (s : EngineState D). s.failed) is.1 ∙ dead) rest)
-  over old new (Together members ∷ events) (TookTurn a ∷ answers) dead (mid, one, rest) m n = absurd one
-  over old new (Turn ∷ events) (Told a ∷ answers) dead (mid, one, rest) m n = absurd one
-  over old new (Turn ∷ events) (Grouped room served ∷ answers) dead (mid, one, rest) m n = absurd one
-  over {D} old new (Turn ∷ events) (TookTurn a ∷ answers) dead (mid, one, rest) m n =
-      over_more Turn (TookTurn a) events answers m n refl refl (one.dead dead).0
-      (over mid new events answers (ap (λ (s : EngineState D). s.failed) (one.dead dead).1 ∙ dead) rest)
-  over old new (Serve c ∷ events) (DidSweep a ∷ answers) dead (mid, one, rest) m n = absurd one
-  over old new (Together members ∷ events) (DidSweep a ∷ answers) dead (mid, one, rest) m n = absurd one
-  over old new (Turn ∷ events) (DidSweep a ∷ answers) dead (mid, one, rest) m n = absurd one
-  over old new (Sweep most ∷ events) (Told a ∷ answers) dead (mid, one, rest) m n = absurd one
-  over old new (Sweep most ∷ events) (Grouped room served ∷ answers) dead (mid, one, rest) m n = absurd one
-  over old new (Sweep most ∷ events) (TookTurn a ∷ answers) dead (mid, one, rest) m n = absurd one
-  over {D} old new (Sweep most ∷ events) (DidSweep a ∷ answers) dead (mid, one, rest) m n =
-      over_more (Sweep most) (DidSweep a) events answers m n refl refl (one.dead dead).0
-      (over mid new events answers (ap (λ (s : EngineState D). s.failed) (one.dead dead).1 ∙ dead) rest)
+      (over_on old mid events answers is.1
+      (over mid new events answers (ap (λ (s : EngineState D). s.failed) is.1 ∙ dead) rest))
+  over old new (Together members ∷ events) (TookTurn a ∷ answers) dead (mid, one, rest) m n there = absurd one
+  over old new (Turn ∷ events) (Told a ∷ answers) dead (mid, one, rest) m n there = absurd one
+  over old new (Turn ∷ events) (Grouped room served ∷ answers) dead (mid, one, rest) m n there = absurd one
+  over {D} old new (Turn ∷ events) (TookTurn a ∷ answers) dead (mid, one, rest) m n there =
+      over_more Turn (TookTurn a) events answers m n old.ahead there refl refl (one.dead dead).0
+      (over_on old mid events answers (one.dead dead).1
+      (over mid new events answers (ap (λ (s : EngineState D). s.failed) (one.dead dead).1 ∙ dead) rest))
+  over old new (Serve c ∷ events) (DidSweep a ∷ answers) dead (mid, one, rest) m n there = absurd one
+  over old new (Together members ∷ events) (DidSweep a ∷ answers) dead (mid, one, rest) m n there = absurd one
+  over old new (Turn ∷ events) (DidSweep a ∷ answers) dead (mid, one, rest) m n there = absurd one
+  over old new (Sweep most ∷ events) (Told a ∷ answers) dead (mid, one, rest) m n there = absurd one
+  over old new (Sweep most ∷ events) (Grouped room served ∷ answers) dead (mid, one, rest) m n there = absurd one
+  over old new (Sweep most ∷ events) (TookTurn a ∷ answers) dead (mid, one, rest) m n there = absurd one
+  over {D} old new (Sweep most ∷ events) (DidSweep a ∷ answers) dead (mid, one, rest) m n there =
+      over_more (Sweep most) (DidSweep a) events answers m n old.ahead there refl refl (one.dead dead).0
+      (over_on old mid events answers (one.dead dead).1
+      (over mid new events answers (ap (λ (s : EngineState D). s.failed) (one.dead dead).1 ∙ dead) rest))
+  over {D} old new (Ahead members ∷ events) (Advanced r served ∷ answers) dead (mid, one, rest) m n there =
+      let is = one.0.dead dead in
+      let sure : is_doubt (Advanced r served) ≡ false
+      = ap (λ (x : Result ℕ Refusal). is_doubt (Advanced x served)) is.0 in
+      over_more (Ahead members) (Advanced r served) events answers m n old.ahead there sure
+      (ap (λ (b : Bool). if b then commands_at m (length there) there else []) sure) (is.0, is.1)
+      (over_on old mid events answers is.2
+      (over mid new events answers (ap (λ (s : EngineState D). s.failed) is.2 ∙ dead) rest))
+  over old new (Ahead members ∷ events) (Told a ∷ answers) dead (mid, one, rest) m n there = absurd one
+  over old new (Ahead members ∷ events) (Grouped room served ∷ answers) dead (mid, one, rest) m n there = absurd one
+  over old new (Ahead members ∷ events) (TookTurn a ∷ answers) dead (mid, one, rest) m n there = absurd one
+  over old new (Ahead members ∷ events) (DidSweep a ∷ answers) dead (mid, one, rest) m n there = absurd one
+  over old new (Serve c ∷ events) (Advanced r served ∷ answers) dead (mid, one, rest) m n there = absurd one
+  over old new (Together members ∷ events) (Advanced r served ∷ answers) dead (mid, one, rest) m n there = absurd one
+  over old new (Turn ∷ events) (Advanced r served ∷ answers) dead (mid, one, rest) m n there = absurd one
+  over old new (Sweep most ∷ events) (Advanced r served ∷ answers) dead (mid, one, rest) m n there = absurd one
 
 -- ---- as long as it works
 
-pub record AreTold (m : Contents) (n : ℕ) (events : List Event) (answers : List Answer) : Type 0 where
+pub record AreTold (m : Contents) (n : ℕ) (ahead : List Command) (events : List Event) (answers : List Answer) : Type 0 where
   pub one : calls_in_doubt answers ≤ 1
-  pub few : length (in_doubt m n events answers) ≤ most_of_one events
-  pub answered : AreAnswers false m n events answers
+  pub few : length (in_doubt m n ahead events answers) ≤ max (length ahead) (most_of_one events)
+  pub answered : AreAnswers false m n ahead events answers
 
 -- the event leaves nothing in doubt
 record GoesOn {D : Type 0} (old mid : EngineState D) (e : Event) (a : Answer) : Type 0 where
   pub works : mid.failed ≡ false
-  pub memory : mid.memory ≡ after old.memory (acknowledged_by old.memory e a)
-  pub count : mid.count ≡ old.count + length (acknowledged_by old.memory e a)
+  pub memory : mid.memory ≡ after old.memory (acknowledged_by old.memory old.ahead e a)
+  pub count : mid.count ≡ old.count + length (acknowledged_by old.memory old.ahead e a)
+  pub ahead : mid.ahead ≡ ahead_by old.memory old.ahead e a
+  pub no_more : length mid.ahead ≤ max (length old.ahead) (most_of e)
   pub sure : is_doubt a ≡ false
-  pub none : in_doubt_by old.memory old.count e a ≡ []
-  pub answer : IsAnswer old.memory old.count e a
+  pub none : in_doubt_by old.memory old.count old.ahead e a ≡ []
+  pub answer : IsAnswer old.memory old.count old.ahead e a
   pub calm : is_fault a ≡ false
 
 -- the disk failed in it
 record Fails {D : Type 0} (old mid : EngineState D) (e : Event) (a : Answer) : Type 0 where
   pub dead : mid.failed ≡ true
-  pub few : length (in_doubt_by old.memory old.count e a) ≤ most_of e
-  pub answer : IsAnswer old.memory old.count e a
+  pub ahead : mid.ahead ≡ ahead_by old.memory old.ahead e a
+  pub few : length (in_doubt_by old.memory old.count old.ahead e a) ≤ max (length old.ahead) (most_of e)
+  pub answer : IsAnswer old.memory old.count old.ahead e a
   pub fault : is_fault a ≡ true
 
 no_call_more : (b : Bool) (n : ℕ) → b ≡ false → n ≤ 1 → (if b then 1 else 0) + n ≤ 1
@@ -165,61 +209,80 @@ one_call true n none = omega (arith, none)
 one_call false n none = omega (arith, none)
 
 goes_on : {D : Type 0} (old mid : EngineState D) (e : Event) (a : Answer) (events : List Event) (answers : List Answer)
-    → GoesOn old mid e a → AreTold mid.memory mid.count events answers
-    → AreTold old.memory old.count (e ∷ events) (a ∷ answers)
+    → GoesOn old mid e a → AreTold mid.memory mid.count mid.ahead events answers
+    → AreTold old.memory old.count old.ahead (e ∷ events) (a ∷ answers)
 goes_on old mid e a events answers it rest =
-    by_rest (subst (λ (m : Contents). AreTold m (old.count + length sure) events answers) it.memory
-    (subst (λ (n : ℕ). AreTold mid.memory n events answers) it.count rest))
+    by_rest (subst (λ (l : List Command). AreTold (after old.memory sure) (old.count + length sure) l events answers)
+    it.ahead
+    (subst (λ (m : Contents). AreTold m (old.count + length sure) mid.ahead events answers) it.memory
+    (subst (λ (n : ℕ). AreTold mid.memory n mid.ahead events answers) it.count rest)))
   where
     sure : List Command
-    sure = acknowledged_by old.memory e a
+    sure = acknowledged_by old.memory old.ahead e a
 
-    by_rest : AreTold (after old.memory sure) (old.count + length sure) events answers
-        → AreTold old.memory old.count (e ∷ events) (a ∷ answers)
+    next : List Command
+    next = ahead_by old.memory old.ahead e a
+
+    by_rest : AreTold (after old.memory sure) (old.count + length sure) next events answers
+        → AreTold old.memory old.count old.ahead (e ∷ events) (a ∷ answers)
     by_rest far = record {
       one = no_call_more (is_doubt a) (calls_in_doubt answers) it.sure far.one;
       few =
           omega (
             arith,
-            length-append (in_doubt_by old.memory old.count e a)
-                (in_doubt (after old.memory sure) (old.count + length sure) events answers),
+            length-append (in_doubt_by old.memory old.count old.ahead e a)
+                (in_doubt (after old.memory sure) (old.count + length sure) next events answers),
             ap length it.none,
             far.few,
+            ap length it.ahead,
+            it.no_more,
           );
       answered = (
         it.answer,
-        subst (λ (b : Bool). AreAnswers b (after old.memory sure) (old.count + length sure) events answers)
+        subst (λ (b : Bool). AreAnswers b (after old.memory sure) (old.count + length sure) next events answers)
             (sym it.calm) far.answered,
       );
     }
 
 ends : {D : Type 0} (old mid : EngineState D) (e : Event) (a : Answer) (events : List Event) (answers : List Answer)
-    → Fails old mid e a → ((m : Contents) (n : ℕ) → IsOver m n events answers)
-    → AreTold old.memory old.count (e ∷ events) (a ∷ answers)
+    → Fails old mid e a → Over mid.ahead events answers
+    → AreTold old.memory old.count old.ahead (e ∷ events) (a ∷ answers)
 ends old mid e a events answers it rest =
-    let sure : List Command = acknowledged_by old.memory e a in
-    let far : IsOver (after old.memory (acknowledged_by old.memory e a))
-    (old.count + length (acknowledged_by old.memory e a)) events answers =
-    rest (after old.memory (acknowledged_by old.memory e a)) (old.count + length (acknowledged_by old.memory e a)) in
+    let sure : List Command = acknowledged_by old.memory old.ahead e a in
+    let next : List Command = ahead_by old.memory old.ahead e a in
+    let far : IsOver (after old.memory (acknowledged_by old.memory old.ahead e a))
+    (old.count + length (acknowledged_by old.memory old.ahead e a)) mid.ahead (ahead_by old.memory old.ahead e a) events
+    answers =
+    rest (after old.memory (acknowledged_by old.memory old.ahead e a))
+    (old.count + length (acknowledged_by old.memory old.ahead e a)) (ahead_by old.memory old.ahead e a) in
     record {
       one = one_call (is_doubt a) (calls_in_doubt answers) far.calls_none;
       few = omega (
         arith,
-        length-append (in_doubt_by old.memory old.count e a)
-            (in_doubt (after old.memory (acknowledged_by old.memory e a))
-            (old.count + length (acknowledged_by old.memory e a)) events answers),
+        length-append (in_doubt_by old.memory old.count old.ahead e a)
+            (in_doubt (after old.memory (acknowledged_by old.memory old.ahead e a))
+            (old.count + length (acknowledged_by old.memory old.ahead e a)) (ahead_by old.memory old.ahead e a) events
+            answers),
         ap length far.doubt_none,
         it.few,
       );
       answered = (
         it.answer,
-        subst (λ (b : Bool). AreAnswers b (after old.memory (acknowledged_by old.memory e a))
-            (old.count + length (acknowledged_by old.memory e a)) events answers) (sym it.fault) far.answered,
+        subst (λ (b : Bool). AreAnswers b (after old.memory (acknowledged_by old.memory old.ahead e a))
+            (old.count + length (acknowledged_by old.memory old.ahead e a)) (ahead_by old.memory old.ahead e a) events
+            answers) (sym it.fault)
+            (subst (λ (l : List Command). AreAnswers true (after old.memory (acknowledged_by old.memory old.ahead e a))
+            (old.count + length (acknowledged_by old.memory old.ahead e a)) l events answers) it.ahead far.answered),
       );
     }
 
 nothing_more : (n : ℕ) → n ≡ n + 0
 nothing_more n = omega arith
+
+-- nothing is ahead behind commands that were put
+gone_behind : (put ahead : List Command) → 0 < length put → ahead_behind put ahead ≡ []
+gone_behind [] ahead some = absurd (omega (arith, some))
+gone_behind (c ∷ put) ahead some = refl
 
 module _ (known : Known) {D : Type 0} (old mid : EngineState D) (f : old.failed ≡ false) where
   -- the engine is as it was
@@ -232,16 +295,26 @@ module _ (known : Known) {D : Type 0} (old mid : EngineState D) (f : old.failed 
       ap (λ (s : EngineState D). s.count) same ∙ nothing_more old.count ∙ ap (λ (k : List Command). old.count + length k)
       (sym none)
 
+  -- and so is what is ahead
+  same_ahead : mid ≡ old → (l : List Command) → l ≡ [] → mid.ahead ≡ ahead_behind l old.ahead
+  same_ahead same l none =
+      ap (λ (s : EngineState D). s.ahead) same ∙ ap (λ (k : List Command). ahead_behind k old.ahead) (sym none)
+
+  few_ahead : mid ≡ old → (n : ℕ) → length mid.ahead ≤ max (length old.ahead) n
+  few_ahead same n = omega (arith, ap (λ (s : EngineState D). length s.ahead) same)
+
   module _ (c : Command) (a : Result Outcome Refusal) (it : Answered old c a mid) where
     abbrev sure_c : List Command
-    sure_c = acknowledged_by old.memory (Serve c) (Told a)
+    sure_c = acknowledged_by old.memory old.ahead (Serve c) (Told a)
 
-    still_command : mid ≡ old → acknowledged_by old.memory (Serve c) (Told a) ≡ [] → is_doubt (Told a) ≡ false
-        → is_fault (Told a) ≡ false → IsAnswer old.memory old.count (Serve c) (Told a) → GoesOn old mid (Serve c) (Told a)
+    still_command : mid ≡ old → acknowledged_by old.memory old.ahead (Serve c) (Told a) ≡ [] → is_doubt (Told a) ≡ false
+        → is_fault (Told a) ≡ false → IsAnswer old.memory old.count old.ahead (Serve c) (Told a) → GoesOn old mid (Serve c) (Told a)
     still_command same none sure calm answer = record {
       works = ap (λ (s : EngineState D). s.failed) same ∙ f;
       memory = same_memory same sure_c none;
       count = same_count same sure_c none;
+      ahead = same_ahead same sure_c none;
+      no_more = few_ahead same (most_of (Serve c));
       sure = sure;
       none = none_if c (is_accepted old.memory c) (is_doubt (Told a)) sure;
       answer = answer;
@@ -249,7 +322,7 @@ module _ (known : Known) {D : Type 0} (old mid : EngineState D) (f : old.failed 
     }
 
     unaccepted_none : (b : Result Outcome Refusal) → is_accepted old.memory c ≡ false
-        → acknowledged_by old.memory (Serve c) (Told b) ≡ []
+        → acknowledged_by old.memory old.ahead (Serve c) (Told b) ≡ []
     unaccepted_none (Ok o) un = ap (λ (x : Bool). if x then c ∷ [] else []) un
     unaccepted_none (Err e) un = refl
 
@@ -267,8 +340,8 @@ module _ (known : Known) {D : Type 0} (old mid : EngineState D) (f : old.failed 
         let told =
         ok_of (step old.memory c).answer (known.ok old.memory c (is_true (is_accepted old.memory c) accepted)) in
         let is : a ≡ Ok told.0 = done.0 ∙ told.1 in
-        let all : acknowledged_by old.memory (Serve c) (Told a) ≡ c ∷ [] =
-        ap (λ (x : Result Outcome Refusal). acknowledged_by old.memory (Serve c) (Told x)) is ∙ ap
+        let all : acknowledged_by old.memory old.ahead (Serve c) (Told a) ≡ c ∷ [] =
+        ap (λ (x : Result Outcome Refusal). acknowledged_by old.memory old.ahead (Serve c) (Told x)) is ∙ ap
         (λ (x : Bool). if x then c ∷ [] else []) accepted in
         let sure : is_doubt (Told a) ≡ false = ap (λ (x : Result Outcome Refusal). is_doubt (Told x)) is in
         inl (record {
@@ -277,6 +350,9 @@ module _ (known : Known) {D : Type 0} (old mid : EngineState D) (f : old.failed 
               ap (λ (s : EngineState D). s.memory) done.1 ∙ ap (λ (l : List Command). after old.memory l) (sym all);
           count =
               ap (λ (s : EngineState D). s.count) done.1 ∙ ap (λ (l : List Command). old.count + length l) (sym all);
+          ahead = ap (λ (s : EngineState D). s.ahead) done.1
+              ∙ ap (λ (l : List Command). ahead_behind l old.ahead) (sym all);
+          no_more = omega (arith, ap (λ (s : EngineState D). length s.ahead) done.1);
           sure = sure;
           none = none_if c (is_accepted old.memory c) (is_doubt (Told a)) sure;
           answer = inl (sym done.0);
@@ -284,7 +360,9 @@ module _ (known : Known) {D : Type 0} (old mid : EngineState D) (f : old.failed 
         })
     put_command accepted (inr fault) = inr (record {
       dead = ap (λ (s : EngineState D). s.failed) fault.1;
-      few = one_at_most c (is_accepted old.memory c && is_doubt (Told a));
+      ahead = ap (λ (s : EngineState D). s.ahead) fault.1 ∙ ap (λ (l : List Command). ahead_behind l old.ahead) (sym
+          (ap (λ (x : Result Outcome Refusal). acknowledged_by old.memory old.ahead (Serve c) (Told x)) fault.0));
+      few = omega (arith, one_at_most c (is_accepted old.memory c && is_doubt (Told a)));
       answer = inr (accepted, inr fault.0);
       fault = ap (λ (x : Result Outcome Refusal). is_fault (Told x)) fault.0;
     })
@@ -293,7 +371,7 @@ module _ (known : Known) {D : Type 0} (old mid : EngineState D) (f : old.failed 
     command_goes = ⊎_elim
         (λ yes. ⊎_elim
         (λ none. let full = it.full f yes none in inl (still_command full.1
-        (ap (λ (x : Result Outcome Refusal). acknowledged_by old.memory (Serve c) (Told x)) full.0)
+        (ap (λ (x : Result Outcome Refusal). acknowledged_by old.memory old.ahead (Serve c) (Told x)) full.0)
         (ap (λ (x : Result Outcome Refusal). is_doubt (Told x)) full.0)
         (ap (λ (x : Result Outcome Refusal). is_fault (Told x)) full.0)
         (inr (yes, inl full.0))))
@@ -306,7 +384,7 @@ module _ (known : Known) {D : Type 0} (old mid : EngineState D) (f : old.failed 
   module _ (members : List Request) (room : ℕ) (served : ArrayVec ServedMember) (same : room ≡ old.room)
       (it : GroupAnswered old members served.items mid) where
     abbrev sure_g : List Command
-    sure_g = acknowledged_by old.memory (Together members) (Grouped room served)
+    sure_g = acknowledged_by old.memory old.ahead (Together members) (Grouped room served)
 
     -- what a group found, by the room that it tells
     found_here : reached_at old.memory old.count room ≡ reached_in old
@@ -320,13 +398,17 @@ module _ (known : Known) {D : Type 0} (old mid : EngineState D) (f : old.failed 
 
     told_goes : served.items ≡ answers_in old members → mid.failed ≡ false
         → mid.memory ≡ after old.memory (group_put old members) → mid.count ≡ old.count + length (group_put old members)
+        → mid.ahead ≡ ahead_behind (group_put old members) old.ahead
+        → length mid.ahead ≤ max (length old.ahead) (length members)
         → GoesOn old mid (Together members) (Grouped room served)
-    told_goes told works memory count =
+    told_goes told works memory count ahead less =
         let calm : has_device served.items ≡ false = ap has_device told ∙ known.works (reached_in old) members in
         record {
           works = works;
           memory = memory ∙ ap (λ (l : List Command). after old.memory l) (sym (sure_is told));
           count = count ∙ ap (λ (l : List Command). old.count + length l) (sym (sure_is told));
+          ahead = ahead ∙ ap (λ (l : List Command). ahead_behind l old.ahead) (sym (sure_is told));
+          no_more = less;
           sure = calm;
           none = ap (λ (b : Bool). if b then puts_of (reached_at old.memory old.count room) members else []) calm;
           answer = inl (told ∙ ap (λ (s : Reached). map as_served (answers_of s members)) (sym found_here));
@@ -346,10 +428,15 @@ module _ (known : Known) {D : Type 0} (old mid : EngineState D) (f : old.failed 
         ⊎ Fails old mid (Together members) (Grouped room served)
     put_group some (inl done) = inl (told_goes done.0 (ap (λ (s : EngineState D). s.failed) done.1 ∙ f)
         (ap (λ (s : EngineState D). s.memory) done.1 ∙ known.memory (reached_in old) members)
-        (ap (λ (s : EngineState D). s.count) done.1 ∙ known.count (reached_in old) members))
+        (ap (λ (s : EngineState D). s.count) done.1 ∙ known.count (reached_in old) members)
+        (ap (λ (s : EngineState D). s.ahead) done.1 ∙ sym (gone_behind (group_put old members) old.ahead some))
+        (omega (arith, ap (λ (s : EngineState D). length s.ahead) done.1)))
     put_group some (inr fault) = inr (record {
       dead = ap (λ (s : EngineState D). s.failed) fault.1;
-      few = few_if (has_device served.items);
+      ahead = ap (λ (s : EngineState D). s.ahead) fault.1 ∙ ap (λ (l : List Command). ahead_behind l old.ahead) (sym
+          (ap (λ (l : List ServedMember). acknowledged_members old.memory members l) fault.0
+          ∙ refused-none old.memory Device members));
+      few = omega (arith, few_if (has_device served.items));
       answer = inr (fault.0, subst (λ (s : Reached). 0 < length (puts_of s members)) (sym found_here) some);
       fault = ap has_device fault.0 ∙ known.fault (reached_in old) members some;
     })
@@ -359,7 +446,8 @@ module _ (known : Known) {D : Type 0} (old mid : EngineState D) (f : old.failed 
     by_put [] none =
         let is = it.none f none in
         inl (told_goes is.0 (ap (λ (s : EngineState D). s.failed) is.1 ∙ f)
-        (same_memory is.1 (group_put old members) none) (same_count is.1 (group_put old members) none))
+        (same_memory is.1 (group_put old members) none) (same_count is.1 (group_put old members) none)
+        (same_ahead is.1 (group_put old members) none) (few_ahead is.1 (length members)))
     by_put (command ∷ commands) is =
         let some : 0 < length (group_put old members) = omega (arith, ap length is) in put_group some (it.put f some)
 
@@ -374,6 +462,8 @@ module _ (known : Known) {D : Type 0} (old mid : EngineState D) (f : old.failed 
         works = done.2.alive;
         memory = done.2.memory;
         count = done.2.count ∙ nothing_more old.count;
+        ahead = done.2.ahead;
+        no_more = omega (arith, ap length done.2.ahead);
         sure = refl;
         none = refl;
         answer = tt;
@@ -381,6 +471,7 @@ module _ (known : Known) {D : Type 0} (old mid : EngineState D) (f : old.failed 
       }))
       (λ fault. inr (record {
         dead = ap (λ (s : EngineState D). s.failed) fault.1;
+        ahead = ap (λ (s : EngineState D). s.ahead) fault.1;
         few = omega arith;
         answer = tt;
         fault = ap (λ (x : Result TurnDone Refusal). is_fault (TookTurn x)) fault.0;
@@ -394,6 +485,8 @@ module _ (known : Known) {D : Type 0} (old mid : EngineState D) (f : old.failed 
         works = ap (λ (s : EngineState D). s.failed) done.1 ∙ f;
         memory = ap (λ (s : EngineState D). s.memory) done.1;
         count = ap (λ (s : EngineState D). s.count) done.1 ∙ nothing_more old.count;
+        ahead = ap (λ (s : EngineState D). s.ahead) done.1;
+        no_more = omega (arith, ap (λ (s : EngineState D). length s.ahead) done.1);
         sure = refl;
         none = refl;
         answer = tt;
@@ -401,15 +494,68 @@ module _ (known : Known) {D : Type 0} (old mid : EngineState D) (f : old.failed 
       }))
       (λ fault. inr (record {
         dead = ap (λ (s : EngineState D). s.failed) fault.1;
+        ahead = ap (λ (s : EngineState D). s.ahead) fault.1;
         few = omega arith;
         answer = tt;
         fault = ap (λ (x : Result ℕ Refusal). is_fault (DidSweep x)) fault.0;
       }))
       (it.alive f)
 
+  -- a group is put ahead, and the one ahead of it acts
+  module _ (members : List Request) (r : Result ℕ Refusal) (served : ArrayVec ServedMember)
+      (it : Advances old (map Asks members) r served.items mid) where
+    abbrev put_a : List Command
+    put_a = commands_put old old.ahead
+
+    chain_done : (many : ℕ) → r ≡ Ok many
+        → served.items ≡ map as_served (answers_with old.memory (places old.count old.room) old.ahead)
+        → mid.failed ≡ false → mid.memory ≡ after old.memory put_a → mid.count ≡ old.count + length put_a
+        → mid.ahead ≡ take many (map Asks members) → GoesOn old mid (Ahead members) (Advanced r served)
+    chain_done many is told works memory count ahead =
+        let all : acknowledged_commands old.memory old.ahead served.items ≡ put_a =
+        ap (λ (l : List ServedMember). acknowledged_commands old.memory old.ahead l) told
+        ∙ acknowledged-commands old.memory (places old.count old.room) old.ahead in
+        let calm : is_doubt (Advanced r served) ≡ false = ap (λ (x : Result ℕ Refusal). is_doubt (Advanced x served)) is in
+        record {
+          works = works;
+          memory = memory ∙ ap (λ (l : List Command). after old.memory l) (sym all);
+          count = count ∙ ap (λ (l : List Command). old.count + length l) (sym all);
+          ahead = ahead ∙ ap (λ (x : Result ℕ Refusal). taken_by x (map Asks members)) (sym is);
+          no_more = omega (arith, ap length ahead, length-take many (map Asks members), length-map Asks members);
+          sure = calm;
+          none = ap (λ (b : Bool). if b then commands_at old.memory (length old.ahead) old.ahead else []) calm;
+          answer = inl (
+            subst (λ (x : Result ℕ Refusal). IsOk x) (sym is) tt,
+            told ∙ ap (λ l. map as_served l) (enough-answers old.memory (places old.count old.room)
+                (length old.ahead) old.ahead it.enough (omega arith)),
+          );
+          calm = ap (λ (x : Result ℕ Refusal). is_fault (Advanced x served)) is;
+        }
+
+    few_a : (b : Bool) → length (if b then commands_at old.memory (length old.ahead) old.ahead else [])
+        ≤ length old.ahead
+    few_a true = at_most_members old.memory (length old.ahead) old.ahead
+    few_a false = omega arith
+
+    chain_goes : GoesOn old mid (Ahead members) (Advanced r served) ⊎ Fails old mid (Ahead members) (Advanced r served)
+    chain_goes = ⊎_elim
+        (λ done. inl (chain_done done.0 done.1 done.2 (ap (λ (s : EngineState D). s.failed) done.3 ∙ f)
+        (ap (λ (s : EngineState D). s.memory) done.3
+        ∙ sym (at-after old.memory (places old.count old.room) old.ahead))
+        (ap (λ (s : EngineState D). s.count) done.3) (ap (λ (s : EngineState D). s.ahead) done.3)))
+        (λ fault. inr (record {
+          dead = ap (λ (s : EngineState D). s.failed) fault.2;
+          ahead = ap (λ (s : EngineState D). s.ahead) fault.2
+              ∙ ap (λ (x : Result ℕ Refusal). taken_by x (map Asks members)) (sym fault.0);
+          few = omega (arith, few_a (is_doubt (Advanced r served)));
+          answer = inr (fault.0, fault.1);
+          fault = ap (λ (x : Result ℕ Refusal). is_fault (Advanced x served)) fault.0;
+        }))
+        (it.alive f)
+
 module _ (known : Known) where
   pub told : {D : Type 0} (old new : EngineState D) (events : List Event) (answers : List Answer) → old.failed ≡ false
-      → AnsweredInTurn old events answers new → AreTold old.memory old.count events answers
+      → AnsweredInTurn old events answers new → AreTold old.memory old.count old.ahead events answers
   told old new [] [] f it = record { one = omega arith; few = omega arith; answered = tt }
   told old new [] (a ∷ answers) f it = absurd it
   told old new (e ∷ events) [] f it = absurd it
@@ -446,3 +592,17 @@ module _ (known : Known) where
       (λ fails. ends old mid (Sweep most) (DidSweep a) events answers fails
       (over known mid new events answers fails.dead rest))
       (sweep_goes known old mid f most a one)
+  told old new (Ahead members ∷ events) (Advanced r served ∷ answers) f (mid, one, rest) = ⊎_elim
+      (λ goes. goes_on old mid (Ahead members) (Advanced r served) events answers goes
+      (told mid new events answers goes.works rest))
+      (λ fails. ends old mid (Ahead members) (Advanced r served) events answers fails
+      (over known mid new events answers fails.dead rest))
+      (chain_goes known old mid f members r served one.0)
+  told old new (Ahead members ∷ events) (Told a ∷ answers) f (mid, one, rest) = absurd one
+  told old new (Ahead members ∷ events) (Grouped room served ∷ answers) f (mid, one, rest) = absurd one
+  told old new (Ahead members ∷ events) (TookTurn a ∷ answers) f (mid, one, rest) = absurd one
+  told old new (Ahead members ∷ events) (DidSweep a ∷ answers) f (mid, one, rest) = absurd one
+  told old new (Serve c ∷ events) (Advanced r served ∷ answers) f (mid, one, rest) = absurd one
+  told old new (Together members ∷ events) (Advanced r served ∷ answers) f (mid, one, rest) = absurd one
+  told old new (Turn ∷ events) (Advanced r served ∷ answers) f (mid, one, rest) = absurd one
+  told old new (Sweep most ∷ events) (Advanced r served ∷ answers) f (mid, one, rest) = absurd one

@@ -59,13 +59,13 @@ module _ {D E : Type 0} (s : EngineState D) (e : EngineState E) (old mid new : M
     (crash : Crashes old mid new past_mid past_new) where
   module _ (events : List Event) (answers : List Answer) (one : MeansOne)
       (said : LeavesNow old
-      (MeansWithOrWithout s (acknowledged s.memory events answers) (in_doubt s.memory s.count events answers)))
+      (MeansWithOrWithout s (acknowledged s.memory s.ahead events answers) (in_doubt s.memory s.count s.ahead events answers)))
       (means : LeavesNow new (MeansState e)) where
     abbrev ack : List Command
-    ack = acknowledged s.memory events answers
+    ack = acknowledged s.memory s.ahead events answers
 
     abbrev doubt : List Command
-    doubt = in_doubt s.memory s.count events answers
+    doubt = in_doubt s.memory s.count s.ahead events answers
 
     -- the acknowledged commands, and those in doubt or not
     pub record IsFound : Type 0 where

@@ -1,5 +1,6 @@
 -- The answer to a request that is sent again. (Own.)
-use Rattle.std.specs.Prelude.{◌≡◌, ◌⊎◌, ◌+◌, ◌≤◌, ◌<◌, ℕ, List, ◌∷◌, ◌++◌, true, false, Result, Ok, Err, if◌then◌else◌}
+use Rattle.std.specs.Prelude.{◌≡◌, ◌⊎◌, ◌+◌, ◌≤◌, ◌<◌, ℕ, List, [], ◌∷◌, ◌++◌, true, false, Result, Ok, Err}
+use Rattle.std.specs.Prelude.{if◌then◌else◌}
 use Rattle.im_types.specs.declared.operations.Entry.{Entry}
 use Rattle.im_types.specs.declared.commands.Request.{Request}
 use Rattle.im_types.specs.declared.commands.Command.{Command}
@@ -68,6 +69,9 @@ pub record AskedOverACrash {D E : Type 0} (old : EngineState D) (r : Request) (e
   -- it is told the same entry, or the answer that has come since, and just what the memory says
   pub again : IsSaidAgain new.memory r before said
   pub told : said ≡ (step new.memory (Asks r)).answer
+  -- the members that are ahead of the engine behind it: those that were, or none
+  pub ahead : List Command
+  pub left : (ahead ≡ old.ahead) ⊎ (ahead ≡ [])
   -- it has acted once: the memory and the count are those after it, and after what a recovery gives of the events
   pub once : Recovers (after_request old.memory r)
-      (count_after old.memory r old.count) events answers new.memory new.count
+      (count_after old.memory r old.count) ahead events answers new.memory new.count

@@ -1,5 +1,5 @@
 //! The result of a crash and an opening.
-ghost use Rattle.std.specs.Prelude.{◌≡◌, ◌⊎◌, ℕ, List, false, IfOk, IfErr};
+ghost use Rattle.std.specs.Prelude.{◌≡◌, ◌⊎◌, ℕ, List, [], false, IfOk, IfErr};
 ghost use Rattle.im_types.specs.declared.refusals.Refusal.TheVariants.{NoMemory, Device, WrongLength};
 ghost use Rattle.im_types.specs.Contents.{empty_contents};
 ghost use Rattle.im_disk.specs.Moment.{Left};
@@ -58,7 +58,8 @@ pub fn recover(
     crash: Crash,
 ) -> Result<Recovered, Refusal>
     ensures recovers { IfOk result (λ r. engine.failed ≡ false
-        → Recovers engine.memory engine.count events.now r.answers.items r.engine.memory r.engine.count) }
+        → Recovers engine.memory engine.count engine.ahead events.now r.answers.items
+        r.engine.memory r.engine.count) }
     ensures works { IfOk result (λ r. r.engine.failed ≡ false) }
     ensures refused { IfErr result (λ e. engine.failed ≡ false → HasNoRoom e) }
 {
@@ -88,7 +89,7 @@ pub fn recover_from_format(
     outage: Outage,
     events: &[Event],
 ) -> Result<Recovered, Refusal>
-    ensures recovers { IfOk result (λ r. Recovers (empty_contents limits.cells limits.elements) 0
+    ensures recovers { IfOk result (λ r. Recovers (empty_contents limits.cells limits.elements) 0 []
         events.now r.answers.items r.engine.memory r.engine.count) }
     ensures works { IfOk result (λ r. r.engine.failed ≡ false) }
     ensures refused { IfErr result (λ e. (e ≡ NoMemory) ⊎ (e ≡ Device) ⊎ (e ≡ WrongLength)) }
@@ -111,7 +112,8 @@ pub fn recover_again(
     events: &[Event],
 ) -> Result<Recovered, Refusal>
     ensures recovers { IfOk result (λ r. engine.failed ≡ false
-        → Recovers engine.memory engine.count events.now r.answers.items r.engine.memory r.engine.count) }
+        → Recovers engine.memory engine.count [] events.now r.answers.items
+        r.engine.memory r.engine.count) }
     ensures works { IfOk result (λ r. r.engine.failed ≡ false) }
     ensures refused { IfErr result (λ e. engine.failed ≡ false → HasNoRoom e) }
 {

@@ -19,12 +19,14 @@ use Rattle.im_checkpoint.specs.declared.checkpoint.TurnDone.{TurnDone}
 use Rattle.im_checkpoint.proofs.Fitting.{none_or_some}
 use Rattle.im_engine.specs.State.{EngineState, MeansState, MeansEither}
 use Rattle.im_engine.specs.Run.{Answered, MeansWithOrWithout, SweepAnswered, TurnAnswered, is_device}
+use Rattle.im_engine.specs.Chain.{Advances, ServesAhead}
 use Rattle.im_engine.specs.Commands.{CommandsAnswered, MeansCommands, ServesCommands, after_commands, commands_put}
 use Rattle.im_engine.proofs.Accepting.{accepted_answers}
+use Rattle.im_engine.proofs.Running.{caused_somehow}
 use Rattle.im_session.specs.Put.{sure_by, doubted_by, sure_of, doubted_of}
 use Rattle.im_session.proofs.AcceptedLemmas.{accepted_each, one_accepted}
 use Rattle.im_session.proofs.KeptLemmas.{Accepted, CallLeaves, GoesOn, Puts, Stays, all_of, none_of, puts_all, puts_none}
-use Rattle.im_session.proofs.KeptLemmas.{rose_by, steady_by}
+use Rattle.im_session.proofs.KeptLemmas.{puts_nothing, rose_by, steady_by}
 use Rattle.im_session.proofs.ServedLemmas.{not_device, undoubted, unsure}
 
 -- ---- a command
@@ -117,6 +119,19 @@ none_or_more : (l : List Command) → (l ≡ []) ⊎ (0 < length l)
 none_or_more [] = inl refl
 none_or_more (c ∷ l) = inr (omega arith)
 
+module _ {D : Type 0} (mid : EngineState D) (members : List Command) where
+  together : after mid.memory (commands_put mid members) ≡ (after_commands mid members).memory
+  together = at-after mid.memory (places mid.count mid.room) members
+
+  all_accepted : Accepted mid.memory (commands_put mid members)
+  all_accepted = accepted_each mid.memory (commands_put mid members) _
+      (at-accepts mid.memory (places mid.count mid.room) members)
+
+  both : (file : List ℕ) → MeansCommands mid members file → MeansWithOrWithout mid [] (commands_put mid members) file
+  both file (inl old) = none_of mid (commands_put mid members) file old
+  both file (inr all) = inr (all_of mid (commands_put mid members) (after_commands mid members).memory
+      (after_commands mid members).count (after_commands mid members).room file (sym together) refl all)
+
 module _ {D : Type 0} (disk : Ghosts D) (mid new : EngineState D) (members : List Command) (answers : List Served)
     (did : CommandsAnswered mid members answers new) (it : ServesCommands disk mid new members) where
   abbrev cs : List Command
@@ -130,17 +145,6 @@ module _ {D : Type 0} (disk : Ghosts D) (mid new : EngineState D) (members : Lis
 
   call : CallLeaves disk mid new (MeansCommands mid members)
   call = record { since = it.leaves; now = it.doubt; means = it.means; honest = it.honest }
-
-  together : after mid.memory cs ≡ (after_commands mid members).memory
-  together = at-after mid.memory (places mid.count mid.room) members
-
-  all_accepted : Accepted mid.memory cs
-  all_accepted = accepted_each mid.memory cs _ (at-accepts mid.memory (places mid.count mid.room) members)
-
-  both : (file : List ℕ) → MeansCommands mid members file → MeansWithOrWithout mid [] cs file
-  both file (inl old) = none_of mid cs file old
-  both file (inr all) = inr (all_of mid cs (after_commands mid members).memory (after_commands mid members).count
-      (after_commands mid members).room file (sym together) refl all)
 
   failed_before : mid.failed ≡ true → GoesTogether
   failed_before dead =
@@ -160,17 +164,66 @@ module _ {D : Type 0} (disk : Ghosts D) (mid new : EngineState D) (members : Lis
       let alive : new.failed ≡ false = ap (λ (s : EngineState D). s.failed) done.1 ∙ works in
       let sure : sure_of new.failed cs ≡ cs = ap (λ (b : Bool). sure_of b cs) alive in
       let doubt : doubted_of mid.failed new.failed cs ≡ [] = ap (λ (b : Bool). doubted_of mid.failed b cs) alive in
-      inr (rw (sure, doubt) (puts_all disk mid new (MeansCommands mid members) call works cs all_accepted both
-      (ap (λ (s : EngineState D). s.memory) done.1 ∙ sym together) (ap (λ (s : EngineState D). s.count) done.1) alive
-      (it.faults.steady (alive ∙ sym works)))))
+      inr (rw (sure, doubt) (puts_all disk mid new (MeansCommands mid members) call works cs (all_accepted mid members)
+      (both mid members) (ap (λ (s : EngineState D). s.memory) done.1 ∙ sym (together mid members))
+      (ap (λ (s : EngineState D). s.count) done.1) alive (it.faults.steady (alive ∙ sym works)))))
       (λ fault.
       let dead : new.failed ≡ true = ap (λ (s : EngineState D). s.failed) fault.1 in
       let sure : sure_of new.failed cs ≡ [] = ap (λ (b : Bool). sure_of b cs) dead in
       let doubt : doubted_of mid.failed new.failed cs ≡ cs = ap₂ (λ (b f : Bool). doubted_of b f cs) works dead in
-      inr (rw (sure, doubt) (puts_none disk mid new (MeansCommands mid members) call works cs all_accepted both
-      fault.1 (it.faults.failed works dead).0)))
+      inr (rw (sure, doubt) (puts_none disk mid new (MeansCommands mid members) call works cs
+      (all_accepted mid members) (both mid members) fault.1 (it.faults.failed works dead).0)))
       (did.put works some))
       (none_or_more cs)
 
   pub commands_go : GoesTogether
   commands_go = ⊎_elim failed_before worked_before (true_or_false mid.failed)
+
+-- ---- a chain of groups
+
+module _ {D : Type 0} (disk : Ghosts D) (mid new : EngineState D) (next : List Command) (result : Result ℕ Refusal)
+    (answers : List Served) (most : ℕ) (did : Advances mid next result answers new)
+    (it : ServesAhead disk mid new most result) where
+  abbrev put : List Command
+  put = commands_put mid mid.ahead
+
+  abbrev GoesAhead : Type 0
+  GoesAhead = GoesOn disk mid new (sure_of new.failed put) (doubted_of mid.failed new.failed put)
+
+  call_ahead : CallLeaves disk mid new (MeansCommands mid mid.ahead)
+  call_ahead = record { since = it.leaves; now = it.doubt; means = it.means; honest = it.honest }
+
+  cause : Faults (λ e. Unit {0}) result (disk.failures mid.disk) (disk.failures new.disk)
+  cause = caused_somehow result _ _ _ it.faults
+
+  dead_ahead : mid.failed ≡ true → GoesAhead
+  dead_ahead dead =
+      let same : new ≡ mid = (did.dead dead).2 in
+      let gone : new.failed ≡ true = ap (λ (s : EngineState D). s.failed) same ∙ dead in
+      inl (record {
+        same = same;
+        none_sure = ap (λ (b : Bool). sure_of b put) gone;
+        none_doubted = ap₂ (λ (b f : Bool). doubted_of b f put) dead gone;
+      })
+
+  alive_ahead : mid.failed ≡ false → GoesAhead
+  alive_ahead works = ⊎_elim
+      (λ done.
+      let alive : new.failed ≡ false = ap (λ (s : EngineState D). s.failed) done.3 ∙ works in
+      let sure : sure_of new.failed put ≡ put = ap (λ (b : Bool). sure_of b put) alive in
+      let doubt : doubted_of mid.failed new.failed put ≡ [] = ap (λ (b : Bool). doubted_of mid.failed b put) alive in
+      inr (rw (sure, doubt) (puts_all disk mid new (MeansCommands mid mid.ahead) call_ahead works put
+      (all_accepted mid mid.ahead) (both mid mid.ahead)
+      (ap (λ (s : EngineState D). s.memory) done.3 ∙ sym (together mid mid.ahead))
+      (ap (λ (s : EngineState D). s.count) done.3) alive (steady_by result done.0 _ _ cause done.1))))
+      (λ fault.
+      let dead : new.failed ≡ true = ap (λ (s : EngineState D). s.failed) fault.2 in
+      let sure : sure_of new.failed put ≡ [] = ap (λ (b : Bool). sure_of b put) dead in
+      let doubt : doubted_of mid.failed new.failed put ≡ put = ap₂ (λ (b f : Bool). doubted_of b f put) works dead in
+      inr (rw (sure, doubt) (puts_nothing disk mid new (MeansCommands mid mid.ahead) call_ahead works put
+      (all_accepted mid mid.ahead) (both mid mid.ahead) dead (ap (λ (s : EngineState D). s.memory) fault.2)
+      (ap (λ (s : EngineState D). s.count) fault.2) (rose_by result _ _ cause fault.0))))
+      (did.alive works)
+
+  pub advance_goes : GoesAhead
+  advance_goes = ⊎_elim dead_ahead alive_ahead (true_or_false mid.failed)

@@ -67,16 +67,16 @@ module _ {D : Type 0} (disk : Ghosts D) (P : List Command → Contents → Type 
 
 -- ---- what a run of the engine acknowledges
 
-pub put_is : (m : Contents) (c : Command) (answer : Result Outcome Refusal)
-    → sure_by m c answer ≡ acknowledged_by m (Serve c) (Told answer)
-put_is m c (Ok outcome) = refl
-put_is m c (Err refusal) = refl
+pub put_is : (m : Contents) (ahead : List Command) (c : Command) (answer : Result Outcome Refusal)
+    → sure_by m c answer ≡ acknowledged_by m ahead (Serve c) (Told answer)
+put_is m ahead c (Ok outcome) = refl
+put_is m ahead c (Err refusal) = refl
 
-pub doubt_is : (m : Contents) (count : ℕ) (c : Command) (answer : Result Outcome Refusal)
-    → doubted_by m c answer ≡ in_doubt_by m count (Serve c) (Told answer)
-doubt_is m count c (Ok outcome) = by_test (is_accepted m c)
+pub doubt_is : (m : Contents) (count : ℕ) (ahead : List Command) (c : Command) (answer : Result Outcome Refusal)
+    → doubted_by m c answer ≡ in_doubt_by m count ahead (Serve c) (Told answer)
+doubt_is m count ahead c (Ok outcome) = by_test (is_accepted m c)
   where
     by_test : (b : Bool) → [] ≡ (if b && false then c ∷ [] else [])
     by_test true = refl
     by_test false = refl
-doubt_is m count c (Err refusal) = refl
+doubt_is m count ahead c (Err refusal) = refl

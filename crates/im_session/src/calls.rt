@@ -99,4 +99,31 @@ impl SessionCalls {
         );
         self.noted.note(&call);
     }
+
+    /// Notes the members of a group ahead, as many as have answers, and whether the engine has failed since.
+    pub(crate) fn note_ahead(
+        &mut self,
+        found: GroupFound,
+        ahead: Snapshot<ArrayVec<Command, MAX_GROUP>>,
+        served: &ArrayVec<Served, MAX_GROUP>,
+        failed: bool,
+    )
+        ensures { self.new ≡ put_with_all self.old (commands_at found.memory.value.contents found.places.value
+            (take (length served.now.items) ahead.value.items)) found.failed.value failed }
+    {
+        let GroupFound {
+            memory,
+            places,
+            failed: before,
+        } = found;
+        let call = SessionCall::Together(
+            memory,
+            places,
+            ahead,
+            Snapshot::of(served),
+            before,
+            Snapshot::of(&failed),
+        );
+        self.noted.note(&call);
+    }
 }

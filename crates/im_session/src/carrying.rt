@@ -1,5 +1,5 @@
 //! Laws of sessions. Each function does nothing, and its contract is a law.
-ghost use Rattle.std.specs.Prelude.{◌≡◌, ℕ, Result};
+ghost use Rattle.std.specs.Prelude.{◌≡◌, ℕ, List, Result};
 ghost use Rattle.im_types.specs.declared.commands.Command.{Command};
 ghost use Rattle.im_types.specs.declared.commands.Outcome.{Outcome};
 ghost use Rattle.im_types.specs.declared.refusals.Refusal.{Refusal};
@@ -32,8 +32,8 @@ pub fn prefixes_carry<D: Disk, P: Property>()
 /// What a session puts of a command, and what it leaves in doubt, is what a run of the engine acknowledges of it, and
 /// leaves in doubt. So `put` and `doubt` are the lists of `im_promise`.
 pub fn acknowledged_is_put()
-    ensures put { (m : Contents) (c : Command) (answer : Result Outcome Refusal)
-        → sure_by m c answer ≡ acknowledged_by m (Serve c) (Told answer) }
-    ensures doubt { (m : Contents) (count : ℕ) (c : Command) (answer : Result Outcome Refusal)
-        → doubted_by m c answer ≡ in_doubt_by m count (Serve c) (Told answer) }
+    ensures put { (m : Contents) (ahead : List Command) (c : Command) (answer : Result Outcome Refusal)
+        → sure_by m c answer ≡ acknowledged_by m ahead (Serve c) (Told answer) }
+    ensures doubt { (m : Contents) (count : ℕ) (ahead : List Command) (c : Command) (answer : Result Outcome Refusal)
+        → doubted_by m c answer ≡ in_doubt_by m count ahead (Serve c) (Told answer) }
 {}

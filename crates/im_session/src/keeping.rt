@@ -1,9 +1,10 @@
 //! The calls of a session once more, for a caller who has to know since when what it put is kept, as the receipts of
 //! threads have it. They also say how many calls of the disk they make, and where a group ends.
-ghost use Rattle.std.specs.Prelude.{◌≡◌, [], length, take};
+ghost use Rattle.std.specs.Prelude.{◌≡◌, ◌+◌, [], length, take, IfOk};
 ghost use Rattle.im_disk.specs.Since.{CallsAtMost, CallsBy};
 ghost use Rattle.im_checkpoint.specs.Turns.{most_calls};
 ghost use Rattle.im_groups.specs.Ahead.{ServesPrefix};
+ghost use Rattle.im_engine.specs.Chain.{Advances, TakesNext};
 ghost use Rattle.im_engine.specs.Commands.{CommandsAnswered, commands_put};
 ghost use Rattle.im_engine.specs.Run.{Answered, SweepAnswered, TurnAnswered, calls_for};
 ghost use Rattle.im_session.specs.Keeping.{KeepsPut, MakesFewCalls};
@@ -60,6 +61,35 @@ impl<D: Disk> Session<D> {
         self.engine.serve_commands(members, served);
         let failed = self.engine.failed();
         self.calls.note_all(found, members, served, failed);
+    }
+
+    /// Does what [`Session::advance`] does. Each file that a crash may leave since then has all that was put before.
+    pub fn advance_kept(
+        &mut self,
+        next: &ArrayVec<Command, MAX_GROUP>,
+        served: &mut ArrayVec<Served, MAX_GROUP>,
+    ) -> Result<usize, Refusal>
+        requires empty { served.old.items ≡ [] }
+        ensures answered { Advances self.old.engine next.now.items result served.new.items self.new.engine }
+        // How many of the next members are ahead, and where they end.
+        ensures takes { IfOk result (λ many. TakesNext self.old.engine next.now.items self.new.engine many) }
+        ensures put { self.new ≡ served_together self.old self.old.engine.ahead self.new.engine }
+        ensures keeps { KeepsPut D.Disk self.old self.new }
+        ensures few { D.honest self.new.engine.disk
+            → CallsAtMost D.past self.old.engine.disk self.new.engine.disk (length next.now.items + 2) }
+    {
+        let failed = self.engine.failed();
+        let places = self.engine.places();
+        let found = GroupFound {
+            memory: Snapshot::of(self.engine.memory()),
+            places: Snapshot::of(&places),
+            failed: Snapshot::of(&failed),
+        };
+        let ahead = Snapshot::of(self.engine.ahead());
+        let result = self.engine.advance(next, served);
+        let failed = self.engine.failed();
+        self.calls.note_ahead(found, ahead, served, failed);
+        result
     }
 
     /// Does what [`Session::turn`] does. Each file that a crash may leave since then has all that was put before.

@@ -151,6 +151,24 @@ impl KnownEngine {
         true
     }
 
+    /// Takes in what the members of a group ahead were answered, in the same way. There was a place for each.
+    pub fn hears_ahead(
+        &mut self,
+        ahead: &[Command],
+        result: Result<usize, Refusal>,
+        answers: &[Served],
+        said: &mut Saying,
+    ) -> bool {
+        said.check(answers.len() == ahead.len());
+        let Err(refusal) = result else {
+            return self.hears(ahead, answers, usize::MAX, said);
+        };
+        said.check(refusal == Refusal::Device && are_refused(answers, refusal));
+        said.check(self.doubt.try_extend_from_slice(ahead).is_ok());
+        self.room = usize::MAX;
+        false
+    }
+
     /// Serves a command, and takes in its answer in the same way.
     pub fn serve(&mut self, command: &Command, said: &mut Saying) -> bool {
         let Some(engine) = &mut self.file.engine else {

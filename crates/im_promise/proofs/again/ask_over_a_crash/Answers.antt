@@ -20,7 +20,8 @@ returns-in-Ok-clause-again c = λ f entry told.
     (λ un. (c.accepted_where_changed.ensures.unaccepted old.memory (Asks r)).0 (is_false_by _ un)) in
     let agrees : WaitingAgrees old.memory = subst WaitingAgrees c.memory.ensures c.cells-cells.ensures.memory.agrees in
     let found = c.in-Ok.ensures.recovers first.works in
-    let l : List Command = acknowledged mid.memory c.args.events.now c.in-Ok.recovered.answers.items ++ found.also in
+    let l : List Command = acknowledged mid.memory mid.ahead c.args.events.now c.in-Ok.recovered.answers.items ++
+    found.also in
     let is : now.memory ≡ after (after_request old.memory r) l =
     found.memory ∙ ap (λ (x : Contents). after x l) first.memory in
     let again =

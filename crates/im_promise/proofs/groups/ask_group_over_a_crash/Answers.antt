@@ -25,7 +25,7 @@ returns-in-Ok-clause-again c = λ f quiet.
     c.serve_group.ensures.answered quiet in
     let agrees : WaitingAgrees old.memory = subst WaitingAgrees c.memory.ensures c.cells-cells.ensures.memory.agrees in
     let found = c.in-Ok.ensures.recovers acted.works in
-    let between : List Command = acknowledged mid.memory events answers ++ found.also in
+    let between : List Command = acknowledged mid.memory mid.ahead events answers ++ found.also in
     let is : opened.memory ≡ after (after old.memory (group_put old members)) between =
     found.memory ∙ ap (λ (x : Contents). after x between) (acted.memory ∙ runs.memory (reached_in old) members) in
     group_asked old mid opened c.serve_group-in-Ok.new.self members events answers c.serve_group-in-Ok.new.served.items

@@ -14,8 +14,8 @@ returns-in-Ok-open-clause-recovers c = λ f.
     let s : EngineState Fused = c.args.engine in
     let e : EngineState Recording = c.in-Ok-open.engine in
     let answers = c.in-Ok.answers.items in
-    let sure : List Command = acknowledged s.memory c.args.events.now answers in
-    let doubt : List Command = in_doubt s.memory s.count c.args.events.now answers in
+    let sure : List Command = acknowledged s.memory s.ahead c.args.events.now answers in
+    let doubt : List Command = in_doubt s.memory s.count s.ahead c.args.events.now answers in
     let inner : c.into_inner.result ≡ c.run.new.self.disk.disk =
     c.into_inner.ensures ∙ ap (λ (x : Fused). x.disk) c.close.ensures.disk in
     let said : LeavesNow c.into_inner.result.moment (MeansWithOrWithout s sure doubt) =
@@ -55,8 +55,8 @@ pub returns-in-Err-open-clause-refused : goal.returns-in-Err-open-clause-refused
 returns-in-Err-open-clause-refused c = λ f.
     let s : EngineState Fused = c.args.engine in
     let answers = c.in-Ok.answers.items in
-    let sure : List Command = acknowledged s.memory c.args.events.now answers in
-    let doubt : List Command = in_doubt s.memory s.count c.args.events.now answers in
+    let sure : List Command = acknowledged s.memory s.ahead c.args.events.now answers in
+    let doubt : List Command = in_doubt s.memory s.count s.ahead c.args.events.now answers in
     let d = c.in-Err-open.field-0-1 in
     let inner : c.into_inner.result ≡ c.run.new.self.disk.disk =
     c.into_inner.ensures ∙ ap (λ (x : Fused). x.disk) c.close.ensures.disk in

@@ -33,19 +33,28 @@ loop-event-preserved g c =
       honest = λ h. inv.honest (e.honest h);
       size = search rules;
       room = search rules;
-      answers = answers_step c.args.self.now c.loop-event.self c.take-answer.new.self c.args.events.now c.loop-event.answers.items c.push.new.self.items c.loop-event.event-index _ c.event-item.result c.take-answer.result
+      answers = answers_step c.args.self.now c.loop-event.self c.take-answer.new.self c.args.events.now
+          c.loop-event.answers.items c.push.new.self.items c.loop-event.event-index _ c.event-item.result
+          c.take-answer.result
           c.loop-event-test.true c.event-item.is inv.size c.in_default-push.ensures.items e.answered inv.answers;
-      far = λ f. far_step c.args.self.now c.loop-event.self c.take-answer.new.self c.args.events.now c.loop-event.answers.items c.push.new.self.items c.loop-event.event-index _ c.event-item.result c.take-answer.result
+      far = λ f. far_step c.args.self.now c.loop-event.self c.take-answer.new.self c.args.events.now
+          c.loop-event.answers.items c.push.new.self.items c.loop-event.event-index _ c.event-item.result
+          c.take-answer.result
           c.loop-event-test.true c.event-item.is inv.size c.in_default-push.ensures.items e.answered (inv.far f);
-      leaves = λ h f. leaves_step c.args.self.now c.loop-event.self c.take-answer.new.self c.args.events.now c.loop-event.answers.items c.push.new.self.items c.loop-event.event-index _ c.event-item.result c.take-answer.result
+      leaves = λ h f. leaves_step c.args.self.now c.loop-event.self c.take-answer.new.self c.args.events.now
+          c.loop-event.answers.items c.push.new.self.items c.loop-event.event-index _ c.event-item.result
+          c.take-answer.result
           c.loop-event-test.true c.event-item.is inv.size c.in_default-push.ensures.items e.answered
           (inv.far f) g.D.Disk.now g.D.Disk.past (inv.leaves (e.honest h) f) (λ alive. e.leaves h alive);
-      now = λ h f. now_step c.args.self.now c.loop-event.self c.take-answer.new.self c.args.events.now c.loop-event.answers.items c.push.new.self.items c.loop-event.event-index _ c.event-item.result c.take-answer.result
+      now = λ h f. now_step c.args.self.now c.loop-event.self c.take-answer.new.self c.args.events.now
+          c.loop-event.answers.items c.push.new.self.items c.loop-event.event-index _ c.event-item.result
+          c.take-answer.result
           c.loop-event-test.true c.event-item.is inv.size c.in_default-push.ensures.items e.answered
           (inv.far f) g.D.Disk.now (inv.now (e.honest h) f) (λ alive. e.doubt h alive) (λ works. e.means h works);
       counted = subst (λ (l : List Answer). Counted g.D.Disk.failures c.args.self.now c.take-answer.new.self l)
           (sym c.in_default-push.ensures.items)
-          (counted_step g.D.Disk.failures c.args.self.now c.loop-event.self c.take-answer.new.self c.loop-event.answers.items _ c.take-answer.result e.answered e.faults inv.counted);
+          (counted_step g.D.Disk.failures c.args.self.now c.loop-event.self c.take-answer.new.self
+          c.loop-event.answers.items _ c.take-answer.result e.answered e.faults inv.counted);
     }
 
 pub returns-clause-memory : goal.returns-clause-memory
@@ -54,7 +63,8 @@ returns-clause-memory g c = λ f.
     ≡ c.args.events.now = take_all c.loop-event.event-index c.args.events.now
     (omega (arith, c.loop-event-test.false)) in
     subst (λ (l : List Event). HasRun c.args.self.now c.loop-event.self
-    (acknowledged c.args.self.now.memory l c.loop-event.answers.items)) all (c.loop-event.invariant.far f).run
+    (acknowledged c.args.self.now.memory c.args.self.now.ahead l c.loop-event.answers.items)) all
+    (c.loop-event.invariant.far f).run
 
 pub returns-clause-now : goal.returns-clause-now
 returns-clause-now g c = λ h f.
@@ -62,8 +72,9 @@ returns-clause-now g c = λ h f.
     ≡ c.args.events.now = take_all c.loop-event.event-index c.args.events.now
     (omega (arith, c.loop-event-test.false)) in
     subst (λ (l : List Event). LeavesNow (g.D.Disk.now c.loop-event.self.disk)
-    (MeansWithOrWithout c.args.self.now (acknowledged c.args.self.now.memory l c.loop-event.answers.items)
-    (in_doubt c.args.self.now.memory c.args.self.now.count l c.loop-event.answers.items))) all
+    (MeansWithOrWithout c.args.self.now (acknowledged c.args.self.now.memory c.args.self.now.ahead l
+    c.loop-event.answers.items)
+    (in_doubt c.args.self.now.memory c.args.self.now.count c.args.self.now.ahead l c.loop-event.answers.items))) all
     (c.loop-event.invariant.now h f)
 
 pub returns-clause-faults : goal.returns-clause-faults

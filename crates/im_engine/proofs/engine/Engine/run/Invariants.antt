@@ -1,6 +1,7 @@
 use Rattle.std.proofs.Common.{◌≡◌, ◌≤◌, length, take, false, vec_capacity}
 use Rattle.im_disk.specs.Since.{Leaves, LeavesNow}
-use Rattle.im_engine.specs.Run.{AnsweredInTurn, acknowledged, in_doubt, MeansBeginningOf, MeansWithOrWithout}
+use Rattle.im_engine.specs.Run.{AnsweredInTurn, acknowledged, in_doubt, ahead_after_all, MeansBeginningOf}
+use Rattle.im_engine.specs.Run.{MeansWithOrWithout}
 use Rattle.im_engine.proofs.Running.{Counted}
 use Rattle.im_engine.proofs.Events.{IsRun}
 use Rattle.im_engine.proofs.engine.Engine.run.Given as goal
@@ -12,14 +13,17 @@ invariant-loop-event g l = record {
   room : length l.events ≤ vec_capacity l.answers;
   answers : AnsweredInTurn l.fn.self (take l.event-index l.events) l.answers.items l.self;
   far : l.fn.self.failed ≡ false
-      → IsRun l.fn.self l.self (acknowledged l.fn.self.memory (take l.event-index l.events) l.answers.items)
-      (in_doubt l.fn.self.memory l.fn.self.count (take l.event-index l.events) l.answers.items);
+      → IsRun l.fn.self l.self
+      (acknowledged l.fn.self.memory l.fn.self.ahead (take l.event-index l.events) l.answers.items)
+      (in_doubt l.fn.self.memory l.fn.self.count l.fn.self.ahead (take l.event-index l.events) l.answers.items)
+      (ahead_after_all l.fn.self.memory l.fn.self.ahead (take l.event-index l.events) l.answers.items);
   leaves : g.D.Disk.honest l.self.disk → l.fn.self.failed ≡ false
       → Leaves (g.D.Disk.now l.fn.self.disk) (g.D.Disk.now l.self.disk) (g.D.Disk.past l.fn.self.disk)
       (g.D.Disk.past l.self.disk) (MeansBeginningOf l.fn.self l.events l.answers.items);
   now : g.D.Disk.honest l.self.disk → l.fn.self.failed ≡ false
       → LeavesNow (g.D.Disk.now l.self.disk)
-      (MeansWithOrWithout l.fn.self (acknowledged l.fn.self.memory (take l.event-index l.events) l.answers.items)
-      (in_doubt l.fn.self.memory l.fn.self.count (take l.event-index l.events) l.answers.items));
+      (MeansWithOrWithout l.fn.self
+      (acknowledged l.fn.self.memory l.fn.self.ahead (take l.event-index l.events) l.answers.items)
+      (in_doubt l.fn.self.memory l.fn.self.count l.fn.self.ahead (take l.event-index l.events) l.answers.items));
   counted : Counted g.D.Disk.failures l.fn.self l.self l.answers.items;
 }

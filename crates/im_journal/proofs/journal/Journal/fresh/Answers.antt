@@ -1,5 +1,6 @@
 use Rattle.std.proofs.Common.{◌<◌, [], arith, refl}
 use Rattle.im_types.specs.Journal.{Ring}
+use Rattle.im_journal.proofs.Groups.{none_there}
 use Rattle.im_journal.proofs.Tails.{tail_closed}
 use Rattle.im_journal.proofs.journal.Journal.fresh.Goals as goal
 
@@ -15,4 +16,5 @@ returns-clause-holds c = λ file size closed.
       count = refl;
       enough = omega arith;
       behind = λ low k from to. absurd (omega (arith, from, to));
+      laid = none_there ring 0 c.none.result file c.none.ensures;
     }

@@ -1,0 +1,5 @@
+use Rattle.std.proofs.Common.{◌==◌, length}
+use Rattle.im_engine.proofs.ahead.GroupAhead.is_whole.Goals as goal
+
+pub returns : goal.returns
+returns c = (λ i. length (c.as_slice.ensures.value i) == length (c.as_slice-2.ensures.value i))

@@ -1,0 +1,7 @@
+use Rattle.std.proofs.Common.{◌==◌, ℕ, List, length, length-append, ap, sym, ◌∙◌}
+use Rattle.im_types.specs.declared.commands.Command.{Command}
+use Rattle.im_groups.proofs.line.CommandsAhead.is_empty.Goals as goal
+
+pub returns : goal.returns
+returns c = ap (λ (n : ℕ). n == 0) (sym (length-append c.self.inside.group.now c.self.inside.members.now))
+    ∙ ap (λ (l : List Command). length l == 0) c.self.view_is

@@ -1,0 +1,7 @@
+use Rattle.std.proofs.Common.{take}
+use Rattle.im_groups.specs.Marks.{HaveMarks}
+use Rattle.im_groups.proofs.marks.mark_all.Given as goal
+
+-- all so far have marks
+abbrev pub invariant-loop-command : goal.invariant-loop-command
+invariant-loop-command l = HaveMarks l.marks (take l.command-index l.commands)

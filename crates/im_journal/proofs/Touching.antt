@@ -1,0 +1,74 @@
+-- What a gate that is written alone leaves, and bodies with a sync behind them.
+use Rattle.std.proofs.Common.{◌≡◌, ◌⊎◌, inl, inr, ℕ, ◌+◌, ◌-◌, ◌≤◌, List, [], ◌∷◌, length, get_or, refl, sym, ◌∙◌}
+use Rattle.std.proofs.Common.{ap, subst, arith}
+use Rattle.im_types.specs.declared.commands.Command.{Command}
+use Rattle.im_types.specs.Bytes.{open_gate}
+use Rattle.im_types.specs.Journal.{Ring}
+use Rattle.im_disk.specs.Moment.{Moment, Left, Torn, Shaken, MayTick, overlaid, written, synced}
+use Rattle.im_disk.specs.Since.{SameBut, LeavesOnly, LeavesNow}
+use Rattle.im_disk.proofs.OverlayLemmas.{length-overlaid, overlaid_outside, overlaid_inside}
+use Rattle.im_disk.proofs.SinceLemmas.{leaves_start, leaves_step, left_torn, left_sync}
+use Rattle.im_journal.specs.Gates.{MayTouch, IsOpened}
+use Rattle.im_journal.specs.Groups.{MayWriteBodies, AreWritten, AreLaid}
+
+-- a gate is written
+module _ {D : Type 0} (now : D → Moment) (past : D → List Moment) (at : ℕ) (d0 d1 : D)
+    (inside : at + 1 ≤ length (now d0).bytes) where
+  abbrev May : List ℕ → Type 0
+  May = MayTouch at (now d0)
+
+  touched : MayTick (Torn at 1) (now d0) (now d1) (past d0) (past d1) → LeavesNow (now d1) May
+  touched (inl same) c left = record {
+    from = c;
+    left = subst (λ (m : Moment). Left m c) same.0 left;
+    same = record { size = refl; same = λ i out. refl };
+  }
+  touched (inr tick) c left =
+      let from : (d : List ℕ) × Left (now d0) d
+      × SameBut at 1 d c = left_torn at 1 (now d0) (now d1) inside tick.now c left in
+      record { from = from.0; left = from.1; same = from.2 }
+
+  pub touch_leaves : MayTick (Torn at 1) (now d0) (now d1) (past d0) (past d1) → LeavesOnly now past d0 d1 May
+  touch_leaves tick = record {
+    within = leaves_step (now d0) (now d0) (now d1) (past d0) (past d0) (past d1) May (Torn at 1)
+        (leaves_start (now d0) (past d0) May) tick (touched tick);
+    after = touched tick;
+  }
+
+-- and then it is open
+pub touch_opens : (at : ℕ) (m0 m1 : Moment) → at + 1 ≤ length m0.bytes → m1 ≡ written at (open_gate ∷ []) m0
+    → IsOpened at m0 m1
+touch_opens at m0 m1 inside is = record {
+  kept = record {
+    size = ap length bytes ∙ length-overlaid m0.bytes at (open_gate ∷ []) inside;
+    same = λ i out. ap (λ (l : List ℕ). get_or l i 0) bytes
+        ∙ overlaid_outside m0.bytes at (open_gate ∷ []) inside i out;
+  };
+  opened =
+      let none : at - at ≡ 0 = omega arith in
+      ap (λ (l : List ℕ). get_or l at 0) bytes
+      ∙ overlaid_inside m0.bytes at (open_gate ∷ []) inside at (omega arith) (omega arith)
+      ∙ ap (λ (k : ℕ). get_or (open_gate ∷ []) k 0) none;
+}
+  where
+    bytes : m1.bytes ≡ overlaid m0.bytes at (open_gate ∷ [])
+    bytes = ap (λ (x : Moment). x.bytes) is
+
+-- bodies are written, and synced
+pub synced_bodies : {D : Type 0} (now : D → Moment) (past : D → List Moment) (r : Ring) (s n : ℕ) (d0 d1 d2 : D)
+    → LeavesOnly now past d0 d1 (MayWriteBodies r s n (now d0))
+    → MayTick Shaken (now d1) (now d2) (past d1) (past d2)
+    → LeavesOnly now past d0 d2 (MayWriteBodies r s n (now d0))
+synced_bodies now past r s n d0 d1 d2 only tick = record {
+  within = leaves_step (now d0) (now d1) (now d2) (past d0) (past d1) (past d2) (MayWriteBodies r s n (now d0)) Shaken
+      only.within tick after;
+  after = after;
+}
+  where
+    after : LeavesNow (now d2) (MayWriteBodies r s n (now d0))
+    after c left = only.after c (left_sync (now d1) (now d2) (past d1) (past d2) tick c left)
+
+pub laid_now : (r : Ring) (s : ℕ) (commands : List Command) (m0 m1 m2 : Moment) → AreWritten r s commands m0 m1
+    → m2 ≡ synced m1 → AreLaid r s commands m0 m2
+laid_now r s commands m0 m1 m2 w is = subst (λ (m : Moment). AreLaid r s commands m0 m) (sym is)
+    (record { kept = w.kept; bodies = w.bodies; fits = w.fits; calm = refl })
