@@ -14,8 +14,8 @@ use Rattle.im_types.specs.Layout.{Sizes, image_length, layout_in_use}
 use Rattle.im_disk.specs.Moment.{Moment}
 use Rattle.im_checkpoint.specs.declared.checkpoint.TurnDone.{TurnDone}
 use Rattle.im_checkpoint.specs.declared.checkpoint.TurnDone.TheVariants.{Idle, Began, Page, Synced, InForce, Swept}
-use Rattle.im_engine.specs.State.{MeansState, MeansEither}
-use Rattle.im_engine.specs.Run.{Answered, SweepAnswered, TurnAnswered}
+use Rattle.im_engine.specs.State.{MeansState, MeansEither, with_command}
+use Rattle.im_engine.specs.Answered.{Answered, SweepAnswered, TurnAnswered}
 use Rattle.im_listed.specs.Listing.{FileStep, Puts, Settles}
 use Rattle.im_listed.specs.History.{given}
 use Rattle.im_listed.specs.Image.{ImageState, Carries, begun_in}
@@ -43,7 +43,7 @@ pub record ServesOne (old : ImageState) (c : LtCommand) (out : LtOutcome) (new :
   pub known : (command : Command) → meant c ≡ Some command → old.lost ≡ false
       → (answer : Result Outcome Refusal) × (out ≡ outcome_of answer)
       × Answered (begun_in old) command answer new.engine
-      × Carries old.engine.disk.now new (MeansEither (begun_in old) command)
+      × Carries old.engine.disk.now new (MeansEither (begun_in old) (with_command (begun_in old) command))
 
 -- what a turn did, by its number, and which page
 abbrev pub turn_code : TurnDone → ℕ

@@ -30,7 +30,7 @@ use Rattle.im_checkpoint.specs.declared.checkpoint.TurnDone.{TurnDone}
 use Rattle.im_checkpoint.specs.declared.checkpoint.TurnDone.TheVariants.{Idle, Began, Page, Synced, InForce, Swept}
 use Rattle.im_checkpoint.proofs.Fitting.{none_or_some}
 use Rattle.im_engine.specs.State.{EngineState}
-use Rattle.im_engine.specs.Run.{Answered, TurnAnswered, is_device}
+use Rattle.im_engine.specs.Answered.{Answered, TurnAnswered, is_device}
 use Rattle.im_engine.specs.Commands.{commands_put, answers_in_turn, each_refused, CommandsAnswered}
 use Rattle.im_engine.proofs.Accepting.{accepted_answers}
 use Rattle.im_groups.specs.Commands.{places, answer_with, contents_with, places_behind, command_at, answers_with}

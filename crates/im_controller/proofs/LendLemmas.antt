@@ -11,7 +11,7 @@ use Rattle.im_types.specs.Step.{step, is_accepted}
 use Rattle.im_laws.proofs.Tests.{true_false}
 use Rattle.im_laws.proofs.AcceptLemmas.{unaccepted-leaves, accepted-ok}
 use Rattle.im_engine.specs.State.{EngineState}
-use Rattle.im_engine.specs.Run.{Answered}
+use Rattle.im_engine.specs.Answered.{Answered}
 use Rattle.im_trace.specs.Lines.{leaves_line, memory_after}
 
 -- an answer that the engine gives: the step's, or one that leaves no line

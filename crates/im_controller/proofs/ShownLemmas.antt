@@ -21,7 +21,7 @@ use Rattle.im_laws.proofs.AcceptLemmas.{accepted-ok}
 use Rattle.im_laws.proofs.MemoryLemmas.{step-cell_count}
 use Rattle.im_disk.specs.declared.disk.Disk.{Ghosts}
 use Rattle.im_engine.specs.State.{EngineState}
-use Rattle.im_engine.specs.Run.{Answered}
+use Rattle.im_engine.specs.Answered.{Answered}
 use Rattle.im_glass.specs.Panes.{PaneView}
 use Rattle.im_trace.specs.Lines.{LineCounts, leaves_line, line_of, left_lines, memory_after, counts_after}
 use Rattle.im_trace.specs.Log.{ReceiptState, IsToldOf, plain, receipt_for, with_line}

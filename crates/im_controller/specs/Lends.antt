@@ -19,7 +19,7 @@ use Rattle.im_disk.specs.declared.disk.Disk.{Ghosts}
 use Rattle.im_checkpoint.specs.declared.checkpoint.TurnDone.{TurnDone}
 use Rattle.im_checkpoint.specs.declared.checkpoint.TurnDone.TheVariants.{Idle}
 use Rattle.im_groups.specs.Commands.{takes_place}
-use Rattle.im_engine.specs.Run.{Answered, TurnAnswered}
+use Rattle.im_engine.specs.Answered.{Answered, TurnAnswered}
 use Rattle.im_queue.specs.declared.servers.Ask.{Ask}
 use Rattle.im_queue.specs.declared.servers.Ask.TheVariants.{Go, Wait}
 use Rattle.im_queue.specs.declared.servers.ServerState.{ServerState}

@@ -3,7 +3,7 @@ ghost use Rattle.std.specs.Prelude.{◌≡◌, ◌⊎◌, false, length, IfOk, I
 ghost use Rattle.im_types.specs.Trace.{IsLegal};
 ghost use Rattle.im_types.specs.declared.refusals.Refusal.TheVariants.{JournalFull};
 ghost use Rattle.im_disk.specs.Since.{CallsAtMost, CallsBy};
-ghost use Rattle.im_engine.specs.Run.{calls_for};
+ghost use Rattle.im_engine.specs.Answered.{calls_for};
 ghost use Rattle.im_session.specs.Keeping.{KeepsPut};
 ghost use Rattle.im_session.specs.Serving.{Rests, served_one};
 ghost use Rattle.im_trace.specs.Log.{plain};

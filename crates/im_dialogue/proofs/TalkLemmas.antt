@@ -23,7 +23,7 @@ use Rattle.im_laws.proofs.Tests.{true_or_false}
 use Rattle.im_checkpoint.specs.declared.checkpoint.TurnDone.{TurnDone}
 use Rattle.im_checkpoint.proofs.Fitting.{none_or_some}
 use Rattle.im_engine.specs.State.{EngineState, with_command}
-use Rattle.im_engine.specs.Run.{Answered, TurnAnswered, is_device}
+use Rattle.im_engine.specs.Answered.{Answered, TurnAnswered, is_device}
 use Rattle.im_engine.proofs.Accepting.{accepted_answers}
 use Rattle.im_session.specs.Kept.{SessionState, session_of}
 use Rattle.im_session.specs.Put.{doubted_by, sure_by}

@@ -2,9 +2,7 @@ pub mod Keeping
 pub mod Making
 pub mod Serving
 pub mod Accepting
-pub mod Running
-pub mod Acknowledging
-pub mod Events
+pub mod StepFaults
 pub mod Opening
 pub mod FilesMean
 mod Counterexamples

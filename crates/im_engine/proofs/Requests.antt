@@ -19,10 +19,10 @@ use Rattle.im_checkpoint.specs.Turns.{AddsAtMost}
 use Rattle.im_groups.specs.Commands.{contents_with, most_pages_at, most_pages_with}
 use Rattle.im_groups.proofs.RequestLemmas.{places_of, put_takes, one_contents, one_places, answers_by, contents_by}
 use Rattle.im_groups.proofs.RequestLemmas.{puts_by}
-use Rattle.im_engine.specs.State.{EngineState, MeansState}
-use Rattle.im_engine.specs.Groups.{most_pages_in, reached_in, after_group, group_put, MeansGroup, all_refused, answers_in}
+use Rattle.im_engine.specs.State.{EngineState, MeansState, MeansEither}
+use Rattle.im_engine.specs.Groups.{most_pages_in, reached_in, after_group, group_put, all_refused, answers_in}
 use Rattle.im_engine.specs.Groups.{GroupAnswered}
-use Rattle.im_engine.specs.Commands.{after_commands, commands_put, MeansCommands, each_refused, answers_in_turn}
+use Rattle.im_engine.specs.Commands.{after_commands, commands_put, each_refused, answers_in_turn}
 use Rattle.im_engine.specs.Commands.{CommandsAnswered}
 use Rattle.im_engine.proofs.Members.{requests_whole, take_whole, length_map}
 
@@ -67,7 +67,8 @@ module _ {D : Type 0} (old : EngineState D) (rs : List Request) (counted : IsCou
   answers_are = ap (map as_served) (sym (answers_by (reached_in old) rs counted))
 
   -- what a file means
-  pub means_requests : (file : List ℕ) → MeansCommands old (map Asks rs) file → MeansGroup old rs file
+  pub means_requests : (file : List ℕ) → MeansEither old (after_commands old (map Asks rs)) file
+      → MeansEither old (after_group old rs) file
   means_requests file (inl before) = inl before
   means_requests file (inr behind) = inr (subst (λ (s : EngineState D). MeansState s file) after_is behind)
 

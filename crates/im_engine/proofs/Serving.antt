@@ -16,7 +16,7 @@ use Rattle.im_journal.specs.Groups.{SameButGroup}
 use Rattle.im_checkpoint.specs.Step.{Step, NoCheckpoint, PagesLeft, PagesDone, Synced, CheckpointState}
 use Rattle.im_checkpoint.specs.Keeping.{Paged, IsBetween, StepFits, Fits, IsKept}
 use Rattle.im_engine.specs.State.{EngineState}
-use Rattle.im_engine.specs.Run.{Answered, calls_for}
+use Rattle.im_engine.specs.Answered.{Answered, calls_for}
 use Rattle.im_engine.proofs.Accepting.{Answers, accepted_answers}
 use Rattle.im_engine.proofs.Keeping.{accept_one, kept_longer}
 

@@ -21,11 +21,11 @@ use Rattle.im_checkpoint.specs.Step.{Step, NoCheckpoint, PagesLeft, PagesDone, S
 use Rattle.im_checkpoint.specs.Keeping.{IsBetween, StepFits, Fits, MeansWith}
 use Rattle.im_checkpoint.specs.Step.{changed_in}
 use Rattle.im_checkpoint.specs.Turns.{AddsAtMost}
-use Rattle.im_engine.specs.State.{EngineState, engine_of}
+use Rattle.im_engine.specs.State.{EngineState, engine_of, MeansEither}
 use Rattle.im_groups.specs.Commands.{places, contents_after_all, commands_at, most_pages_with}
 use Rattle.im_groups.proofs.CommandLemmas.{few_at, at-after, at-accepts}
 use Rattle.im_engine.specs.Groups.{reached_in, calls_for_group, GroupCalls}
-use Rattle.im_engine.specs.Commands.{commands_put, MeansCommands, each_refused, answers_in_turn}
+use Rattle.im_engine.specs.Commands.{commands_put, each_refused, answers_in_turn, after_commands}
 use Rattle.im_engine.specs.Commands.{CommandsAnswered}
 use Rattle.im_engine.proofs.Adding.{unchanged, none_named}
 use Rattle.im_engine.proofs.Members.{longer_none}
@@ -93,7 +93,7 @@ module _ {D : Type 0} (d : D) (c : PagedCheckpoint) (m : MemoryState) (j : Journ
   -- the files mean what the engine is without the group, or with it
   pub means_group : (file : List ℕ) → MeansWith m.contents j file
       ⊎ MeansWith (contents_after_all m.contents (places j.count j.room) cs) (longer (length cmds) j) file
-      → MeansCommands here cs file
+      → MeansEither here (after_commands here cs) file
   means_group file either = ⊎_elim
       (λ old. inl old)
       (λ new. inr (subst (λ (l : List Command). Means (contents_after_all m.contents (places j.count j.room) cs)

@@ -14,8 +14,8 @@ use Rattle.im_journal.specs.Holding.{JournalState, IsJournal, slots_ahead}
 use Rattle.im_checkpoint.specs.Turns.{AddsAtMost}
 use Rattle.im_groups.specs.Commands.{places, commands_at, takes_at, most_pages_with}
 use Rattle.im_groups.specs.Ahead.{IsUnsure}
-use Rattle.im_engine.specs.State.{EngineState, MeansState}
-use Rattle.im_engine.specs.Commands.{after_commands, commands_put, answers_in_turn, each_refused, MeansCommands}
+use Rattle.im_engine.specs.State.{EngineState, MeansState, MeansEither}
+use Rattle.im_engine.specs.Commands.{after_commands, commands_put, answers_in_turn, each_refused}
 
 -- what was judged of members at this memory, with a place for each: `put` are the commands of those that are accepted,
 -- and `told` is of each whether it is
@@ -86,9 +86,9 @@ module _ {D : Type 0} (disk : Ghosts D) (old new : EngineState D) where
     pub few : disk.honest new.disk → CallsAtMost disk.past old.disk new.disk (most + 2)
     pub faults : Faults (λ e. (e ≡ Failed) ⊎ (e ≡ Device)) result (disk.failures old.disk) (disk.failures new.disk)
     pub leaves : disk.honest new.disk → old.failed ≡ false
-        → LeavesWithin disk.now disk.past old.disk new.disk (MeansCommands old old.ahead)
+        → LeavesWithin disk.now disk.past old.disk new.disk (MeansEither old (after_commands old old.ahead))
     pub doubt : disk.honest new.disk → old.failed ≡ false
-        → LeavesNow (disk.now new.disk) (MeansCommands old old.ahead)
+        → LeavesNow (disk.now new.disk) (MeansEither old (after_commands old old.ahead))
     pub means : disk.honest new.disk → new.failed ≡ false → LeavesNow (disk.now new.disk) (MeansState new)
 
 -- the next commands can be put ahead of a journal behind what is ahead of it

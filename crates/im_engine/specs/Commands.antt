@@ -15,7 +15,7 @@ use Rattle.im_checkpoint.specs.Turns.{AddsAtMost}
 use Rattle.im_groups.specs.Commands.{places, answers_with, contents_after_all, commands_at, takes_at}
 use Rattle.im_groups.specs.Commands.{most_pages_with}
 use Rattle.im_groups.specs.Ahead.{AreAccepted}
-use Rattle.im_engine.specs.State.{EngineState, MeansState}
+use Rattle.im_engine.specs.State.{EngineState, MeansState, MeansEither}
 use Rattle.im_engine.specs.Groups.{GroupCalls, GroupFaults, calls_for_group}
 
 -- the commands that are put on the disk, each judged after those before it
@@ -50,10 +50,6 @@ after_commands s members = let n = length (commands_put s members) in record s {
   ahead = [];
 }
 
--- the file means what the engine is before the group, or after the whole group
-abbrev pub MeansCommands : {D : Type 0} → EngineState D → List Command → List ℕ → Type 0
-MeansCommands s members file = MeansState s file ⊎ MeansState (after_commands s members) file
-
 -- each command gets this refusal
 abbrev pub each_refused : Refusal → List Command → List Served
 each_refused refusal members = map (λ _. Refused refusal) members
@@ -84,6 +80,7 @@ module _ {D : Type 0} (disk : Ghosts D) (old new : EngineState D) where
         (calls_for_group (length (commands_put old members)))
     pub faults : GroupFaults old.failed new.failed (disk.failures old.disk) (disk.failures new.disk)
     pub leaves : disk.honest new.disk → old.failed ≡ false
-        → LeavesWithin disk.now disk.past old.disk new.disk (MeansCommands old members)
-    pub doubt : disk.honest new.disk → old.failed ≡ false → LeavesNow (disk.now new.disk) (MeansCommands old members)
+        → LeavesWithin disk.now disk.past old.disk new.disk (MeansEither old (after_commands old members))
+    pub doubt : disk.honest new.disk → old.failed ≡ false
+        → LeavesNow (disk.now new.disk) (MeansEither old (after_commands old members))
     pub means : disk.honest new.disk → new.failed ≡ false → LeavesNow (disk.now new.disk) (MeansState new)

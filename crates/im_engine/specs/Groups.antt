@@ -21,7 +21,7 @@ use Rattle.im_memory.specs.Covering.{most_pages}
 use Rattle.im_checkpoint.specs.Step.{CheckpointState, PagedCheckpoint, changed_in}
 use Rattle.im_checkpoint.specs.Keeping.{Paged, IsKept, MeansWith}
 use Rattle.im_checkpoint.specs.Turns.{AddsAtMost}
-use Rattle.im_engine.specs.State.{EngineState, MeansState}
+use Rattle.im_engine.specs.State.{EngineState}
 
 -- what an engine has reached: its memory, its count and its room
 abbrev pub reached_in : {D : Type 0} → EngineState D → Reached
@@ -41,10 +41,6 @@ most_pages_in s (r ∷ rs) =
 -- the commands that the members put on the disk
 abbrev pub group_put : {D : Type 0} → EngineState D → List Request → List Command
 group_put s members = puts_of (reached_in s) members
-
--- the file means what the engine is before the group, or after the whole group
-abbrev pub MeansGroup : {D : Type 0} → EngineState D → List Request → List ℕ → Type 0
-MeansGroup s members file = MeansState s file ⊎ MeansState (after_group s members) file
 
 -- each member gets this refusal
 abbrev pub all_refused : Refusal → List Request → List Served

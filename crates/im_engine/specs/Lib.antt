@@ -1,7 +1,7 @@
 pub mod State
 pub mod Formatting
 pub mod Leaving
-pub mod Run
+pub mod Answered
 pub mod Groups
 pub mod Commands
 pub mod Chain

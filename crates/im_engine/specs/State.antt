@@ -63,9 +63,9 @@ with_command s command = record s {
   ahead = [];
 }
 
--- the file means what the engine is without a command, or with it
-abbrev pub MeansEither : {D : Type 0} → EngineState D → Command → List ℕ → Type 0
-MeansEither s command file = MeansState s file ⊎ MeansState (with_command s command) file
+-- the file means what the engine is in the one state, or in the other
+abbrev pub MeansEither : {D : Type 0} → EngineState D → EngineState D → List ℕ → Type 0
+MeansEither s t file = MeansState s file ⊎ MeansState t file
 
 -- the journal behind a header, with nothing ahead
 abbrev pub journal_of : Header → ℕ → ℕ → JournalState

@@ -55,8 +55,8 @@ fn put_behind<D: Disk>(
     journal.lay_ahead(disk, next)
 }
 
-// Copies members.
-fn copy_members(members: &[Command], copies: &mut ArrayVec<Command, MAX_GROUP>)
+/// Copies members. (Own.)
+pub fn copy_members(members: &[Command], copies: &mut ArrayVec<Command, MAX_GROUP>)
     requires fits { length members.now ≤ MAX_GROUP }
     requires empty { copies.old.items ≡ [] }
     ensures { copies.new.items ≡ members.now }

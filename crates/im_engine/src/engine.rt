@@ -6,7 +6,7 @@ ghost use Rattle.im_disk.specs.Since.{LeavesNow, CallsAtMost, CallsBy};
 ghost use Rattle.im_checkpoint.specs.Keeping.{Fits, IsKept, paged};
 ghost use Rattle.im_checkpoint.specs.Step.{IsUnderWay, turns_left};
 ghost use Rattle.im_checkpoint.specs.Turns.{most_calls, calls_to_sweep};
-ghost use Rattle.im_engine.specs.Run.{Answered, TurnAnswered, SweepAnswered, calls_for};
+ghost use Rattle.im_engine.specs.Answered.{Answered, TurnAnswered, SweepAnswered, calls_for};
 ghost use Rattle.im_engine.specs.State.{engine_of, MeansState, MeansEither, with_command, journal_in};
 ghost use Rattle.im_engine.specs.Leaving.{LeavesSince, LeavesAfter, LeavesState, LeavesThroughout};
 
@@ -107,8 +107,10 @@ impl<D: Disk> Engine<D> {
         ensures faults { Faults (λ e. Unit {0}) result (D.failures self.old.disk) (D.failures self.new.disk) }
 
         // Each file that a crash may leave, from the start on, and now.
-        ensures leaves { LeavesSince D.Disk self.old self.new (MeansEither self.old command.now) }
-        ensures doubt { LeavesAfter D.Disk self.old self.new (MeansEither self.old command.now) }
+        ensures leaves { LeavesSince D.Disk self.old self.new
+            (MeansEither self.old (with_command self.old command.now)) }
+        ensures doubt { LeavesAfter D.Disk self.old self.new
+            (MeansEither self.old (with_command self.old command.now)) }
         ensures means { LeavesState D.Disk self.new }
         ensures honest { D.honest self.new.disk → D.honest self.old.disk }
     {
@@ -129,7 +131,8 @@ impl<D: Disk> Engine<D> {
         ensures answered { Answered self.old command.now result self.new }
         ensures calls { D.honest self.new.disk → CallsBy D.past self.old.disk self.new.disk 4 result }
         ensures faults { Faults (λ e. Unit {0}) result (D.failures self.old.disk) (D.failures self.new.disk) }
-        ensures leaves { LeavesThroughout D.Disk self.old self.new (MeansEither self.old command.now) }
+        ensures leaves { LeavesThroughout D.Disk self.old self.new
+            (MeansEither self.old (with_command self.old command.now)) }
         ensures means { LeavesState D.Disk self.new }
         ensures honest { D.honest self.new.disk → D.honest self.old.disk }
     {

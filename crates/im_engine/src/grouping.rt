@@ -4,9 +4,10 @@ ghost use Rattle.im_types.specs.declared.TheConstants.{MAX_GROUP};
 ghost use Rattle.im_groups.specs.Ahead.{ServesPrefix};
 ghost use Rattle.im_groups.specs.Commands.{places};
 ghost use Rattle.im_engine.specs.Commands.{CommandsAnswered, ServesCommands, AreJudged, AreWhole, commands_put};
-ghost use Rattle.im_engine.specs.Groups.{GroupAnswered, GroupCalls, GroupFaults, MeansGroup};
+ghost use Rattle.im_engine.specs.Groups.{GroupAnswered, GroupCalls, GroupFaults, after_group};
 ghost use Rattle.im_engine.specs.Groups.{group_put, calls_for_group};
 ghost use Rattle.im_engine.specs.Leaving.{LeavesSince, LeavesAfter, LeavesState};
+ghost use Rattle.im_engine.specs.State.{MeansEither};
 
 use crate::engine::Engine;
 use crate::groups::{Members, act_all, commands_of, places_in, put_on, refuse_all};
@@ -39,8 +40,10 @@ impl<D: Disk> Engine<D> {
             (D.failures self.old.disk) (D.failures self.new.disk) }
 
         // Each file that a crash may leave, from the start on, and now.
-        ensures leaves { LeavesSince D.Disk self.old self.new (MeansGroup self.old members.now.items) }
-        ensures doubt { LeavesAfter D.Disk self.old self.new (MeansGroup self.old members.now.items) }
+        ensures leaves { LeavesSince D.Disk self.old self.new
+            (MeansEither self.old (after_group self.old members.now.items)) }
+        ensures doubt { LeavesAfter D.Disk self.old self.new
+            (MeansEither self.old (after_group self.old members.now.items)) }
         ensures means { LeavesState D.Disk self.new }
         ensures honest { D.honest self.new.disk → D.honest self.old.disk }
     {

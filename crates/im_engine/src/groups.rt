@@ -72,8 +72,8 @@ pub(crate) fn places_in(journal: &Journal) -> u64
     min(journal.room() as u64, LAST - journal.count())
 }
 
-/// Turns the requests of a group into commands.
-pub(crate) fn commands_of(members: &[Request], commands: &mut ArrayVec<Command, MAX_GROUP>)
+/// Turns the requests of a group into commands. (Own.)
+pub fn commands_of(members: &[Request], commands: &mut ArrayVec<Command, MAX_GROUP>)
     requires fits { length members.now ≤ MAX_GROUP }
     requires empty { commands.old.items ≡ [] }
     ensures { commands.new.items ≡ map Asks members.now }

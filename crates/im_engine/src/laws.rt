@@ -1,8 +1,6 @@
 //! Laws about what files mean. Each is the contract of a function that does nothing.
-ghost use Rattle.std.specs.Prelude.{◌≡◌, ℕ, ◌<◌, List, [], length, map, true, false, Result, Err};
+ghost use Rattle.std.specs.Prelude.{◌≡◌, ℕ, List, false, Result, Err};
 ghost use Rattle.im_types.specs.declared.refusals.Refusal.{Refusal};
-ghost use Rattle.im_types.specs.declared.refusals.Refusal.TheVariants.{Device, Failed};
-ghost use Rattle.im_types.specs.declared.commands.Request.{Request};
 ghost use Rattle.im_types.specs.declared.commands.Command.{Command};
 ghost use Rattle.im_types.specs.Contents.{Contents, empty_contents};
 ghost use Rattle.im_types.specs.Sizes.{AreLimits};
@@ -10,10 +8,8 @@ ghost use Rattle.im_types.specs.declared.layout.Version.{Version};
 ghost use Rattle.im_types.specs.Layout.{Sizes, layout_of};
 ghost use Rattle.im_types.specs.Step.{step};
 ghost use Rattle.im_types.specs.Meaning.{Means, Opens, Reached, Reads};
-ghost use Rattle.im_types.specs.Groups.{as_served, answers_of, puts_of};
 ghost use Rattle.im_image.specs.Fresh.{new_image};
-ghost use Rattle.im_engine.specs.Groups.{all_refused};
-ghost use Rattle.im_engine.specs.Run.{is_device, has_device, acknowledged_members};
+ghost use Rattle.im_engine.specs.Answered.{is_device};
 ghost use Rattle.im_engine.specs.State.{IsFirstFault};
 
 /// A file means one thing. Reading it by the rules of a version gives one memory, one count and one room, or one first
@@ -33,22 +29,6 @@ pub fn files_mean_one_thing()
 pub fn new_images_mean_the_empty_memory()
     ensures { (s : Sizes) → AreLimits s.cells s.elements s.slots
         → Means (empty_contents s.cells s.elements) 0 s.slots (new_image 0xA5 s) }
-{}
-
-/// The commands that a group acknowledges. If its members are answered one after another, it acknowledges just the
-/// commands that it puts on the disk, and no answer says that the disk failed. If it is refused as a whole, it
-/// acknowledges none. Refused with `Device`, it says that the disk failed if it would have put any command there; with
-/// `Failed`, it never does.
-pub fn groups_acknowledge_what_they_put()
-    ensures put { (s : Reached) (members : List Request)
-        → acknowledged_members s.contents members (map as_served (answers_of s members)) ≡ puts_of s members }
-    ensures works { (s : Reached) (members : List Request)
-        → has_device (map as_served (answers_of s members)) ≡ false }
-    ensures refused { (m : Contents) (refusal : Refusal) (members : List Request)
-        → acknowledged_members m members (all_refused refusal members) ≡ [] }
-    ensures fault { (s : Reached) (members : List Request)
-        → 0 < length (puts_of s members) → has_device (all_refused Device members) ≡ true }
-    ensures dead { (members : List Request) → has_device (all_refused Failed members) ≡ false }
 {}
 
 /// The answer to a command on a memory never says that a call of the disk failed.

@@ -13,15 +13,11 @@ mod groups;
 mod laws;
 mod looking;
 mod open;
-mod run;
 mod whole;
 
 pub use apart::Group;
+pub use chain::copy_members;
 pub use emptying::Empties;
 pub use engine::Engine;
-pub use groups::{are_apart, refuse_all};
-pub use laws::{
-    files_mean_one_thing, groups_acknowledge_what_they_put, new_images_mean_the_empty_memory,
-    steps_tell_of_no_failure,
-};
-pub use run::{Answer, Event};
+pub use groups::{are_apart, commands_of, refuse_all};
+pub use laws::{files_mean_one_thing, new_images_mean_the_empty_memory, steps_tell_of_no_failure};

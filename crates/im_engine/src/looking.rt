@@ -1,7 +1,9 @@
 //! What an engine shows.
 ghost use Rattle.std.specs.Prelude.{◌≡◌, true, false, Err};
 ghost use Rattle.im_types.specs.Window.{ask, bounds};
+ghost use Rattle.im_laws.specs.Groups.{IsCounted};
 ghost use Rattle.im_groups.specs.Commands.{places};
+ghost use Rattle.im_engine.specs.Groups.{reached_in};
 ghost use Rattle.im_engine.specs.Leaving.{LeavesState};
 
 use crate::emptying::Empties;
@@ -46,9 +48,11 @@ impl<D: Disk> Engine<D> {
         self.journal.room()
     }
 
-    /// How many more commands are accepted at most, by the room and by the last count. (Own.)
+    /// How many more commands are accepted at most, by the room and by the last count: behind that there is no room.
+    /// (Own.)
     pub fn places(&self) -> u64
-        ensures { result ≡ places self.now.count self.now.room }
+        ensures places { result ≡ places self.now.count self.now.room }
+        ensures known { IsCounted (reached_in self.now) }
     {
         places_in(&self.journal)
     }

@@ -14,7 +14,7 @@ use Rattle.im_disk.proofs.SinceLemmas.{only_now, left_now, left_synced, leaves_n
 use Rattle.im_checkpoint.specs.declared.checkpoint.TurnDone.{TurnDone}
 use Rattle.im_engine.specs.State.{EngineState, MeansState, IsFirstFault}
 use Rattle.im_engine.specs.Chain.{Advances}
-use Rattle.im_engine.specs.Run.{Answered, SweepAnswered, TurnAnswered, TurnTaken, is_device}
+use Rattle.im_engine.specs.Answered.{Answered, SweepAnswered, TurnAnswered, TurnTaken, is_device}
 use Rattle.im_listed.specs.History.{given}
 use Rattle.im_listed.specs.Numbers.{told_number}
 use Rattle.im_listed.specs.Listing.{Listing, carried, over, with_no_steps, LeftOnTheWay, Accounts}

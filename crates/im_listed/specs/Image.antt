@@ -8,10 +8,10 @@ use Rattle.im_types.specs.declared.refusals.Refusal.TheVariants.{NoMemory, Devic
 use Rattle.im_disk.specs.Moment.{Moment}
 use Rattle.im_disk.specs.Since.{LeavesNow}
 use Rattle.im_groups.specs.Ahead.{ServesPrefix}
-use Rattle.im_engine.specs.State.{EngineState, MeansState, IsFirstFault}
+use Rattle.im_engine.specs.State.{EngineState, MeansState, IsFirstFault, MeansEither}
 use Rattle.im_engine.specs.Chain.{Advances, TakesNext}
-use Rattle.im_engine.specs.Commands.{CommandsAnswered, MeansCommands, commands_put}
-use Rattle.im_engine.specs.Run.{is_device}
+use Rattle.im_engine.specs.Commands.{CommandsAnswered, commands_put, after_commands}
+use Rattle.im_engine.specs.Answered.{is_device}
 use Rattle.im_listed.specs.Listing.{FileStep, Listing, MayLeave, carried, LeftOnTheWay, with_no_steps}
 
 -- an engine over a caller's bytes, and whether a call of the disk failed, here or at the caller
@@ -61,7 +61,8 @@ pub record ServesFirst (old : ImageState) (members : List Command) (answers : Li
       (length answers)
   pub answered : CommandsAnswered (begun_in old) (take (length answers) members) answers new.engine
   -- on the way the file means the memory before those that are served, or after all of them
-  pub carried : Carries old.engine.disk.now new (MeansCommands (begun_in old) (take (length answers) members))
+  pub carried : Carries old.engine.disk.now new
+      (MeansEither (begun_in old) (after_commands (begun_in old) (take (length answers) members)))
 
 -- The next members are put ahead behind the group that is ahead of the image, whose members are answered.
 pub record PutsAhead (old : ImageState) (next : List Command) (result : Result â„• Refusal) (answers : List Served)
@@ -70,4 +71,5 @@ pub record PutsAhead (old : ImageState) (next : List Command) (result : Result â
   -- how many of the next members are ahead, and where they end
   pub takes : IfOk result (TakesNext (begun_in old) next new.engine)
   -- on the way the file means the memory before the group that was ahead, or after all of it
-  pub carried : Carries old.engine.disk.now new (MeansCommands (begun_in old) old.engine.ahead)
+  pub carried : Carries old.engine.disk.now new
+      (MeansEither (begun_in old) (after_commands (begun_in old) old.engine.ahead))

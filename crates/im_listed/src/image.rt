@@ -5,8 +5,8 @@ ghost use Rattle.im_types.specs.Layout.{image_length, layout_in_use, sizes_of};
 ghost use Rattle.im_types.specs.Window.{ask, bounds};
 ghost use Rattle.im_disk.specs.Since.{LeavesNow};
 ghost use Rattle.im_checkpoint.specs.Step.{NoCheckpoint};
-ghost use Rattle.im_engine.specs.State.{MeansState, MeansEither, IsFound};
-ghost use Rattle.im_engine.specs.Run.{Answered, SweepAnswered, TurnAnswered};
+ghost use Rattle.im_engine.specs.State.{MeansState, MeansEither, IsFound, with_command};
+ghost use Rattle.im_engine.specs.Answered.{Answered, SweepAnswered, TurnAnswered};
 ghost use Rattle.im_listed.specs.Listing.{Accounts, Settles, task_of, carried};
 ghost use Rattle.im_listed.specs.History.{given};
 ghost use Rattle.im_listed.specs.Image.{ImageState, Carries, IsFaultOf, IsWant, begun_in, steps_of, tells_device};
@@ -158,7 +158,8 @@ impl Image {
         ensures answered { self.old.lost ≡ false → Answered (begun_in self.old) command.now result self.new.engine }
         // On the way the file means the memory before the command or after it, and at the end what was answered.
         ensures carried { self.old.lost ≡ false
-            → Carries self.old.engine.disk.now self.new (MeansEither (begun_in self.old) command.now) }
+            → Carries self.old.engine.disk.now self.new
+            (MeansEither (begun_in self.old) (with_command (begun_in self.old) command.now)) }
     {
         if self.lost {
             return Err(Refusal::Device);

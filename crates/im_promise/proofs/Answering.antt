@@ -1,10 +1,12 @@
 -- How the events of a run were answered, and what is in doubt of them.
 use Rattle.std.proofs.Common.{◌≡◌, ◌⊎◌, inl, inr, ⊎_elim, ℕ, zero, suc, ◌+◌, ◌<◌, ◌≤◌, Bool, true, false, ◌&&◌, List}
 use Rattle.std.proofs.Common.{[], ◌∷◌, ◌++◌, length, map, Result, Ok, Err, refl, sym, ap, ◌∙◌, subst, arith}
-use Rattle.std.proofs.Common.{length-append, take, length-take, length-map, if◌then◌else◌}
-use Rattle.std.specs.Prelude.{max, IsTrue, IsOk}
+use Rattle.std.proofs.Common.{length-append, if◌then◌else◌}
+use Rattle.std.specs.Prelude.{IsTrue, IsOk, IfOk, max, take}
+use Rattle.std.proofs.lemmas.List.{length-take, length-map}
 use Rattle.im_types.specs.declared.commands.Request.{Request}
 use Rattle.im_types.specs.declared.commands.Command.{Command}
+use Rattle.im_types.specs.declared.commands.Command.TheVariants.{Request as Asks}
 use Rattle.im_types.specs.declared.commands.Outcome.{Outcome}
 use Rattle.im_types.specs.declared.groups.Served.{Served as ServedMember}
 use Rattle.im_types.specs.declared.refusals.Refusal.{Refusal}
@@ -16,26 +18,29 @@ use Rattle.im_types.specs.Meaning.{Reached}
 use Rattle.im_types.specs.Groups.{as_served, answers_of, reached_by_all, puts_of}
 use Rattle.im_checkpoint.specs.declared.checkpoint.TurnDone.{TurnDone}
 use Rattle.arrayvec.specs.ArrayVec.{ArrayVec}
-use Rattle.im_engine.specs.declared.run.Event.{Event}
-use Rattle.im_engine.specs.declared.run.Event.TheVariants.{Command as Serve, Group as Together, Ahead, Turn, Sweep}
-use Rattle.im_engine.specs.declared.run.Answer.{Answer}
-use Rattle.im_engine.specs.declared.run.Answer.TheVariants.{Served as Told, Grouped, Turned as TookTurn}
-use Rattle.im_engine.specs.declared.run.Answer.TheVariants.{Advanced, Swept as DidSweep}
-use Rattle.im_types.specs.declared.commands.Command.TheVariants.{Request as Asks}
+use Rattle.im_journal.specs.Holding.{ahead_after}
 use Rattle.im_groups.specs.Commands.{places, commands_at, answers_with}
 use Rattle.im_groups.proofs.CommandLemmas.{at-after}
 use Rattle.im_groups.proofs.EnoughLemmas.{enough-answers, at_most_members}
+use Rattle.im_session.specs.declared.events.Event.{Event}
+use Rattle.im_session.specs.declared.events.Event.TheVariants.{Command as Serve, Group as Together, Ahead, Turn, Sweep}
+use Rattle.im_session.specs.declared.events.Answer.{Answer}
+use Rattle.im_session.specs.declared.events.Answer.TheVariants.{Served as Told, Grouped, Turned as TookTurn}
+use Rattle.im_session.specs.declared.events.Answer.TheVariants.{Advanced, Swept as DidSweep}
 use Rattle.im_engine.specs.State.{EngineState, with_command}
-use Rattle.im_engine.specs.Commands.{commands_put, each_refused}
-use Rattle.im_engine.specs.Chain.{Advances}
 use Rattle.im_engine.specs.Groups.{reached_in, after_group, group_put, all_refused, answers_in, GroupAnswered}
-use Rattle.im_engine.specs.Run.{Answered, TurnAnswered, SweepAnswered, AnsweredInTurn, is_device, has_device}
-use Rattle.im_engine.specs.Run.{acknowledged_members, acknowledged_commands, acknowledged_by, is_doubt, reached_at}
-use Rattle.im_engine.specs.Run.{ahead_behind, ahead_by, taken_by, in_doubt_by, in_doubt}
-use Rattle.im_engine.proofs.Acknowledging.{acknowledged-commands, refused-none}
+use Rattle.im_engine.specs.Chain.{Advances, TakesNext}
+use Rattle.im_engine.specs.Commands.{after_commands, answers_in_turn, commands_put, each_refused}
+use Rattle.im_engine.specs.Answered.{Answered, TurnAnswered, SweepAnswered, is_device}
 use Rattle.im_engine.proofs.Members.{puts_few}
-use Rattle.im_promise.specs.Acknowledged.{calls_in_doubt, most_of, most_of_one, is_fault, IsFailed, IsAnswer}
-use Rattle.im_promise.specs.Acknowledged.{AreAnswers}
+use Rattle.im_session.specs.Put.{doubted_by}
+use Rattle.im_session.specs.Events.{EventAnswered, AnsweredInTurn, acknowledged_members, acknowledged_by, has_device}
+use Rattle.im_session.specs.Events.{in_doubt, in_doubt_by, is_fault, reached_at}
+use Rattle.im_session.proofs.EventLemmas.{by_event}
+use Rattle.im_session.proofs.GroupLemmas.{acknowledged-commands, refused-none}
+use Rattle.im_session.proofs.ServedLemmas.{not_device, unsure}
+use Rattle.im_promise.specs.Acknowledged.{calls_in_doubt, most_of, most_of_one, is_doubt, IsFailed, IsAnswer}
+use Rattle.im_promise.specs.Acknowledged.{AreAnswers, Names, ahead_by}
 
 bool_cases : (b : Bool) → (b ≡ true) ⊎ (b ≡ false)
 bool_cases true = inl refl
@@ -45,13 +50,17 @@ pub none_or_some : (n : ℕ) → (n ≡ 0) ⊎ (0 < n)
 none_or_some zero = inl refl
 none_or_some (suc n) = inr (omega arith)
 
-none_if : (c : Command) (b p : Bool) → p ≡ false → (if b && p then c ∷ [] else []) ≡ []
-none_if c true p is = ap (λ (x : Bool). if x then c ∷ [] else []) is
-none_if c false p is = refl
+none_by : (m : Contents) (c : Command) (a : Result Outcome Refusal) → is_doubt (Told a) ≡ false → doubted_by m c a ≡ []
+none_by m c (Ok o) is = refl
+none_by m c (Err e) is = not_device m c e is
 
 one_at_most : (c : Command) (b : Bool) → length (if b then c ∷ [] else []) ≤ 1
 one_at_most c true = omega arith
 one_at_most c false = omega arith
+
+one_by : (m : Contents) (c : Command) (a : Result Outcome Refusal) → length (doubted_by m c a) ≤ 1
+one_by m c (Ok o) = omega arith
+one_by m c (Err e) = one_at_most c (is_accepted m c && is_device e)
 
 no_more : {X : Type 0} (xs ys : List X) → xs ≡ [] → ys ≡ [] → xs ++ ys ≡ []
 no_more xs ys none rest = ap (λ l. l ++ ys) none ∙ rest
@@ -73,7 +82,7 @@ pub record Known : Type 0 where
   pub count : (s : Reached) (members : List Request)
       → (reached_by_all s members).count ≡ s.count + length (puts_of s members)
   pub put : (s : Reached) (members : List Request)
-      → acknowledged_members s.contents members (map as_served (answers_of s members)) ≡ puts_of s members
+      → acknowledged_members s.contents (map Asks members) (map as_served (answers_of s members)) ≡ puts_of s members
   pub works : (s : Reached) (members : List Request) → has_device (map as_served (answers_of s members)) ≡ false
   pub fault : (s : Reached) (members : List Request) → 0 < length (puts_of s members)
       → has_device (all_refused Device members) ≡ true
@@ -81,15 +90,10 @@ pub record Known : Type 0 where
 
 -- ---- once the engine has failed
 
--- `ahead` are the members ahead of the engine; nothing is in doubt whatever is ahead
-record IsOver (m : Contents) (n : ℕ) (ahead there : List Command) (events : List Event) (answers : List Answer) : Type 0 where
+record IsOver (m : Contents) (n : ℕ) (ahead : List Command) (events : List Event) (answers : List Answer) : Type 0 where
   pub calls_none : calls_in_doubt answers ≡ 0
-  pub doubt_none : in_doubt m n there events answers ≡ []
+  pub doubt_none : in_doubt m n events answers ≡ []
   pub answered : AreAnswers true m n ahead events answers
-
--- the same of an engine that is as it was
-abbrev Over : List Command → List Event → List Answer → Type 0
-Over ahead events answers = (m : Contents) (n : ℕ) (there : List Command) → IsOver m n ahead there events answers
 
 -- an answer with no doubt, before others with none
 no_call : (b : Bool) (n : ℕ) → b ≡ false → n ≡ 0 → (if b then 1 else 0) + n ≡ 0
@@ -98,106 +102,107 @@ no_call false n is none = omega (arith, none)
 
 module _ (known : Known) where
   over_more : (e : Event) (a : Answer) (events : List Event) (answers : List Answer) (m : Contents) (n : ℕ)
-      (ahead there : List Command)
-      → is_doubt a ≡ false → in_doubt_by m n there e a ≡ [] → IsFailed ahead e a
-      → Over ahead events answers → IsOver m n ahead there (e ∷ events) (a ∷ answers)
-  over_more e a events answers m n ahead there sure none failed rest =
-      let put = acknowledged_by m there e a in
-      let next = ahead_by m there e a in
-      record {
-        calls_none = no_call (is_doubt a) (calls_in_doubt answers) sure (rest m n there).calls_none;
-        doubt_none = no_more (in_doubt_by m n there e a) (in_doubt (after m put) (n + length put) next events answers) none
-            (rest (after m put) (n + length put) next).doubt_none;
-        answered = (failed, (rest m n there).answered);
-      }
+      (ahead : List Command) → is_doubt a ≡ false → in_doubt_by m n e a ≡ [] → IsFailed e a → Names ahead a
+      → ((k : Contents) (j : ℕ) → IsOver k j ahead events answers) → IsOver m n ahead (e ∷ events) (a ∷ answers)
+  over_more e a events answers m n ahead sure none failed named rest = record {
+    calls_none = no_call (is_doubt a) (calls_in_doubt answers) sure (rest m n).calls_none;
+    doubt_none =
+        no_more (in_doubt_by m n e a)
+        (in_doubt (after m (acknowledged_by m e a)) (n + length (acknowledged_by m e a)) events answers) none
+        (rest (after m (acknowledged_by m e a)) (n + length (acknowledged_by m e a))).doubt_none;
+    answered = (failed, named, (rest m n).answered);
+  }
 
-  -- the engine stays as it is
-  over_on : {D : Type 0} (old mid : EngineState D) (events : List Event) (answers : List Answer) → mid ≡ old
-      → Over mid.ahead events answers → Over old.ahead events answers
-  over_on {D} old mid events answers same rest = subst (λ (s : EngineState D). Over s.ahead events answers) same rest
+  -- an event of an engine that has failed
+  record IsPast {D : Type 0} (old : EngineState D) (mid : EngineState D) (e : Event) (a : Answer) : Type 0 where
+    pub sure : is_doubt a ≡ false
+    pub none : (m : Contents) (n : ℕ) → in_doubt_by m n e a ≡ []
+    pub failed : IsFailed e a
+    pub named : Names old.ahead a
+    pub same : mid ≡ old
+
+  past : {D : Type 0} (old mid : EngineState D) (e : Event) (a : Answer) → old.failed ≡ true → EventAnswered old e a mid
+      → IsPast old mid e a
+  past {D} old mid e a dead it = by_event old mid (IsPast old mid)
+      (λ c x one. let is = one.dead dead in
+      let sure = ap (λ (y : Result Outcome Refusal). is_doubt (Told y)) is.0 in record {
+        sure = sure;
+        none = λ m n. none_by m c x sure;
+        failed = is.0;
+        named = tt;
+        same = is.1;
+      })
+      (λ members room served same one. let is = one.dead dead in
+      let sure : has_device served.items ≡ false = ap has_device is.0 ∙ known.dead members in record {
+        sure = sure;
+        none = λ m n. ap (λ (b : Bool). if b then puts_of (reached_at m n room) members else []) sure;
+        failed = is.0;
+        named = tt;
+        same = is.1;
+      })
+      (λ members were result served are one takes. let is = one.dead dead in
+      let sure = ap (λ (y : Result ℕ Refusal). is_doubt (Advanced were y served)) is.0 in
+      let calm = ap (λ (y : Result ℕ Refusal). is_fault (Advanced were y served)) is.0 in record {
+        sure = sure;
+        none = λ m n. ap (λ (b : Bool). if b then commands_at m (length were.items) were.items else []) calm;
+        failed = (is.0, is.1 ∙ ap (λ (l : List Command). each_refused Failed l) (sym are));
+        named = are;
+        same = is.2;
+      })
+      (λ x one. let is = one.dead dead in record {
+        sure = refl;
+        none = λ m n. refl;
+        failed = is.0;
+        named = tt;
+        same = is.1;
+      })
+      (λ most x one. let is = one.dead dead in record {
+        sure = refl;
+        none = λ m n. refl;
+        failed = is.0;
+        named = tt;
+        same = is.1;
+      }) e a it
 
   over : {D : Type 0} (old new : EngineState D) (events : List Event) (answers : List Answer) → old.failed ≡ true
-      → AnsweredInTurn old events answers new → Over old.ahead events answers
-  over old new [] [] dead it m n there = record { calls_none = refl; doubt_none = refl; answered = tt }
-  over old new [] (a ∷ answers) dead it m n there = absurd it
-  over old new (e ∷ events) [] dead it m n there = absurd it
-  over {D} old new (Serve c ∷ events) (Told a ∷ answers) dead (mid, one, rest) m n there =
-      let is = one.dead dead in
-      over_more (Serve c) (Told a) events answers m n old.ahead there
-      (ap (λ (x : Result Outcome Refusal). is_doubt (Told x)) is.0)
-      (none_if c (is_accepted m c) (is_doubt (Told a)) (ap (λ (x : Result Outcome Refusal). is_doubt (Told x)) is.0))
-      is.0
-      (over_on old mid events answers is.1
-      (over mid new events answers (ap (λ (s : EngineState D). s.failed) is.1 ∙ dead) rest))
-  over old new (Serve c ∷ events) (Grouped room served ∷ answers) dead (mid, one, rest) m n there = absurd one
-  over old new (Serve c ∷ events) (TookTurn a ∷ answers) dead (mid, one, rest) m n there = absurd one
-  over old new (Together members ∷ events) (Told a ∷ answers) dead (mid, one, rest) m n there = absurd one
-  over {D} old new (Together members ∷ events) (Grouped room served ∷ answers) dead (mid, one, rest) m n there =
-      let is = one.1.dead dead in
-      let sure : has_device served.items ≡ false = ap has_device is.0 ∙ known.dead members in
-      over_more (Together members) (Grouped room served) events answers m n old.ahead there sure
-      (ap (λ (b : Bool). if b then puts_of (reached_at m n room) members else []) sure) is.0
-      (over_on old mid events answers is.1
-      (over mid new events answers (ap (λ (s : EngineState D). s.failed) is.1 ∙ dead) rest))
-  over old new (Together members ∷ events) (TookTurn a ∷ answers) dead (mid, one, rest) m n there = absurd one
-  over old new (Turn ∷ events) (Told a ∷ answers) dead (mid, one, rest) m n there = absurd one
-  over old new (Turn ∷ events) (Grouped room served ∷ answers) dead (mid, one, rest) m n there = absurd one
-  over {D} old new (Turn ∷ events) (TookTurn a ∷ answers) dead (mid, one, rest) m n there =
-      over_more Turn (TookTurn a) events answers m n old.ahead there refl refl (one.dead dead).0
-      (over_on old mid events answers (one.dead dead).1
-      (over mid new events answers (ap (λ (s : EngineState D). s.failed) (one.dead dead).1 ∙ dead) rest))
-  over old new (Serve c ∷ events) (DidSweep a ∷ answers) dead (mid, one, rest) m n there = absurd one
-  over old new (Together members ∷ events) (DidSweep a ∷ answers) dead (mid, one, rest) m n there = absurd one
-  over old new (Turn ∷ events) (DidSweep a ∷ answers) dead (mid, one, rest) m n there = absurd one
-  over old new (Sweep most ∷ events) (Told a ∷ answers) dead (mid, one, rest) m n there = absurd one
-  over old new (Sweep most ∷ events) (Grouped room served ∷ answers) dead (mid, one, rest) m n there = absurd one
-  over old new (Sweep most ∷ events) (TookTurn a ∷ answers) dead (mid, one, rest) m n there = absurd one
-  over {D} old new (Sweep most ∷ events) (DidSweep a ∷ answers) dead (mid, one, rest) m n there =
-      over_more (Sweep most) (DidSweep a) events answers m n old.ahead there refl refl (one.dead dead).0
-      (over_on old mid events answers (one.dead dead).1
-      (over mid new events answers (ap (λ (s : EngineState D). s.failed) (one.dead dead).1 ∙ dead) rest))
-  over {D} old new (Ahead members ∷ events) (Advanced r served ∷ answers) dead (mid, one, rest) m n there =
-      let is = one.0.dead dead in
-      let sure : is_doubt (Advanced r served) ≡ false
-      = ap (λ (x : Result ℕ Refusal). is_doubt (Advanced x served)) is.0 in
-      over_more (Ahead members) (Advanced r served) events answers m n old.ahead there sure
-      (ap (λ (b : Bool). if b then commands_at m (length there) there else []) sure) (is.0, is.1)
-      (over_on old mid events answers is.2
-      (over mid new events answers (ap (λ (s : EngineState D). s.failed) is.2 ∙ dead) rest))
-  over old new (Ahead members ∷ events) (Told a ∷ answers) dead (mid, one, rest) m n there = absurd one
-  over old new (Ahead members ∷ events) (Grouped room served ∷ answers) dead (mid, one, rest) m n there = absurd one
-  over old new (Ahead members ∷ events) (TookTurn a ∷ answers) dead (mid, one, rest) m n there = absurd one
-  over old new (Ahead members ∷ events) (DidSweep a ∷ answers) dead (mid, one, rest) m n there = absurd one
-  over old new (Serve c ∷ events) (Advanced r served ∷ answers) dead (mid, one, rest) m n there = absurd one
-  over old new (Together members ∷ events) (Advanced r served ∷ answers) dead (mid, one, rest) m n there = absurd one
-  over old new (Turn ∷ events) (Advanced r served ∷ answers) dead (mid, one, rest) m n there = absurd one
-  over old new (Sweep most ∷ events) (Advanced r served ∷ answers) dead (mid, one, rest) m n there = absurd one
+      → AnsweredInTurn old events answers new → (m : Contents) (n : ℕ) → IsOver m n old.ahead events answers
+  over old new [] [] dead it m n = record { calls_none = refl; doubt_none = refl; answered = tt }
+  over old new [] (a ∷ answers) dead it m n = absurd it
+  over old new (e ∷ events) [] dead it m n = absurd it
+  over {D} old new (e ∷ events) (a ∷ answers) dead (mid, one, rest) m n =
+      let is = past old mid e a dead one in
+      over_more e a events answers m n old.ahead is.sure (is.none m n) is.failed is.named
+      (subst (λ (s : EngineState D). (k : Contents) (j : ℕ) → IsOver k j s.ahead events answers) is.same
+      (over mid new events answers (ap (λ (s : EngineState D). s.failed) is.same ∙ dead) rest))
 
 -- ---- as long as it works
 
-pub record AreTold (m : Contents) (n : ℕ) (ahead : List Command) (events : List Event) (answers : List Answer) : Type 0 where
+pub record AreTold (m : Contents) (n : ℕ) (ahead : List Command) (events : List Event) (answers : List Answer)
+    : Type 0 where
   pub one : calls_in_doubt answers ≤ 1
-  pub few : length (in_doubt m n ahead events answers) ≤ max (length ahead) (most_of_one events)
+  pub few : length (in_doubt m n events answers) ≤ max (length ahead) (most_of_one events)
   pub answered : AreAnswers false m n ahead events answers
 
 -- the event leaves nothing in doubt
 record GoesOn {D : Type 0} (old mid : EngineState D) (e : Event) (a : Answer) : Type 0 where
   pub works : mid.failed ≡ false
-  pub memory : mid.memory ≡ after old.memory (acknowledged_by old.memory old.ahead e a)
-  pub count : mid.count ≡ old.count + length (acknowledged_by old.memory old.ahead e a)
+  pub memory : mid.memory ≡ after old.memory (acknowledged_by old.memory e a)
+  pub count : mid.count ≡ old.count + length (acknowledged_by old.memory e a)
   pub ahead : mid.ahead ≡ ahead_by old.memory old.ahead e a
   pub no_more : length mid.ahead ≤ max (length old.ahead) (most_of e)
   pub sure : is_doubt a ≡ false
-  pub none : in_doubt_by old.memory old.count old.ahead e a ≡ []
-  pub answer : IsAnswer old.memory old.count old.ahead e a
+  pub none : in_doubt_by old.memory old.count e a ≡ []
+  pub answer : IsAnswer old.memory old.count e a
+  pub named : Names old.ahead a
   pub calm : is_fault a ≡ false
 
 -- the disk failed in it
 record Fails {D : Type 0} (old mid : EngineState D) (e : Event) (a : Answer) : Type 0 where
   pub dead : mid.failed ≡ true
   pub ahead : mid.ahead ≡ ahead_by old.memory old.ahead e a
-  pub few : length (in_doubt_by old.memory old.count old.ahead e a) ≤ max (length old.ahead) (most_of e)
-  pub answer : IsAnswer old.memory old.count old.ahead e a
+  pub few : length (in_doubt_by old.memory old.count e a) ≤ max (length old.ahead) (most_of e)
+  pub answer : IsAnswer old.memory old.count e a
+  pub named : Names old.ahead a
   pub fault : is_fault a ≡ true
 
 no_call_more : (b : Bool) (n : ℕ) → b ≡ false → n ≤ 1 → (if b then 1 else 0) + n ≤ 1
@@ -218,7 +223,7 @@ goes_on old mid e a events answers it rest =
     (subst (λ (n : ℕ). AreTold mid.memory n mid.ahead events answers) it.count rest)))
   where
     sure : List Command
-    sure = acknowledged_by old.memory old.ahead e a
+    sure = acknowledged_by old.memory e a
 
     next : List Command
     next = ahead_by old.memory old.ahead e a
@@ -230,8 +235,8 @@ goes_on old mid e a events answers it rest =
       few =
           omega (
             arith,
-            length-append (in_doubt_by old.memory old.count old.ahead e a)
-                (in_doubt (after old.memory sure) (old.count + length sure) next events answers),
+            length-append (in_doubt_by old.memory old.count e a)
+                (in_doubt (after old.memory sure) (old.count + length sure) events answers),
             ap length it.none,
             far.few,
             ap length it.ahead,
@@ -239,52 +244,55 @@ goes_on old mid e a events answers it rest =
           );
       answered = (
         it.answer,
+        it.named,
         subst (λ (b : Bool). AreAnswers b (after old.memory sure) (old.count + length sure) next events answers)
             (sym it.calm) far.answered,
       );
     }
 
 ends : {D : Type 0} (old mid : EngineState D) (e : Event) (a : Answer) (events : List Event) (answers : List Answer)
-    → Fails old mid e a → Over mid.ahead events answers
+    → Fails old mid e a → ((m : Contents) (n : ℕ) → IsOver m n mid.ahead events answers)
     → AreTold old.memory old.count old.ahead (e ∷ events) (a ∷ answers)
 ends old mid e a events answers it rest =
-    let sure : List Command = acknowledged_by old.memory old.ahead e a in
-    let next : List Command = ahead_by old.memory old.ahead e a in
-    let far : IsOver (after old.memory (acknowledged_by old.memory old.ahead e a))
-    (old.count + length (acknowledged_by old.memory old.ahead e a)) mid.ahead (ahead_by old.memory old.ahead e a) events
-    answers =
-    rest (after old.memory (acknowledged_by old.memory old.ahead e a))
-    (old.count + length (acknowledged_by old.memory old.ahead e a)) (ahead_by old.memory old.ahead e a) in
+    let far : IsOver (after old.memory (acknowledged_by old.memory e a))
+    (old.count + length (acknowledged_by old.memory e a)) (ahead_by old.memory old.ahead e a) events answers =
+    subst (λ (l : List Command). IsOver (after old.memory (acknowledged_by old.memory e a))
+    (old.count + length (acknowledged_by old.memory e a)) l events answers) it.ahead
+    (rest (after old.memory (acknowledged_by old.memory e a)) (old.count + length (acknowledged_by old.memory e a))) in
     record {
       one = one_call (is_doubt a) (calls_in_doubt answers) far.calls_none;
       few = omega (
         arith,
-        length-append (in_doubt_by old.memory old.count old.ahead e a)
-            (in_doubt (after old.memory (acknowledged_by old.memory old.ahead e a))
-            (old.count + length (acknowledged_by old.memory old.ahead e a)) (ahead_by old.memory old.ahead e a) events
-            answers),
+        length-append (in_doubt_by old.memory old.count e a)
+            (in_doubt (after old.memory (acknowledged_by old.memory e a))
+            (old.count + length (acknowledged_by old.memory e a)) events answers),
         ap length far.doubt_none,
         it.few,
       );
       answered = (
         it.answer,
-        subst (λ (b : Bool). AreAnswers b (after old.memory (acknowledged_by old.memory old.ahead e a))
-            (old.count + length (acknowledged_by old.memory old.ahead e a)) (ahead_by old.memory old.ahead e a) events
-            answers) (sym it.fault)
-            (subst (λ (l : List Command). AreAnswers true (after old.memory (acknowledged_by old.memory old.ahead e a))
-            (old.count + length (acknowledged_by old.memory old.ahead e a)) l events answers) it.ahead far.answered),
+        it.named,
+        subst (λ (b : Bool). AreAnswers b (after old.memory (acknowledged_by old.memory e a))
+            (old.count + length (acknowledged_by old.memory e a)) (ahead_by old.memory old.ahead e a) events answers)
+            (sym it.fault) far.answered,
       );
     }
 
 nothing_more : (n : ℕ) → n ≡ n + 0
 nothing_more n = omega arith
 
--- nothing is ahead behind commands that were put
-gone_behind : (put ahead : List Command) → 0 < length put → ahead_behind put ahead ≡ []
+-- what stays ahead behind commands that were put
+gone_behind : (put ahead : List Command) → 0 < length put → [] ≡ ahead_after (length put) ahead
 gone_behind [] ahead some = absurd (omega (arith, some))
 gone_behind (c ∷ put) ahead some = refl
 
 module _ (known : Known) {D : Type 0} (old mid : EngineState D) (f : old.failed ≡ false) where
+  few_still : mid.ahead ≡ old.ahead → (most : ℕ) → length mid.ahead ≤ max (length old.ahead) most
+  few_still same most = omega (arith, ap length same)
+
+  few_none : mid.ahead ≡ [] → (most : ℕ) → length mid.ahead ≤ max (length old.ahead) most
+  few_none none most = omega (arith, ap length none)
+
   -- the engine is as it was
   same_memory : mid ≡ old → (l : List Command) → l ≡ [] → mid.memory ≡ after old.memory l
   same_memory same l none =
@@ -295,36 +303,28 @@ module _ (known : Known) {D : Type 0} (old mid : EngineState D) (f : old.failed 
       ap (λ (s : EngineState D). s.count) same ∙ nothing_more old.count ∙ ap (λ (k : List Command). old.count + length k)
       (sym none)
 
-  -- and so is what is ahead
-  same_ahead : mid ≡ old → (l : List Command) → l ≡ [] → mid.ahead ≡ ahead_behind l old.ahead
-  same_ahead same l none =
-      ap (λ (s : EngineState D). s.ahead) same ∙ ap (λ (k : List Command). ahead_behind k old.ahead) (sym none)
-
-  few_ahead : mid ≡ old → (n : ℕ) → length mid.ahead ≤ max (length old.ahead) n
-  few_ahead same n = omega (arith, ap (λ (s : EngineState D). length s.ahead) same)
+  same_ahead : mid ≡ old → (l : List Command) → l ≡ [] → mid.ahead ≡ ahead_after (length l) old.ahead
+  same_ahead same l none = ap (λ (s : EngineState D). s.ahead) same
+      ∙ ap (λ (k : List Command). ahead_after (length k) old.ahead) (sym none)
 
   module _ (c : Command) (a : Result Outcome Refusal) (it : Answered old c a mid) where
     abbrev sure_c : List Command
-    sure_c = acknowledged_by old.memory old.ahead (Serve c) (Told a)
+    sure_c = acknowledged_by old.memory (Serve c) (Told a)
 
-    still_command : mid ≡ old → acknowledged_by old.memory old.ahead (Serve c) (Told a) ≡ [] → is_doubt (Told a) ≡ false
-        → is_fault (Told a) ≡ false → IsAnswer old.memory old.count old.ahead (Serve c) (Told a) → GoesOn old mid (Serve c) (Told a)
+    still_command : mid ≡ old → acknowledged_by old.memory (Serve c) (Told a) ≡ [] → is_doubt (Told a) ≡ false
+        → is_fault (Told a) ≡ false → IsAnswer old.memory old.count (Serve c) (Told a) → GoesOn old mid (Serve c) (Told a)
     still_command same none sure calm answer = record {
       works = ap (λ (s : EngineState D). s.failed) same ∙ f;
       memory = same_memory same sure_c none;
       count = same_count same sure_c none;
       ahead = same_ahead same sure_c none;
-      no_more = few_ahead same (most_of (Serve c));
+      no_more = few_still (ap (λ (s : EngineState D). s.ahead) same) 1;
       sure = sure;
-      none = none_if c (is_accepted old.memory c) (is_doubt (Told a)) sure;
+      none = none_by old.memory c a sure;
       answer = answer;
+      named = tt;
       calm = calm;
     }
-
-    unaccepted_none : (b : Result Outcome Refusal) → is_accepted old.memory c ≡ false
-        → acknowledged_by old.memory old.ahead (Serve c) (Told b) ≡ []
-    unaccepted_none (Ok o) un = ap (λ (x : Bool). if x then c ∷ [] else []) un
-    unaccepted_none (Err e) un = refl
 
     step_sure : (b : Result Outcome Refusal) → b ≡ (step old.memory c).answer
         → (is_doubt (Told b) ≡ false) × (is_fault (Told b) ≡ false)
@@ -340,8 +340,8 @@ module _ (known : Known) {D : Type 0} (old mid : EngineState D) (f : old.failed 
         let told =
         ok_of (step old.memory c).answer (known.ok old.memory c (is_true (is_accepted old.memory c) accepted)) in
         let is : a ≡ Ok told.0 = done.0 ∙ told.1 in
-        let all : acknowledged_by old.memory old.ahead (Serve c) (Told a) ≡ c ∷ [] =
-        ap (λ (x : Result Outcome Refusal). acknowledged_by old.memory old.ahead (Serve c) (Told x)) is ∙ ap
+        let all : acknowledged_by old.memory (Serve c) (Told a) ≡ c ∷ [] =
+        ap (λ (x : Result Outcome Refusal). acknowledged_by old.memory (Serve c) (Told x)) is ∙ ap
         (λ (x : Bool). if x then c ∷ [] else []) accepted in
         let sure : is_doubt (Told a) ≡ false = ap (λ (x : Result Outcome Refusal). is_doubt (Told x)) is in
         inl (record {
@@ -351,19 +351,21 @@ module _ (known : Known) {D : Type 0} (old mid : EngineState D) (f : old.failed 
           count =
               ap (λ (s : EngineState D). s.count) done.1 ∙ ap (λ (l : List Command). old.count + length l) (sym all);
           ahead = ap (λ (s : EngineState D). s.ahead) done.1
-              ∙ ap (λ (l : List Command). ahead_behind l old.ahead) (sym all);
-          no_more = omega (arith, ap (λ (s : EngineState D). length s.ahead) done.1);
+              ∙ ap (λ (l : List Command). ahead_after (length l) old.ahead) (sym all);
+          no_more = few_none (ap (λ (s : EngineState D). s.ahead) done.1) 1;
           sure = sure;
-          none = none_if c (is_accepted old.memory c) (is_doubt (Told a)) sure;
+          none = none_by old.memory c a sure;
           answer = inl (sym done.0);
+          named = tt;
           calm = ap (λ (x : Result Outcome Refusal). is_fault (Told x)) is;
         })
     put_command accepted (inr fault) = inr (record {
       dead = ap (λ (s : EngineState D). s.failed) fault.1;
-      ahead = ap (λ (s : EngineState D). s.ahead) fault.1 ∙ ap (λ (l : List Command). ahead_behind l old.ahead) (sym
-          (ap (λ (x : Result Outcome Refusal). acknowledged_by old.memory old.ahead (Serve c) (Told x)) fault.0));
-      few = omega (arith, one_at_most c (is_accepted old.memory c && is_doubt (Told a)));
+      ahead = ap (λ (s : EngineState D). s.ahead) fault.1
+          ∙ ap (λ (x : Result Outcome Refusal). ahead_by old.memory old.ahead (Serve c) (Told x)) (sym fault.0);
+      few = omega (arith, one_by old.memory c a);
       answer = inr (accepted, inr fault.0);
+      named = tt;
       fault = ap (λ (x : Result Outcome Refusal). is_fault (Told x)) fault.0;
     })
 
@@ -371,47 +373,49 @@ module _ (known : Known) {D : Type 0} (old mid : EngineState D) (f : old.failed 
     command_goes = ⊎_elim
         (λ yes. ⊎_elim
         (λ none. let full = it.full f yes none in inl (still_command full.1
-        (ap (λ (x : Result Outcome Refusal). acknowledged_by old.memory old.ahead (Serve c) (Told x)) full.0)
+        (ap (λ (x : Result Outcome Refusal). acknowledged_by old.memory (Serve c) (Told x)) full.0)
         (ap (λ (x : Result Outcome Refusal). is_doubt (Told x)) full.0)
         (ap (λ (x : Result Outcome Refusal). is_fault (Told x)) full.0)
         (inr (yes, inl full.0))))
         (λ some. put_command yes (it.put f yes some))
         (none_or_some old.room))
-        (λ un. let is = it.unaccepted f un
-        in inl (still_command is.1 (unaccepted_none a un) (step_sure a is.0).0 (step_sure a is.0).1 (inl (sym is.0))))
+        (λ un. let is = it.unaccepted f un in
+        let sure = step_sure a is.0 in
+        inl (still_command is.1 (unsure old.memory c a un) sure.0 sure.1 (inl (sym is.0))))
         (bool_cases (is_accepted old.memory c))
 
   module _ (members : List Request) (room : ℕ) (served : ArrayVec ServedMember) (same : room ≡ old.room)
       (it : GroupAnswered old members served.items mid) where
     abbrev sure_g : List Command
-    sure_g = acknowledged_by old.memory old.ahead (Together members) (Grouped room served)
+    sure_g = acknowledged_by old.memory (Together members) (Grouped room served)
 
     -- what a group found, by the room that it tells
     found_here : reached_at old.memory old.count room ≡ reached_in old
     found_here = ap (λ (k : ℕ). reached_at old.memory old.count k) same
 
     sure_is : served.items ≡ answers_in old members
-        → acknowledged_members old.memory members served.items ≡ group_put old members
+        → acknowledged_members old.memory (map Asks members) served.items ≡ group_put old members
     sure_is told =
-        ap (λ (l : List ServedMember). acknowledged_members old.memory members l) told ∙ known.put
+        ap (λ (l : List ServedMember). acknowledged_members old.memory (map Asks members) l) told ∙ known.put
         (reached_in old) members
 
     told_goes : served.items ≡ answers_in old members → mid.failed ≡ false
         → mid.memory ≡ after old.memory (group_put old members) → mid.count ≡ old.count + length (group_put old members)
-        → mid.ahead ≡ ahead_behind (group_put old members) old.ahead
+        → mid.ahead ≡ ahead_after (length (group_put old members)) old.ahead
         → length mid.ahead ≤ max (length old.ahead) (length members)
         → GoesOn old mid (Together members) (Grouped room served)
-    told_goes told works memory count ahead less =
+    told_goes told works memory count line no_more =
         let calm : has_device served.items ≡ false = ap has_device told ∙ known.works (reached_in old) members in
         record {
           works = works;
           memory = memory ∙ ap (λ (l : List Command). after old.memory l) (sym (sure_is told));
           count = count ∙ ap (λ (l : List Command). old.count + length l) (sym (sure_is told));
-          ahead = ahead ∙ ap (λ (l : List Command). ahead_behind l old.ahead) (sym (sure_is told));
-          no_more = less;
+          ahead = line ∙ ap (λ (l : List Command). ahead_after (length l) old.ahead) (sym (sure_is told));
+          no_more = no_more;
           sure = calm;
           none = ap (λ (b : Bool). if b then puts_of (reached_at old.memory old.count room) members else []) calm;
           answer = inl (told ∙ ap (λ (s : Reached). map as_served (answers_of s members)) (sym found_here));
+          named = tt;
           calm = calm;
         }
 
@@ -429,14 +433,16 @@ module _ (known : Known) {D : Type 0} (old mid : EngineState D) (f : old.failed 
     put_group some (inl done) = inl (told_goes done.0 (ap (λ (s : EngineState D). s.failed) done.1 ∙ f)
         (ap (λ (s : EngineState D). s.memory) done.1 ∙ known.memory (reached_in old) members)
         (ap (λ (s : EngineState D). s.count) done.1 ∙ known.count (reached_in old) members)
-        (ap (λ (s : EngineState D). s.ahead) done.1 ∙ sym (gone_behind (group_put old members) old.ahead some))
-        (omega (arith, ap (λ (s : EngineState D). length s.ahead) done.1)))
+        (ap (λ (s : EngineState D). s.ahead) done.1 ∙ gone_behind (group_put old members) old.ahead some)
+        (few_none (ap (λ (s : EngineState D). s.ahead) done.1) (length members)))
     put_group some (inr fault) = inr (record {
       dead = ap (λ (s : EngineState D). s.failed) fault.1;
-      ahead = ap (λ (s : EngineState D). s.ahead) fault.1 ∙ ap (λ (l : List Command). ahead_behind l old.ahead) (sym
-          (ap (λ (l : List ServedMember). acknowledged_members old.memory members l) fault.0
+      ahead = ap (λ (s : EngineState D). s.ahead) fault.1
+          ∙ ap (λ (l : List Command). ahead_after (length l) old.ahead)
+          (sym (ap (λ (l : List ServedMember). acknowledged_members old.memory (map Asks members) l) fault.0
           ∙ refused-none old.memory Device members));
       few = omega (arith, few_if (has_device served.items));
+      named = tt;
       answer = inr (fault.0, subst (λ (s : Reached). 0 < length (puts_of s members)) (sym found_here) some);
       fault = ap has_device fault.0 ∙ known.fault (reached_in old) members some;
     })
@@ -447,13 +453,88 @@ module _ (known : Known) {D : Type 0} (old mid : EngineState D) (f : old.failed 
         let is = it.none f none in
         inl (told_goes is.0 (ap (λ (s : EngineState D). s.failed) is.1 ∙ f)
         (same_memory is.1 (group_put old members) none) (same_count is.1 (group_put old members) none)
-        (same_ahead is.1 (group_put old members) none) (few_ahead is.1 (length members)))
+        (same_ahead is.1 (group_put old members) none)
+        (few_still (ap (λ (s : EngineState D). s.ahead) is.1) (length members)))
     by_put (command ∷ commands) is =
         let some : 0 < length (group_put old members) = omega (arith, ap length is) in put_group some (it.put f some)
 
     group_goes : GoesOn old mid (Together members) (Grouped room served)
         ⊎ Fails old mid (Together members) (Grouped room served)
     group_goes = by_put (group_put old members) refl
+
+  module _ (next : List Request) (were : ArrayVec Command) (result : Result ℕ Refusal) (served : ArrayVec ServedMember)
+      (are : were.items ≡ old.ahead) (it : Advances old (map Asks next) result served.items mid) where
+    abbrev sure_a : List Command
+    sure_a = acknowledged_by old.memory (Ahead next) (Advanced were result served)
+
+    -- what they are answered, with a place for each
+    told_there : (answers : List ServedMember) → served.items ≡ answers → sure_a
+        ≡ acknowledged_members old.memory old.ahead answers
+    told_there answers is = λ i. acknowledged_members old.memory (are i) (is i)
+
+    done_ahead : (many : ℕ) → result ≡ Ok many → served.items ≡ answers_in_turn old old.ahead
+        → mid ≡ record (after_commands old old.ahead) {
+          disk = mid.disk;
+          pages = mid.pages;
+          ahead = take many (map Asks next);
+        } → GoesOn old mid (Ahead next) (Advanced were result served)
+    done_ahead many told answers same =
+        let all : sure_a ≡ commands_put old old.ahead = told_there (answers_in_turn old old.ahead) answers
+        ∙ acknowledged-commands old.memory (places old.count old.room) old.ahead in
+        let line : mid.ahead ≡ take many (map Asks next) = ap (λ (s : EngineState D). s.ahead) same in
+        let calm : is_fault (Advanced were result served) ≡ false
+        = ap (λ (x : Result ℕ Refusal). is_fault (Advanced were x served)) told in
+        record {
+          works = ap (λ (s : EngineState D). s.failed) same ∙ f;
+          memory = ap (λ (s : EngineState D). s.memory) same
+              ∙ sym (at-after old.memory (places old.count old.room) old.ahead)
+              ∙ ap (λ (l : List Command). after old.memory l) (sym all);
+          count = ap (λ (s : EngineState D). s.count) same
+              ∙ ap (λ (l : List Command). old.count + length l) (sym all);
+          ahead = line
+              ∙ ap (λ (x : Result ℕ Refusal). ahead_by old.memory old.ahead (Ahead next) (Advanced were x served)) (sym told);
+          no_more = omega (
+            arith,
+            ap length line,
+            length-take many (map Asks next),
+            length-map next Asks,
+          );
+          sure = ap (λ (x : Result ℕ Refusal). is_doubt (Advanced were x served)) told;
+          none = ap (λ (b : Bool). if b then commands_at old.memory (length were.items) were.items else []) calm;
+          answer = inl (
+            subst (λ (x : Result ℕ Refusal). IsOk x) (sym told) tt,
+            answers
+                ∙ ap (map as_served) (enough-answers old.memory (places old.count old.room) (length old.ahead) old.ahead
+                it.enough (omega arith))
+                ∙ ap (λ (l : List Command). map as_served (answers_with old.memory (length l) l)) (sym are),
+          );
+          named = are;
+          calm = calm;
+        }
+
+    lost_ahead : result ≡ Err Device → served.items ≡ each_refused Device old.ahead
+        → mid ≡ record old { disk = mid.disk; ahead = []; failed = true }
+        → Fails old mid (Ahead next) (Advanced were result served)
+    lost_ahead told answers same = record {
+      dead = ap (λ (s : EngineState D). s.failed) same;
+      ahead = ap (λ (s : EngineState D). s.ahead) same
+          ∙ ap (λ (x : Result ℕ Refusal). ahead_by old.memory old.ahead (Ahead next) (Advanced were x served)) (sym told);
+      few = omega (arith, few_lost (is_fault (Advanced were result served)), ap length are);
+      answer = inr (told, answers ∙ ap (λ (l : List Command). each_refused Device l) (sym are));
+      named = are;
+      fault = ap (λ (x : Result ℕ Refusal). is_fault (Advanced were x served)) told;
+    }
+      where
+        few_lost : (b : Bool) → length (if b then commands_at old.memory (length were.items) were.items else [])
+            ≤ length were.items
+        few_lost true = at_most_members old.memory (length were.items) were.items
+        few_lost false = omega arith
+
+    ahead_goes : IfOk result (TakesNext old (map Asks next) mid)
+        → GoesOn old mid (Ahead next) (Advanced were result served)
+        ⊎ Fails old mid (Ahead next) (Advanced were result served)
+    ahead_goes takes = ⊎_elim (λ done. inl (done_ahead done.0 done.1 done.2 done.3))
+        (λ fault. inr (lost_ahead fault.0 fault.1 fault.2)) (it.alive f)
 
   turn_goes : (a : Result TurnDone Refusal) → TurnAnswered old a mid
       → GoesOn old mid Turn (TookTurn a) ⊎ Fails old mid Turn (TookTurn a)
@@ -463,10 +544,11 @@ module _ (known : Known) {D : Type 0} (old mid : EngineState D) (f : old.failed 
         memory = done.2.memory;
         count = done.2.count ∙ nothing_more old.count;
         ahead = done.2.ahead;
-        no_more = omega (arith, ap length done.2.ahead);
+        no_more = few_still done.2.ahead 0;
         sure = refl;
         none = refl;
         answer = tt;
+        named = tt;
         calm = ap (λ (x : Result TurnDone Refusal). is_fault (TookTurn x)) done.1;
       }))
       (λ fault. inr (record {
@@ -474,6 +556,7 @@ module _ (known : Known) {D : Type 0} (old mid : EngineState D) (f : old.failed 
         ahead = ap (λ (s : EngineState D). s.ahead) fault.1;
         few = omega arith;
         answer = tt;
+        named = tt;
         fault = ap (λ (x : Result TurnDone Refusal). is_fault (TookTurn x)) fault.0;
       }))
       (it.alive f)
@@ -486,10 +569,11 @@ module _ (known : Known) {D : Type 0} (old mid : EngineState D) (f : old.failed 
         memory = ap (λ (s : EngineState D). s.memory) done.1;
         count = ap (λ (s : EngineState D). s.count) done.1 ∙ nothing_more old.count;
         ahead = ap (λ (s : EngineState D). s.ahead) done.1;
-        no_more = omega (arith, ap (λ (s : EngineState D). length s.ahead) done.1);
+        no_more = few_still (ap (λ (s : EngineState D). s.ahead) done.1) 0;
         sure = refl;
         none = refl;
         answer = tt;
+        named = tt;
         calm = ap (λ (x : Result ℕ Refusal). is_fault (DidSweep x)) done.0;
       }))
       (λ fault. inr (record {
@@ -497,61 +581,10 @@ module _ (known : Known) {D : Type 0} (old mid : EngineState D) (f : old.failed 
         ahead = ap (λ (s : EngineState D). s.ahead) fault.1;
         few = omega arith;
         answer = tt;
+        named = tt;
         fault = ap (λ (x : Result ℕ Refusal). is_fault (DidSweep x)) fault.0;
       }))
       (it.alive f)
-
-  -- a group is put ahead, and the one ahead of it acts
-  module _ (members : List Request) (r : Result ℕ Refusal) (served : ArrayVec ServedMember)
-      (it : Advances old (map Asks members) r served.items mid) where
-    abbrev put_a : List Command
-    put_a = commands_put old old.ahead
-
-    chain_done : (many : ℕ) → r ≡ Ok many
-        → served.items ≡ map as_served (answers_with old.memory (places old.count old.room) old.ahead)
-        → mid.failed ≡ false → mid.memory ≡ after old.memory put_a → mid.count ≡ old.count + length put_a
-        → mid.ahead ≡ take many (map Asks members) → GoesOn old mid (Ahead members) (Advanced r served)
-    chain_done many is told works memory count ahead =
-        let all : acknowledged_commands old.memory old.ahead served.items ≡ put_a =
-        ap (λ (l : List ServedMember). acknowledged_commands old.memory old.ahead l) told
-        ∙ acknowledged-commands old.memory (places old.count old.room) old.ahead in
-        let calm : is_doubt (Advanced r served) ≡ false = ap (λ (x : Result ℕ Refusal). is_doubt (Advanced x served)) is in
-        record {
-          works = works;
-          memory = memory ∙ ap (λ (l : List Command). after old.memory l) (sym all);
-          count = count ∙ ap (λ (l : List Command). old.count + length l) (sym all);
-          ahead = ahead ∙ ap (λ (x : Result ℕ Refusal). taken_by x (map Asks members)) (sym is);
-          no_more = omega (arith, ap length ahead, length-take many (map Asks members), length-map Asks members);
-          sure = calm;
-          none = ap (λ (b : Bool). if b then commands_at old.memory (length old.ahead) old.ahead else []) calm;
-          answer = inl (
-            subst (λ (x : Result ℕ Refusal). IsOk x) (sym is) tt,
-            told ∙ ap (λ l. map as_served l) (enough-answers old.memory (places old.count old.room)
-                (length old.ahead) old.ahead it.enough (omega arith)),
-          );
-          calm = ap (λ (x : Result ℕ Refusal). is_fault (Advanced x served)) is;
-        }
-
-    few_a : (b : Bool) → length (if b then commands_at old.memory (length old.ahead) old.ahead else [])
-        ≤ length old.ahead
-    few_a true = at_most_members old.memory (length old.ahead) old.ahead
-    few_a false = omega arith
-
-    chain_goes : GoesOn old mid (Ahead members) (Advanced r served) ⊎ Fails old mid (Ahead members) (Advanced r served)
-    chain_goes = ⊎_elim
-        (λ done. inl (chain_done done.0 done.1 done.2 (ap (λ (s : EngineState D). s.failed) done.3 ∙ f)
-        (ap (λ (s : EngineState D). s.memory) done.3
-        ∙ sym (at-after old.memory (places old.count old.room) old.ahead))
-        (ap (λ (s : EngineState D). s.count) done.3) (ap (λ (s : EngineState D). s.ahead) done.3)))
-        (λ fault. inr (record {
-          dead = ap (λ (s : EngineState D). s.failed) fault.2;
-          ahead = ap (λ (s : EngineState D). s.ahead) fault.2
-              ∙ ap (λ (x : Result ℕ Refusal). taken_by x (map Asks members)) (sym fault.0);
-          few = omega (arith, few_a (is_doubt (Advanced r served)));
-          answer = inr (fault.0, fault.1);
-          fault = ap (λ (x : Result ℕ Refusal). is_fault (Advanced x served)) fault.0;
-        }))
-        (it.alive f)
 
 module _ (known : Known) where
   pub told : {D : Type 0} (old new : EngineState D) (events : List Event) (answers : List Answer) → old.failed ≡ false
@@ -559,50 +592,9 @@ module _ (known : Known) where
   told old new [] [] f it = record { one = omega arith; few = omega arith; answered = tt }
   told old new [] (a ∷ answers) f it = absurd it
   told old new (e ∷ events) [] f it = absurd it
-  told old new (Serve c ∷ events) (Told a ∷ answers) f (mid, one, rest) = ⊎_elim
-      (λ goes. goes_on old mid (Serve c) (Told a) events answers goes (told mid new events answers goes.works rest))
-      (λ fails. ends old mid (Serve c) (Told a) events answers fails
-      (over known mid new events answers fails.dead rest))
-      (command_goes known old mid f c a one)
-  told old new (Serve c ∷ events) (Grouped room served ∷ answers) f (mid, one, rest) = absurd one
-  told old new (Serve c ∷ events) (TookTurn a ∷ answers) f (mid, one, rest) = absurd one
-  told old new (Together members ∷ events) (Told a ∷ answers) f (mid, one, rest) = absurd one
-  told old new (Together members ∷ events) (Grouped room served ∷ answers) f (mid, one, rest) = ⊎_elim
-      (λ goes. goes_on old mid (Together members) (Grouped room served) events answers goes
-      (told mid new events answers goes.works rest))
-      (λ fails. ends old mid (Together members) (Grouped room served) events answers fails
-      (over known mid new events answers fails.dead rest))
-      (group_goes known old mid f members room served one.0 one.1)
-  told old new (Together members ∷ events) (TookTurn a ∷ answers) f (mid, one, rest) = absurd one
-  told old new (Turn ∷ events) (Told a ∷ answers) f (mid, one, rest) = absurd one
-  told old new (Turn ∷ events) (Grouped room served ∷ answers) f (mid, one, rest) = absurd one
-  told old new (Turn ∷ events) (TookTurn a ∷ answers) f (mid, one, rest) = ⊎_elim
-      (λ goes. goes_on old mid Turn (TookTurn a) events answers goes (told mid new events answers goes.works rest))
-      (λ fails. ends old mid Turn (TookTurn a) events answers fails (over known mid new events answers fails.dead rest))
-      (turn_goes known old mid f a one)
-  told old new (Serve c ∷ events) (DidSweep a ∷ answers) f (mid, one, rest) = absurd one
-  told old new (Together members ∷ events) (DidSweep a ∷ answers) f (mid, one, rest) = absurd one
-  told old new (Turn ∷ events) (DidSweep a ∷ answers) f (mid, one, rest) = absurd one
-  told old new (Sweep most ∷ events) (Told a ∷ answers) f (mid, one, rest) = absurd one
-  told old new (Sweep most ∷ events) (Grouped room served ∷ answers) f (mid, one, rest) = absurd one
-  told old new (Sweep most ∷ events) (TookTurn a ∷ answers) f (mid, one, rest) = absurd one
-  told old new (Sweep most ∷ events) (DidSweep a ∷ answers) f (mid, one, rest) = ⊎_elim
-      (λ goes. goes_on old mid (Sweep most) (DidSweep a) events answers goes
-      (told mid new events answers goes.works rest))
-      (λ fails. ends old mid (Sweep most) (DidSweep a) events answers fails
-      (over known mid new events answers fails.dead rest))
-      (sweep_goes known old mid f most a one)
-  told old new (Ahead members ∷ events) (Advanced r served ∷ answers) f (mid, one, rest) = ⊎_elim
-      (λ goes. goes_on old mid (Ahead members) (Advanced r served) events answers goes
-      (told mid new events answers goes.works rest))
-      (λ fails. ends old mid (Ahead members) (Advanced r served) events answers fails
-      (over known mid new events answers fails.dead rest))
-      (chain_goes known old mid f members r served one.0)
-  told old new (Ahead members ∷ events) (Told a ∷ answers) f (mid, one, rest) = absurd one
-  told old new (Ahead members ∷ events) (Grouped room served ∷ answers) f (mid, one, rest) = absurd one
-  told old new (Ahead members ∷ events) (TookTurn a ∷ answers) f (mid, one, rest) = absurd one
-  told old new (Ahead members ∷ events) (DidSweep a ∷ answers) f (mid, one, rest) = absurd one
-  told old new (Serve c ∷ events) (Advanced r served ∷ answers) f (mid, one, rest) = absurd one
-  told old new (Together members ∷ events) (Advanced r served ∷ answers) f (mid, one, rest) = absurd one
-  told old new (Turn ∷ events) (Advanced r served ∷ answers) f (mid, one, rest) = absurd one
-  told old new (Sweep most ∷ events) (Advanced r served ∷ answers) f (mid, one, rest) = absurd one
+  told old new (e ∷ events) (a ∷ answers) f (mid, one, rest) = ⊎_elim
+      (λ goes. goes_on old mid e a events answers goes (told mid new events answers goes.works rest))
+      (λ fails. ends old mid e a events answers fails (over known mid new events answers fails.dead rest))
+      (by_event old mid (λ d x. GoesOn old mid d x ⊎ Fails old mid d x)
+      (command_goes known old mid f) (group_goes known old mid f) (ahead_goes known old mid f) (turn_goes known old mid f)
+      (sweep_goes known old mid f) e a one)

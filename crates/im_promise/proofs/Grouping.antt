@@ -11,11 +11,11 @@ use Rattle.im_types.specs.Run.{after}
 use Rattle.im_types.specs.Meaning.{Reached}
 use Rattle.im_types.specs.Groups.{reached_by_all, puts_of}
 use Rattle.im_disk.specs.Recording.{Recording}
-use Rattle.im_engine.specs.State.{EngineState, MeansState, IsFirstFault}
-use Rattle.im_engine.specs.Groups.{reached_in, after_group, group_put, all_refused, MeansGroup, GroupAnswered}
-use Rattle.im_engine.specs.Run.{has_device}
-use Rattle.im_engine.specs.declared.run.Event.{Event}
-use Rattle.im_engine.specs.declared.run.Answer.{Answer}
+use Rattle.im_engine.specs.State.{EngineState, MeansState, IsFirstFault, MeansEither}
+use Rattle.im_engine.specs.Groups.{reached_in, after_group, group_put, all_refused, GroupAnswered}
+use Rattle.im_session.specs.Events.{has_device}
+use Rattle.im_session.specs.declared.events.Event.{Event}
+use Rattle.im_session.specs.declared.events.Answer.{Answer}
 use Rattle.im_promise.specs.Recovery.{Recovers}
 use Rattle.im_promise.specs.Groups.{HasMore, RecoversGroup, IsGroupAnswer, GroupSaidAgain, GroupAskedOverACrash}
 use Rattle.im_promise.proofs.Recovering.{MeansOne, NoFault, still_means}
@@ -29,7 +29,7 @@ pub record GroupsAreRuns : Type 0 where
 
 module _ {D E : Type 0} (s n : EngineState D) (e : EngineState E) (members : List Request) (answers : List Served)
     (f : s.failed ≡ false) (one : MeansOne) (runs : GroupsAreRuns)
-    (answered : GroupAnswered s members answers n) (file : List ℕ) (doubt : MeansGroup s members file)
+    (answered : GroupAnswered s members answers n) (file : List ℕ) (doubt : MeansEither s (after_group s members) file)
     (sure : n.failed ≡ false → MeansState n file) (means : MeansState e file) where
   has_all : MeansState (after_group s members) file → HasMore s (group_put s members) e
   has_all said =
@@ -66,7 +66,7 @@ module _ {D E : Type 0} (s n : EngineState D) (e : EngineState E) (members : Lis
 -- the engine that an opening gives
 pub group_by : {D : Type 0} (s n : EngineState D) (members : List Request) (answers : List Served)
     (left : List ℕ → Type 0) (r : Result (EngineState Recording) Refusal) → s.failed ≡ false → MeansOne → GroupsAreRuns
-    → GroupAnswered s members answers n → ((file : List ℕ) → left file → MeansGroup s members file)
+    → GroupAnswered s members answers n → ((file : List ℕ) → left file → MeansEither s (after_group s members) file)
     → (n.failed ≡ false → (file : List ℕ) → left file → MeansState n file)
     → IfOk r (λ e. left e.disk.moment.bytes) → IfOk r (λ e. MeansState e e.disk.moment.bytes)
     → IfOk r (λ e. RecoversGroup s members answers e)
@@ -77,14 +77,14 @@ group_by s n members answers left (Err e) f one runs answered doubt sure was mea
 
 -- its files mean something, so no fault of the image is told
 no_fault : {D : Type 0} (s : EngineState D) (members : List Request) (e : Refusal) (file : List ℕ) → NoFault
-    → MeansGroup s members file → IsFirstFault e file → ⊥
+    → MeansEither s (after_group s members) file → IsFirstFault e file → ⊥
 no_fault s members e file none (inl before) fault = none file e s.memory s.count s.room fault before
 no_fault s members e file none (inr all) fault =
     let s2 = after_group s members in
     none file e s2.memory s2.count s2.room fault all
 
 pub group_refused : {D X : Type 0} (s : EngineState D) (members : List Request) (left : List ℕ → Type 0)
-    (r : Result X Refusal) → NoFault → ((file : List ℕ) → left file → MeansGroup s members file)
+    (r : Result X Refusal) → NoFault → ((file : List ℕ) → left file → MeansEither s (after_group s members) file)
     → IfErr r (λ e. (e ≡ NoMemory) ⊎ (e ≡ Device) ⊎ ((file : List ℕ) × left file × IsFirstFault e file))
     → IfErr r (λ e. (e ≡ NoMemory) ⊎ (e ≡ Device))
 group_refused s members left (Ok x) none said it = tt

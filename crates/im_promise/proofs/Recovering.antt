@@ -1,19 +1,12 @@
 -- What an opening after a crash finds, where it is known what every file means that could be left.
-use Rattle.std.proofs.Common.{◌≡◌, ◌⊎◌, inl, inr, ⊎_elim, ℕ, ◌+◌, ◌≤◌, List, [], ◌∷◌, ◌++◌, length, refl, sym, ap, ◌∙◌}
-use Rattle.std.proofs.Common.{subst, arith}
-use Rattle.std.proofs.lemmas.List.{append-nil}
-use Rattle.im_types.specs.declared.commands.Command.{Command}
+use Rattle.std.proofs.Common.{◌≡◌, inl, ⊎_elim, ℕ, List, length, sym, ◌∙◌, subst, arith}
 use Rattle.im_types.specs.declared.refusals.Refusal.{Refusal}
 use Rattle.im_types.specs.Contents.{Contents}
-use Rattle.im_types.specs.Run.{after}
 use Rattle.im_types.specs.Meaning.{Means}
 use Rattle.im_disk.specs.Moment.{Moment, Left, Outside}
-use Rattle.im_disk.specs.Since.{Leaves, LeavesNow}
-use Rattle.im_disk.proofs.SinceLemmas.{left_now, only_now}
-use Rattle.im_engine.specs.declared.run.Event.{Event}
-use Rattle.im_engine.specs.declared.run.Answer.{Answer}
+use Rattle.im_disk.specs.Since.{Leaves}
+use Rattle.im_disk.proofs.SinceLemmas.{only_now}
 use Rattle.im_engine.specs.State.{EngineState, MeansState, IsFirstFault}
-use Rattle.im_engine.specs.Run.{acknowledged, in_doubt, MeansAll, MeansWithOrWithout}
 
 -- ---- files
 
@@ -42,75 +35,6 @@ abbrev pub NoFault : Type 0
 NoFault =
     (file : List ℕ) (fault : Refusal) (m : Contents) (count room : ℕ) → IsFirstFault fault file
     → Means m count room file → ⊥
-
--- the disk before the crash, after it, and after the opening
-pub record Crashes (old mid new : Moment) (past_mid past_new : List Moment) : Type 0 where
-  pub ranges : mid.ranges ≡ old.ranges
-  pub left : Left old mid.bytes
-  pub opened : Leaves mid new past_mid past_new (Left mid)
-
-pub could_be_left : (old mid new : Moment) (past_mid past_new : List Moment) → Crashes old mid new past_mid past_new
-    → Left old new.bytes
-could_be_left old mid new past_mid past_new it =
-    left_again old mid it.ranges it.left new.bytes
-    (was_left mid new past_mid past_new it.opened new.bytes (left_now new))
-
-module _ {D E : Type 0} (s : EngineState D) (e : EngineState E) (old mid new : Moment) (past_mid past_new : List Moment)
-    (crash : Crashes old mid new past_mid past_new) where
-  module _ (events : List Event) (answers : List Answer) (one : MeansOne)
-      (said : LeavesNow old
-      (MeansWithOrWithout s (acknowledged s.memory s.ahead events answers) (in_doubt s.memory s.count s.ahead events answers)))
-      (means : LeavesNow new (MeansState e)) where
-    abbrev ack : List Command
-    ack = acknowledged s.memory s.ahead events answers
-
-    abbrev doubt : List Command
-    doubt = in_doubt s.memory s.count s.ahead events answers
-
-    -- the acknowledged commands, and those in doubt or not
-    pub record IsFound : Type 0 where
-      pub also : List Command
-      pub or_not : (also ≡ []) ⊎ (also ≡ doubt)
-      pub memory : e.memory ≡ after s.memory (ack ++ also)
-      pub count : e.count ≡ s.count + length (ack ++ also)
-
-    by_commands : (l : List Command) → MeansAll s l new.bytes
-        → (e.memory ≡ after s.memory l) × (e.count ≡ s.count + length l)
-    by_commands l it =
-        one new.bytes e.memory (after s.memory l) e.count (s.count + length l) e.room 0
-        (means new.bytes (left_now new)) it
-
-    found_by : MeansWithOrWithout s ack doubt new.bytes → IsFound
-    found_by (inl without) =
-        let same = by_commands ack without in
-        let none : ack ++ [] ≡ ack = append-nil ack in
-        record {
-          also = [];
-          or_not = inl refl;
-          memory = same.0 ∙ ap (λ (l : List Command). after s.memory l) (sym none);
-          count = same.1 ∙ ap (λ (l : List Command). s.count + length l) (sym none);
-        }
-    found_by (inr all) =
-        let same = by_commands (ack ++ doubt) all
-        in record { also = doubt; or_not = inr refl; memory = same.0; count = same.1 }
-
-    pub found : IsFound
-    found = found_by (said new.bytes (could_be_left old mid new past_mid past_new crash))
-
--- an image that means something isn't refused for a fault
-pub is_no_fault : (old mid new : Moment) (past_mid past_new : List Moment) → Crashes old mid new past_mid past_new
-    → NoFault → (P : List ℕ → Type 0)
-    → ((file : List ℕ) → P file → (m : Contents) × (count : ℕ) × (room : ℕ) × Means m count room file) → LeavesNow old P
-    → (fault : Refusal) → LeavesNow new (IsFirstFault fault) → ⊥
-is_no_fault old mid new past_mid past_new crash none P meant said fault told =
-    let it = meant new.bytes (said new.bytes (could_be_left old mid new past_mid past_new crash)) in
-    none new.bytes fault it.0 it.1 it.2 (told new.bytes (left_now new)) it.3
-
-pub meant_with_or_without : {D : Type 0} (s : EngineState D) (commands doubt : List Command) (file : List ℕ)
-    → MeansWithOrWithout s commands doubt file → (m : Contents) × (count : ℕ) × (room : ℕ) × Means m count room file
-meant_with_or_without s commands more file (inl it) = (after s.memory commands, s.count + length commands, 0, it)
-meant_with_or_without s commands more file (inr it) =
-    (after s.memory (commands ++ more), s.count + length (commands ++ more), 0, it)
 
 -- with nothing served the meaning stays
 pub still_means : {D E : Type 0} (s : EngineState D) (e : EngineState E) (file : List ℕ) → MeansOne → MeansState s file

@@ -5,7 +5,7 @@ use Rattle.im_types.specs.declared.refusals.Refusal.TheVariants.{NoMemory, Devic
 use Rattle.im_types.specs.declared.commands.Command.{Command}
 use Rattle.im_types.specs.Contents.{Contents}
 use Rattle.im_disk.specs.Recording.{Recording}
-use Rattle.im_engine.specs.declared.run.Event.{Event}
+use Rattle.im_session.specs.declared.events.Event.{Event}
 use Rattle.im_engine.specs.State.{EngineState, MeansState, IsFirstFault}
 use Rattle.im_promise.specs.declared.recovery.Recovered.{Recovered}
 use Rattle.im_promise.specs.Recovery.{Recovers}

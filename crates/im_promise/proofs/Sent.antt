@@ -20,9 +20,9 @@ use Rattle.im_types.specs.Step.{Stepped, step, asker, is_accepted}
 use Rattle.im_laws.specs.Windows.{IsForgotten, TakesNextNumber, AreNoLess}
 use Rattle.im_laws.specs.Entries.{IsRefused, IsToldAgainOrForgotten}
 use Rattle.im_engine.specs.State.{EngineState, MeansEither, IsFirstFault, with_command}
-use Rattle.im_engine.specs.Run.{Answered}
-use Rattle.im_engine.specs.declared.run.Event.{Event}
-use Rattle.im_engine.specs.declared.run.Answer.{Answer}
+use Rattle.im_engine.specs.Answered.{Answered}
+use Rattle.im_session.specs.declared.events.Event.{Event}
+use Rattle.im_session.specs.declared.events.Answer.{Answer}
 use Rattle.im_promise.specs.Again.{IsAnswerOf, IsSaidAgain, IsUnused, HasNotActed, count_after, AskedOverACrash}
 use Rattle.im_promise.specs.Recovery.{Recovers}
 use Rattle.im_promise.proofs.Recovering.{NoFault}
@@ -159,7 +159,7 @@ sent_once {D} {E} old e new r entry answer works it told still once (inr there) 
 
 -- an image that has a command or not isn't refused for a fault
 pub no_fault_of_one : {D : Type 0} (s : EngineState D) (r : Request) (e : Refusal) (file : List ℕ) → NoFault
-    → MeansEither s (Asks r) file → IsFirstFault e file → ⊥
+    → MeansEither s (with_command s (Asks r)) file → IsFirstFault e file → ⊥
 no_fault_of_one s r e file none (inl before) fault = none file e s.memory s.count s.room fault before
 no_fault_of_one s r e file none (inr later) fault =
     let t = with_command s (Asks r) in

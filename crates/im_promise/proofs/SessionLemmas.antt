@@ -4,11 +4,16 @@ use Rattle.std.proofs.lemmas.List.{append-nil}
 use Rattle.im_types.specs.declared.commands.Command.{Command}
 use Rattle.im_types.specs.declared.refusals.Refusal.{Refusal}
 use Rattle.im_types.specs.declared.refusals.Refusal.TheVariants.{NoMemory, Device}
+use Rattle.im_types.specs.Contents.{Contents}
 use Rattle.im_types.specs.Run.{after}
 use Rattle.im_disk.specs.Recording.{Recording}
 use Rattle.im_engine.specs.State.{EngineState, MeansState, IsFirstFault}
-use Rattle.im_session.specs.Kept.{MeansPut, SessionState}
-use Rattle.im_promise.specs.Recovery.{HasNoRoom, RecoversSession}
+use Rattle.im_session.specs.declared.events.Event.{Event}
+use Rattle.im_session.specs.declared.events.Answer.{Answer}
+use Rattle.im_session.specs.Events.{after_events}
+use Rattle.im_session.specs.Kept.{MeansPut, SessionState, session_of, start_at}
+use Rattle.im_promise.specs.Recovery.{HasNoRoom, Recovers, RecoversSession}
+use Rattle.im_promise.proofs.Answering.{AreTold}
 use Rattle.im_promise.proofs.Recovering.{MeansOne, NoFault}
 
 -- the file means the memory after what was acknowledged, with or without what is in doubt
@@ -46,3 +51,20 @@ module _ {D : Type 0} (s : SessionState D) (left : List ℕ → Type 0)
   session_refused (Err e) none it = ⊎_elim (λ want. inl want)
       (λ more. ⊎_elim (λ device. inr device)
       (λ fault. absurd (none_refused none e fault.0 fault.2 (said fault.0 fault.1))) more) it
+
+-- what a run of events comes to, if its session is recovered
+pub recovered : {D : Type 0} (s : EngineState D) (new : SessionState D) (events : List Event) (answers : List Answer)
+    → new ≡ after_events (session_of (start_at s.disk s) [] [] s) events answers new.engine
+    → AreTold s.memory s.count s.ahead events answers → (m : Contents) (n : ℕ) → RecoversSession new m n
+    → Recovers s.memory s.count s.ahead events answers m n
+recovered {D} s new events answers is told m n it =
+    let there : RecoversSession (after_events (session_of (start_at s.disk s) [] [] s) events answers new.engine) m n
+    = subst (λ (x : SessionState D). RecoversSession x m n) is it in record {
+      answered = told.answered;
+      one_in_doubt = told.one;
+      few_in_doubt = told.few;
+      also = there.also;
+      or_not = there.or_not;
+      memory = there.memory;
+      count = there.count;
+    }

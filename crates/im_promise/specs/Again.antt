@@ -18,8 +18,8 @@ use Rattle.im_laws.specs.Windows.{IsForgotten}
 use Rattle.im_laws.specs.Entries.{IsSameOrAnswer}
 use Rattle.im_laws.specs.Requests.{after_request, IsAnswered}
 use Rattle.im_engine.specs.State.{EngineState}
-use Rattle.im_engine.specs.declared.run.Event.{Event}
-use Rattle.im_engine.specs.declared.run.Answer.{Answer}
+use Rattle.im_session.specs.declared.events.Event.{Event}
+use Rattle.im_session.specs.declared.events.Answer.{Answer}
 use Rattle.im_promise.specs.Recovery.{Recovers}
 
 -- the answer is the entry told before, or the answer that has come since, or `Forgotten` if the request was confirmed

@@ -13,8 +13,8 @@ use Rattle.im_types.specs.Meaning.{Reached}
 use Rattle.im_types.specs.Groups.{is_put, answer_of, reached_by_one, puts_of}
 use Rattle.im_engine.specs.State.{EngineState}
 use Rattle.im_engine.specs.Groups.{reached_in, after_group, group_put, all_refused, answers_in}
-use Rattle.im_engine.specs.declared.run.Event.{Event}
-use Rattle.im_engine.specs.declared.run.Answer.{Answer}
+use Rattle.im_session.specs.declared.events.Event.{Event}
+use Rattle.im_session.specs.declared.events.Answer.{Answer}
 use Rattle.im_promise.specs.Again.{IsSaidAgain}
 use Rattle.im_promise.specs.Recovery.{Recovers}
 

@@ -5,9 +5,9 @@ use Rattle.im_types.specs.declared.refusals.Refusal.{Refusal}
 use Rattle.im_types.specs.declared.refusals.Refusal.TheVariants.{NoMemory, Device}
 use Rattle.im_types.specs.Contents.{Contents}
 use Rattle.im_types.specs.Run.{after}
-use Rattle.im_engine.specs.declared.run.Event.{Event}
-use Rattle.im_engine.specs.declared.run.Answer.{Answer}
-use Rattle.im_engine.specs.Run.{acknowledged, in_doubt}
+use Rattle.im_session.specs.declared.events.Event.{Event}
+use Rattle.im_session.specs.declared.events.Answer.{Answer}
+use Rattle.im_session.specs.Events.{acknowledged, in_doubt}
 use Rattle.im_session.specs.Kept.{SessionState}
 use Rattle.im_promise.specs.Acknowledged.{calls_in_doubt, most_of_one, AreAnswers}
 
@@ -27,12 +27,12 @@ pub record Recovers (m : Contents) (before : ℕ) (ahead : List Command) (events
   -- the commands of at most one call are in doubt
   pub one_in_doubt : calls_in_doubt answers ≤ 1
   -- so at most one command is in doubt without groups, and at most the members of one group with them
-  pub few_in_doubt : length (in_doubt m before ahead events answers) ≤ max (length ahead) (most_of_one events)
+  pub few_in_doubt : length (in_doubt m before events answers) ≤ max (length ahead) (most_of_one events)
   -- all of them are there, or none is
   pub also : List Command
-  pub or_not : (also ≡ []) ⊎ (also ≡ in_doubt m before ahead events answers)
-  pub memory : now ≡ after m (acknowledged m ahead events answers ++ also)
-  pub count : many ≡ before + length (acknowledged m ahead events answers ++ also)
+  pub or_not : (also ≡ []) ⊎ (also ≡ in_doubt m before events answers)
+  pub memory : now ≡ after m (acknowledged m events answers ++ also)
+  pub count : many ≡ before + length (acknowledged m events answers ++ also)
 
 -- A session's disk stopped, or not, and a crash left a file. The image was opened again, with the memory `now` and the
 -- count `many`. They are those after the session's acknowledged commands, in their order. The commands of the one call

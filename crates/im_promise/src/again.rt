@@ -11,11 +11,12 @@ ghost use Rattle.im_promise.specs.Recovery.{HasNoRoom};
 
 use crate::recovery::{Recovered, open_crashed, recover};
 use im_disk::{Crash, Disk, FuseDisk, MemDisk};
-use im_engine::{Answer, Engine, Event, files_mean_one_thing};
+use im_engine::{Engine, files_mean_one_thing};
 use im_laws::{
     accepted_where_changed, bounds_never_fall, forgotten_for_ever, number_acts_once,
     repeat_is_told_again, request_takes_the_next_number, runs_join,
 };
+use im_session::{Answer, Event};
 use im_types::{Command, Outcome, Refusal, Request};
 use std::alloc::Global;
 

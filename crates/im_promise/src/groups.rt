@@ -2,7 +2,7 @@
 ghost use Rattle.std.specs.Prelude.{◌≡◌, false, [], IfOk, IfErr};
 ghost use Rattle.im_types.specs.Meaning.{Reached};
 ghost use Rattle.im_types.specs.Groups.{AreApart};
-ghost use Rattle.im_engine.specs.Run.{has_device};
+ghost use Rattle.im_session.specs.Events.{has_device};
 ghost use Rattle.im_promise.specs.Groups.{RecoversGroup, HasGroup, GroupSaidAgain, IsGroupAnswer};
 ghost use Rattle.im_promise.specs.Groups.{GroupAskedOverACrash};
 ghost use Rattle.im_promise.specs.Recovery.{HasNoRoom};
@@ -10,11 +10,12 @@ ghost use Rattle.im_promise.specs.Recovery.{HasNoRoom};
 use crate::recovery::{Recovered, open_crashed, recover};
 use arrayvec::ArrayVec;
 use im_disk::{Crash, Disk, FuseDisk, MemDisk};
-use im_engine::{Engine, Event, files_mean_one_thing, groups_acknowledge_what_they_put};
+use im_engine::{Engine, files_mean_one_thing};
 use im_laws::{
     accepted_where_changed, forgotten_for_ever, groups_are_runs, repeat_is_told_again, runs_join,
     waiting_agrees,
 };
+use im_session::{Event, groups_acknowledge_what_they_put};
 use im_types::{MAX_GROUP, Refusal, Request, Served};
 use std::alloc::Global;
 

@@ -7,12 +7,9 @@ ghost use Rattle.im_engine.specs.State.{MeansState, IsFirstFault};
 ghost use Rattle.im_promise.specs.Recovery.{HasNoRoom, Recovers, RecoversSession};
 
 use im_disk::{Crash, FuseDisk, MemDisk, Mode};
-use im_engine::{
-    Answer, Engine, Event, files_mean_one_thing, groups_acknowledge_what_they_put,
-    steps_tell_of_no_failure,
-};
+use im_engine::{Engine, files_mean_one_thing, steps_tell_of_no_failure};
 use im_laws::{accepted_where_changed, groups_are_runs};
-use im_session::Session;
+use im_session::{Answer, Event, Session, groups_acknowledge_what_they_put};
 use im_types::{Limits, Refusal};
 use std::alloc::Global;
 
@@ -40,7 +37,7 @@ pub struct Outage {
 /// what is left: every accepted command that was answered is there.
 ///
 /// Returns `NoMemory` or `Device` if `alloc` or the record of the disk in memory refused room. It never returns a fault
-/// of the image.
+/// of the image. An engine that had failed before answers nothing.
 ///
 /// Ensures, in words, of an engine that worked:
 ///
@@ -53,7 +50,7 @@ pub struct Outage {
 /// - `refused`: it is `NoMemory` or `Device`.
 pub fn recover(
     alloc: Global,
-    mut engine: Engine<FuseDisk>,
+    engine: Engine<FuseDisk>,
     events: &[Event],
     crash: Crash,
 ) -> Result<Recovered, Refusal>
@@ -63,19 +60,39 @@ pub fn recover(
     ensures works { IfOk result (λ r. r.engine.failed ≡ false) }
     ensures refused { IfErr result (λ e. engine.failed ≡ false → HasNoRoom e) }
 {
-    files_mean_one_thing();
     accepted_where_changed();
     groups_are_runs();
     groups_acknowledge_what_they_put();
     steps_tell_of_no_failure();
-    let answers = match engine.run(alloc, events) {
+    if engine.failed() {
+        return recover_failed(alloc, engine, crash);
+    }
+    let mut session = Session::of(engine);
+    let answers = match session.run(alloc, events) {
         Ok(answers) => answers,
         Err(refusal) => return Err(refusal),
     };
     // The crash leaves a file that could be left. It means the memory with all or none of the commands in doubt.
-    match Engine::open(alloc, engine.close().into_inner().crash(crash)) {
+    match recover_session(alloc, session, crash) {
         Ok(engine) => Ok(Recovered { answers, engine }),
-        Err((refusal, _)) => Err(refusal),
+        Err(refusal) => Err(refusal),
+    }
+}
+
+// Crashes the disk of an engine that has failed, and opens what is left. Nothing is asked of it before.
+fn recover_failed(
+    alloc: Global,
+    engine: Engine<FuseDisk>,
+    crash: Crash,
+) -> Result<Recovered, Refusal>
+    ensures works { IfOk result (λ r. r.engine.failed ≡ false) }
+{
+    match open_crashed(alloc, engine.close().into_inner(), crash) {
+        Ok(engine) => Ok(Recovered {
+            answers: Vec::new(alloc),
+            engine,
+        }),
+        Err(refusal) => Err(refusal),
     }
 }
 
@@ -171,9 +188,6 @@ pub fn reopen(
 
 /// Ends a session whose disk may have failed at any call, crashes the disk, and opens what is left: every accepted
 /// command that was acknowledged is there.
-///
-/// What a session put of a command is what [`recover`] calls acknowledged, and so is what it left in doubt: a law of
-/// `im_session` says so.
 pub fn recover_session(
     alloc: Global,
     session: Session<FuseDisk>,

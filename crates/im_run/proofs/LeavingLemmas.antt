@@ -21,17 +21,13 @@ use Rattle.im_serial.specs.Begun.{new_memory}
 use Rattle.im_serial.specs.Serving.{NotOpened}
 use Rattle.im_serial.proofs.BegunLemmas.{accepted_after, accepted_first}
 use Rattle.im_run.specs.Once.{EndsOnce, RanRest}
-use Rattle.im_run.specs.Stops.{HasAll, HasDoneByPlan, HasRunByPlan, KeepsRun, MeansAccepted, MeansPlanDone}
-use Rattle.im_run.specs.Stops.{MeansPlanned, MeansServed, setup_blocks}
+use Rattle.im_run.specs.Stops.{HasAll, HasDoneByPlan, HasRunByPlan, KeepsRun}
+use Rattle.im_run.specs.Stops.{LeadTo, setup_blocks}
 use Rattle.im_run.specs.Tracing.{TraceState}
 use Rattle.im_run.proofs.PlanStops.{Stops, has_all, plan_stops}
 use Rattle.im_run.proofs.StopsLemmas.{run_first, take_behind}
 
 -- ---- a session
-
--- accepted commands lead from a new image to this memory
-abbrev LeadTo : Limits → List Command → Contents → Type 0
-LeadTo limits put m = accept_each (new_memory limits) put ≡ Some m
 
 -- what holds behind these commands, holds after the first of them too
 module _ (limits : Limits) (P : List Command → Contents → Type 0)
@@ -90,7 +86,7 @@ module _ {D : Type 0} (disk : Ghosts D) (limits : Limits) (planned : Bool) (text
   accepts = each_accepted start.memory all it.run.kept.in_turn
 
   -- by a plan
-  module _ (by : planned ≡ true) (before : LeavesNow (disk.now start.disk) (MeansPlanned limits text)) where
+  module _ (by : planned ≡ true) (before : LeavesNow (disk.now start.disk) (LedBy (HasRunByPlan limits text))) where
     planned_found : BeganWith (HasRunByPlan limits text) run_session
     planned_found = began_with disk (HasRunByPlan limits text) run_session it.run.kept h before
 
@@ -100,13 +96,13 @@ module _ {D : Type 0} (disk : Ghosts D) (limits : Limits) (planned : Bool) (text
     planned_stops earlier far = plan_stops limits text earlier start.memory far it.fit it.made planned it.run.setup
         it.run.put it.run.doubt calls.served status it.run.printed.did accepts it.run.put_is by it.run.tells
 
-    plan_keeps : LeavesNow (disk.now it.run.engine.disk) (MeansPlanned limits text)
+    plan_keeps : LeavesNow (disk.now it.run.engine.disk) (LedBy (HasRunByPlan limits text))
     plan_keeps = (carried disk (HasRunByPlan limits text) run_session it.run.kept h before
         (λ earlier holds count many few. prefix_holds limits (HasRunByPlan limits text) (run_first limits text) earlier
         all start.memory (accepted_after (new_memory limits) earlier start.memory holds.accepted)
         (planned_stops earlier holds).run many)).after
 
-    plan_ends : status ≡ 0 → LeavesNow (disk.now it.run.engine.disk) (MeansPlanDone limits text)
+    plan_ends : status ≡ 0 → LeavesNow (disk.now it.run.engine.disk) (LedBy (HasDoneByPlan limits text))
     plan_ends well =
         let found = planned_found in
         let works = it.run.works (inl well) in
@@ -116,15 +112,15 @@ module _ {D : Type 0} (disk : Ghosts D) (limits : Limits) (planned : Bool) (text
         ((planned_stops found.earlier found.holds).done well (it.run.kept.sure works)))
 
   -- by a plan or freely
-  module _ (before : LeavesNow (disk.now start.disk) (MeansAccepted limits)) where
-    run_keeps : LeavesNow (disk.now it.run.engine.disk) (MeansAccepted limits)
+  module _ (before : LeavesNow (disk.now start.disk) (LedBy (LeadTo limits))) where
+    run_keeps : LeavesNow (disk.now it.run.engine.disk) (LedBy (LeadTo limits))
     run_keeps = (carried disk (LeadTo limits) run_session it.run.kept h before
         (λ earlier holds count many few. prefix_holds limits (LeadTo limits)
         (λ put m accepted first. accepted_first (new_memory limits) put m first accepted) earlier all start.memory
         (accepted_after (new_memory limits) earlier start.memory holds)
         (accept_both (new_memory limits) start.memory (after start.memory all) earlier all holds accepts) many)).after
 
-    run_ends : status ≡ 0 → LeavesNow (disk.now it.run.engine.disk) (MeansServed limits text)
+    run_ends : status ≡ 0 → LeavesNow (disk.now it.run.engine.disk) (LedBy (HasAll limits text))
     run_ends well =
         let found = began_with disk (LeadTo limits) run_session it.run.kept h before in
         let works = it.run.works (inl well) in
@@ -180,7 +176,7 @@ module _ {D : Type 0} (disk : Ghosts D) (planned : Bool) (text : List ℕ) (was 
 -- ---- a new image
 
 pub new_unrun : (limits : Limits) (text : List ℕ) (file : List ℕ) → Means (new_memory limits) 0 0 file
-    → MeansPlanned limits text file
+    → LedBy (HasRunByPlan limits text) file
 new_unrun limits text file means = (
   [],
   (
@@ -200,5 +196,5 @@ new_unrun limits text file means = (
   ),
 )
 
-pub new_accepted : (limits : Limits) (file : List ℕ) → Means (new_memory limits) 0 0 file → MeansAccepted limits file
+pub new_accepted : (limits : Limits) (file : List ℕ) → Means (new_memory limits) 0 0 file → LedBy (LeadTo limits) file
 new_accepted limits file means = ([], (new_memory limits, (refl, means)))

@@ -7,7 +7,7 @@ use Rattle.im_types.specs.declared.commands.Request.{Request}
 use Rattle.im_types.specs.declared.operations.Entry.{Entry}
 use Rattle.im_types.specs.declared.sizes.Limits.{Limits}
 use Rattle.im_types.specs.Contents.{Contents}
-use Rattle.im_types.specs.Meaning.{Means, accept_each}
+use Rattle.im_types.specs.Meaning.{accept_each}
 use Rattle.im_types.specs.Run.{after}
 use Rattle.im_types.specs.Step.{asker}
 use Rattle.im_types.specs.Window.{ask}
@@ -22,6 +22,7 @@ use Rattle.im_serial.specs.Begun.{new_memory}
 use Rattle.im_serial.specs.Had.{left_of, numbers_had, sums_of}
 use Rattle.im_run.specs.Orders.{AreAllOrders, Ask, blocks_of, script_heard}
 use Rattle.im_run.specs.Planned.{plan_of}
+use Rattle.im_session.specs.Carrying.{LedBy}
 
 -- ---- what a script asks for in a new image
 
@@ -62,10 +63,9 @@ ActInOrder element put m = numbers_of element put ≡ numbers_from 1 (left_of (n
 abbrev pub CarriesOver : Moment → (List ℕ → Type 0) → Moment → (List ℕ → Type 0) → Type 0
 CarriesOver old P new Q = LeavesNow old P → LeavesNow new Q
 
--- the file means a memory to which accepted commands lead from a new image
-abbrev pub MeansAccepted : Limits → List ℕ → Type 0
-MeansAccepted limits file = (put : List Command) × ((m : Contents)
-    × ((accept_each (new_memory limits) put ≡ Some m) × Means m (length put) 0 file))
+-- these commands lead from a new image to this memory, each accepted in its turn
+abbrev pub LeadTo : Limits → List Command → Contents → Type 0
+LeadTo limits put m = accept_each (new_memory limits) put ≡ Some m
 
 -- Accepted commands lead from a new image to this memory, and it has all of a script: each block of the setup was asked
 -- for, and each request of the parts was served. The n-th request of an element has number n.
@@ -78,11 +78,6 @@ pub record HasAll (limits : Limits) (text : List ℕ) (put : List Command) (m : 
   pub whole : List Ask
   pub requests : AreAllOrders bases (script_heard text) whole
   pub served : HasServed m.windows (plan_of whole)
-
--- the file means a memory that has all of a script
-abbrev pub MeansServed : Limits → List ℕ → List ℕ → Type 0
-MeansServed limits text file = (put : List Command) × ((m : Contents)
-    × (HasAll limits text put m × Means m (length put) 0 file))
 
 -- ---- planned runs
 
@@ -116,20 +111,11 @@ pub record HasDoneByPlan (limits : Limits) (text : List ℕ) (put : List Command
   pub parts : IsByPlan limits text setup others
   pub served : HasServed m.windows parts.plan
 
--- the file means a memory that a planned run of the script came to
-abbrev pub MeansPlanned : Limits → List ℕ → List ℕ → Type 0
-MeansPlanned limits text file = (put : List Command) × ((m : Contents)
-    × (HasRunByPlan limits text put m × Means m (length put) 0 file))
-
--- the file means the memory at the end of the script's plan
-abbrev pub MeansPlanDone : Limits → List ℕ → List ℕ → Type 0
-MeansPlanDone limits text file = (put : List Command) × ((m : Contents)
-    × (HasDoneByPlan limits text put m × Means m (length put) 0 file))
-
 -- if each file that is left at the one moment means what planned runs of the script come to, each that is left at the
 -- other one means so much of it
-abbrev pub CarriesPlanOver : Limits → List ℕ → Moment → Moment → (Limits → List ℕ → List ℕ → Type 0) → Type 0
-CarriesPlanOver limits text old new Q = CarriesOver old (MeansPlanned limits text) new (Q limits text)
+abbrev pub CarriesPlanOver : Limits → List ℕ → Moment → Moment
+    → (Limits → List ℕ → List Command → Contents → Type 0) → Type 0
+CarriesPlanOver limits text old new Q = CarriesOver old (LedBy (HasRunByPlan limits text)) new (LedBy (Q limits text))
 
 -- each entry that both memories keep for a request of the plan is the same
 abbrev pub HaveSameEntries : List Request → Contents → Contents → Type 0
@@ -144,13 +130,13 @@ HaveSameEntries plan m n = (r : Request) (entry later : Entry) → IsInPlan plan
 pub record KeepsRun {D : Type 0} (disk : Ghosts D) (planned : Bool) (text : List ℕ) (old new : D)
     (status : ℕ) : Type 0 where
   pub accepted : (limits : Limits)
-      → CarriesOver (disk.now old) (MeansAccepted limits) (disk.now new) (MeansAccepted limits)
+      → CarriesOver (disk.now old) (LedBy (LeadTo limits)) (disk.now new) (LedBy (LeadTo limits))
   pub served : (limits : Limits) → status ≡ 0
-      → CarriesOver (disk.now old) (MeansAccepted limits) (disk.now new) (MeansServed limits text)
+      → CarriesOver (disk.now old) (LedBy (LeadTo limits)) (disk.now new) (LedBy (HasAll limits text))
   pub by_plan : (limits : Limits) → planned ≡ true
-      → CarriesPlanOver limits text (disk.now old) (disk.now new) MeansPlanned
+      → CarriesPlanOver limits text (disk.now old) (disk.now new) HasRunByPlan
   pub ended : (limits : Limits) → planned ≡ true → status ≡ 0
-      → CarriesPlanOver limits text (disk.now old) (disk.now new) MeansPlanDone
+      → CarriesPlanOver limits text (disk.now old) (disk.now new) HasDoneByPlan
 
 -- the same of a disk that is honest at the end
 abbrev pub KeepsRuns : {D : Type 0} → Ghosts D → Bool → List ℕ → D → D → ℕ → Type 0

@@ -6,8 +6,9 @@ ghost use Rattle.im_types.specs.declared.sizes.Limits.{Limits};
 ghost use Rattle.im_types.specs.Contents.{Contents, full_at};
 ghost use Rattle.im_types.specs.Meaning.{Means, accept_each};
 ghost use Rattle.im_serial.specs.Begun.{new_memory};
-ghost use Rattle.im_run.specs.Stops.{ActInOrder, CarriesOver, CarriesPlanOver, HasDoneByPlan, HaveSameEntries};
-ghost use Rattle.im_run.specs.Stops.{KeepsRuns, MeansAccepted, MeansPlanDone, MeansPlanned, MeansServed};
+ghost use Rattle.im_run.specs.Stops.{ActInOrder, CarriesOver, CarriesPlanOver, HasAll, HasDoneByPlan, HasRunByPlan};
+ghost use Rattle.im_run.specs.Stops.{HaveSameEntries, KeepsRuns, LeadTo};
+ghost use Rattle.im_session.specs.Carrying.{LedBy};
 
 use crate::context::RunContext;
 use crate::once::run_once_on;
@@ -30,9 +31,9 @@ pub fn numbers_act_once_in_order()
 /// A new image means what a planned run of any script comes to: nothing was put yet. So it does without a plan.
 pub fn new_images_are_unrun()
     ensures planned { (limits : Limits) (text : List ℕ) (file : List ℕ) → Means (new_memory limits) 0 0 file
-        → MeansPlanned limits text file }
+        → LedBy (HasRunByPlan limits text) file }
     ensures accepted { (limits : Limits) (file : List ℕ) → Means (new_memory limits) 0 0 file
-        → MeansAccepted limits file }
+        → LedBy (LeadTo limits) file }
 {}
 
 /// A planned script has one end: wherever its runs were stopped, and if they weren't, its full I cells are the same,
@@ -93,14 +94,14 @@ pub fn run_over_stops<
     observer: &mut N,
 ) -> (u8, MemDisk)
     ensures status { (result.0 ≤ 1) ⊎ (result.0 ≡ STALLED) }
-    ensures accepted { (limits : Limits) → CarriesOver image.disk.moment (MeansAccepted limits) result.1.moment
-        (MeansAccepted limits) }
-    ensures served { (limits : Limits) → result.0 ≡ 0 → CarriesOver image.disk.moment (MeansAccepted limits)
-        result.1.moment (MeansServed limits asked.entry.script.now) }
+    ensures accepted { (limits : Limits) → CarriesOver image.disk.moment (LedBy (LeadTo limits)) result.1.moment
+        (LedBy (LeadTo limits)) }
+    ensures served { (limits : Limits) → result.0 ≡ 0 → CarriesOver image.disk.moment (LedBy (LeadTo limits))
+        result.1.moment (LedBy (HasAll limits asked.entry.script.now)) }
     ensures planned { (limits : Limits) → asked.entry.mode.planned ≡ true
-        → CarriesPlanOver limits asked.entry.script.now image.disk.moment result.1.moment MeansPlanned }
+        → CarriesPlanOver limits asked.entry.script.now image.disk.moment result.1.moment HasRunByPlan }
     ensures ended { (limits : Limits) → asked.entry.mode.planned ≡ true → result.0 ≡ 0
-        → CarriesPlanOver limits asked.entry.script.now image.disk.moment result.1.moment MeansPlanDone }
+        → CarriesPlanOver limits asked.entry.script.now image.disk.moment result.1.moment HasDoneByPlan }
 {
     let Interrupted { mut disk, stops } = image;
     for at in 0..stops.len() {

@@ -16,14 +16,15 @@ use Rattle.im_session.specs.Kept.{Kept, MeansPut, SessionState}
 use Rattle.im_session.proofs.AcceptedLemmas.{each_accepted}
 use Rattle.im_session.proofs.CarryLemmas.{BeganWith, began_with, carried}
 use Rattle.im_serial.specs.Asked.{Wanted, wanted_of}
-use Rattle.im_serial.specs.Begun.{HasComeTo, HasGoneOn, KeepsBegun, MeansBegun, MeansDone, new_memory}
+use Rattle.im_serial.specs.Begun.{HasComeTo, HasGoneOn, KeepsBegun, new_memory, HasDone}
 use Rattle.im_serial.specs.Once.{HasMade, IsAskedOnce, SerialOnceOn}
 use Rattle.im_serial.proofs.BegunLemmas.{all_accepted, all_asked, begun_on, gone_on}
 use Rattle.im_serial.proofs.SetupLemmas.{setup_first}
+use Rattle.im_session.specs.Carrying.{LedBy}
 
 module _ {D : Type 0} (disk : Ghosts D) (limits : Limits) (text : List ℕ) (s : SessionState D) (status : ℕ)
     (kept : Kept disk s) (h : disk.honest s.engine.disk)
-    (before : LeavesNow (disk.now s.start.disk) (MeansBegun limits (wanted_of text)))
+    (before : LeavesNow (disk.now s.start.disk) (LedBy (HasComeTo limits (wanted_of text))))
     (asked : IsAskedOnce s.start.memory (wanted_of text) (s.put ++ s.doubt) status)
     (made : HasMade s.start.memory (wanted_of text) ⊎ ((s.put ++ s.doubt ≡ []) × (status ≡ 0 → ⊥))) where
   abbrev script : List Wanted
@@ -44,13 +45,13 @@ module _ {D : Type 0} (disk : Ghosts D) (limits : Limits) (text : List ℕ) (s :
       made
 
   -- each file that such a run leaves
-  begins_on : LeavesOnly disk.now disk.past s.start.disk s.engine.disk (MeansBegun limits script)
+  begins_on : LeavesOnly disk.now disk.past s.start.disk s.engine.disk (LedBy (HasComeTo limits script))
   begins_on = carried disk (HasComeTo limits script) s kept h before
       (λ earlier holds count many few. begun_on limits script (setup_first text) earlier s.start.memory holds all status
       asked accepted made many)
 
   -- with status 0 all of it is done
-  done_on : s.engine.failed ≡ false → status ≡ 0 → LeavesNow (disk.now s.engine.disk) (MeansDone limits script)
+  done_on : s.engine.failed ≡ false → status ≡ 0 → LeavesNow (disk.now s.engine.disk) (LedBy (HasDone limits script))
   done_on works zero = λ file left.
       let m = s.start.memory in
       let w = began in
@@ -66,11 +67,11 @@ module _ {D : Type 0} (disk : Ghosts D) (limits : Limits) (text : List ℕ) (s :
         (
           after m all,
           (
-            record { left = it.left; leads = it.leads; all = λ none. it.all zero },
             (
+              record { left = it.left; leads = it.leads; all = λ none. it.all zero },
               all_accepted limits script (setup_first text) w.earlier m w.holds all status asked accepted made,
-              subst (λ (n : ℕ). Means (after m all) n 0 file) sum means,
             ),
+            subst (λ (n : ℕ). Means (after m all) n 0 file) sum means,
           ),
         ),
       )
@@ -84,12 +85,12 @@ module _ {D : Type 0} (disk : Ghosts D) (limits : Limits) (text : List ℕ) (s :
   }
 
 module _ {D : Type 0} (disk : Ghosts D) (limits : Limits) (text : List ℕ) (old new : D) (was is : Option (List ℕ))
-    (status : ℕ) (before : LeavesNow (disk.now old) (MeansBegun limits (wanted_of text))) (h : disk.honest new) where
+    (status : ℕ) (before : LeavesNow (disk.now old) (LedBy (HasComeTo limits (wanted_of text)))) (h : disk.honest new) where
   pub keeps_on : SerialOnceOn disk text old new was is status
       → KeepsBegun disk.now disk.past limits (wanted_of text) old new status
   keeps_on (inl it) = record {
     within = leaves_weaker (disk.now old) (disk.now new) (disk.past old) (disk.past new) (Left (disk.now old))
-        (MeansBegun limits (wanted_of text)) it.leaves before;
+        (LedBy (HasComeTo limits (wanted_of text))) it.leaves before;
     after = λ file left. ⊎_elim (before file) (before file) (leaves_now (disk.now old) (disk.now new) (disk.past old)
         (disk.past new) (Left (disk.now old)) it.leaves file left);
     done = λ zero. absurd (let one = it.status_is in omega arith);
@@ -99,7 +100,7 @@ module _ {D : Type 0} (disk : Ghosts D) (limits : Limits) (text : List ℕ) (old
       (subst (λ (d : D). KeepsBegun disk.now disk.past limits (wanted_of text) it.session.start.disk d status)
       (sym it.closed)
       (keeps_session disk limits text it.session status it.kept (subst disk.honest it.closed h)
-      (subst (λ (d : D). LeavesNow (disk.now d) (MeansBegun limits (wanted_of text))) (sym it.opened) before)
+      (subst (λ (d : D). LeavesNow (disk.now d) (LedBy (HasComeTo limits (wanted_of text)))) (sym it.opened) before)
       it.asked it.made it.works))
 
 -- a crash leaves no more than could be left
@@ -112,7 +113,7 @@ crashed_keeps old new P left same keeps = λ file again. keeps file (record {
 
 -- a new image
 pub new_begun : (limits : Limits) (script : List Wanted) (file : List ℕ) → Means (new_memory limits) 0 0 file
-    → MeansBegun limits script file
+    → LedBy (HasComeTo limits script) file
 new_begun limits script file means = (
   [],
   (new_memory limits, (record { left = script; leads = refl; accepted = refl }, means)),

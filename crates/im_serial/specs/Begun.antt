@@ -1,14 +1,15 @@
 -- What was put of a script from a new image on, whatever stopped it and however often. (Own.)
-use Rattle.std.specs.Prelude.{◌≡◌, ℕ, List, [], ◌++◌, length, Some}
+use Rattle.std.specs.Prelude.{◌≡◌, ℕ, List, [], ◌++◌, Some}
 use Rattle.im_types.specs.declared.commands.Command.{Command}
 use Rattle.im_types.specs.declared.sizes.Limits.{Limits}
 use Rattle.im_types.specs.Contents.{Contents, empty_contents}
-use Rattle.im_types.specs.Meaning.{Means, accept_each}
+use Rattle.im_types.specs.Meaning.{accept_each}
 use Rattle.im_types.specs.Run.{after}
 use Rattle.im_disk.specs.declared.disk.Disk.{Ghosts}
 use Rattle.im_disk.specs.Moment.{Moment}
 use Rattle.im_disk.specs.Since.{Leaves, LeavesNow}
 use Rattle.im_serial.specs.Asked.{IsAsked, Leads, Wanted, wanted_of}
+use Rattle.im_session.specs.Carrying.{LedBy}
 
 -- the memory of a new image
 abbrev pub new_memory : Limits → Contents
@@ -31,26 +32,21 @@ pub record HasGoneOn (limits : Limits) (script : List Wanted) (m : Contents) (pu
   pub accepted : accept_each (new_memory limits) (earlier ++ put) ≡ Some (after m put)
   pub asked : IsAsked (new_memory limits) [] script (earlier ++ put) status
 
--- the file means a memory that a run of the script came to
-abbrev pub MeansBegun : Limits → List Wanted → List ℕ → Type 0
-MeansBegun limits script file = (put : List Command) × ((m : Contents) × (HasComeTo limits script put m
-    × Means m (length put) 0 file))
-
--- the file means the memory after all requests of the script, each once
-abbrev pub MeansDone : Limits → List Wanted → List ℕ → Type 0
-MeansDone limits script file = (put : List Command) × ((m : Contents) × (IsAsked (new_memory limits) [] script put 0
-    × ((accept_each (new_memory limits) put ≡ Some m) × Means m (length put) 0 file)))
+-- These commands are all requests of the script, each once, and lead to this memory.
+abbrev pub HasDone : Limits → List Wanted → List Command → Contents → Type 0
+HasDone limits script put m =
+    IsAsked (new_memory limits) [] script put 0 × (accept_each (new_memory limits) put ≡ Some m)
 
 -- Each file that a crash left before the run means a memory that a run of the script came to. So does each that a crash
 -- leaves within it or after it. If the status is 0, each that is left after it means the memory after all requests.
 pub record KeepsBegun {D : Type 0} (now : D → Moment) (past : D → List Moment) (limits : Limits) (script : List Wanted)
     (old new : D) (status : ℕ) : Type 0 where
-  pub within : Leaves (now old) (now new) (past old) (past new) (MeansBegun limits script)
-  pub after : LeavesNow (now new) (MeansBegun limits script)
-  pub done : status ≡ 0 → LeavesNow (now new) (MeansDone limits script)
+  pub within : Leaves (now old) (now new) (past old) (past new) (LedBy (HasComeTo limits script))
+  pub after : LeavesNow (now new) (LedBy (HasComeTo limits script))
+  pub done : status ≡ 0 → LeavesNow (now new) (LedBy (HasDone limits script))
 
 -- the same of a script of any sizes, on a disk that is honest at the end, if each file was left by runs of the script
 abbrev pub KeepsOnce : {D : Type 0} → Ghosts D → List ℕ → D → D → ℕ → Type 0
 KeepsOnce disk text old new status = disk.honest new → (limits : Limits)
-    → LeavesNow (disk.now old) (MeansBegun limits (wanted_of text))
+    → LeavesNow (disk.now old) (LedBy (HasComeTo limits (wanted_of text)))
     → KeepsBegun disk.now disk.past limits (wanted_of text) old new status

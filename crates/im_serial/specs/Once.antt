@@ -25,10 +25,11 @@ use Rattle.im_serial.specs.declared.meeting.Met.{Met}
 use Rattle.im_serial.specs.declared.meeting.Met.TheVariants.{New, Done, Kept}
 use Rattle.im_serial.specs.declared.waits.Mark.{Mark}
 use Rattle.im_serial.specs.Noted.{AreKnown, AreLast, IsMarked, noted_if, notes}
-use Rattle.im_serial.specs.Begun.{HasGoneOn, MeansBegun}
+use Rattle.im_serial.specs.Begun.{HasGoneOn, HasComeTo}
 use Rattle.im_serial.specs.Fitting.{FitsScript}
 use Rattle.im_serial.specs.Had.{bases_had, has_block, has_next, left_of, met, news, next_had, numbers_had, who_next}
 use Rattle.im_serial.specs.Serving.{IsOver, IsServing, NotOpened, ScriptServer}
+use Rattle.im_session.specs.Carrying.{LedBy}
 
 -- ---- what is printed of it
 
@@ -295,7 +296,7 @@ pub record ServedOnce {D : Type 0} (disk : Ghosts D) (text : List ℕ) (old new 
   pub works : status ≡ 0 → session.engine.failed ≡ false
   pub made : HasMade session.start.memory (wanted_of text) ⊎ ((session.put ++ session.doubt ≡ []) × (status ≡ 0 → ⊥))
   pub fit : FitsScript session.start.memory (wanted_of text) ⊎ (session.put ++ session.doubt ≡ [])
-  pub once : disk.honest new → (limits : Limits) → LeavesNow (disk.now old) (MeansBegun limits (wanted_of text))
+  pub once : disk.honest new → (limits : Limits) → LeavesNow (disk.now old) (LedBy (HasComeTo limits (wanted_of text)))
       → HasGoneOn limits (wanted_of text) session.start.memory (session.put ++ session.doubt) status
   pub printed : ToldOnce session.start.memory (wanted_of text) session.put was is status
 

@@ -4,7 +4,8 @@ ghost use Rattle.im_types.specs.declared.sizes.Limits.{Limits};
 ghost use Rattle.im_types.specs.Meaning.{Means};
 ghost use Rattle.im_disk.specs.Since.{LeavesNow};
 ghost use Rattle.im_serial.specs.Asked.{Wanted, wanted_of};
-ghost use Rattle.im_serial.specs.Begun.{MeansBegun, MeansDone, new_memory};
+ghost use Rattle.im_serial.specs.Begun.{new_memory, HasComeTo, HasDone};
+ghost use Rattle.im_session.specs.Carrying.{LedBy};
 
 use crate::serial::serial_once_on;
 use im_disk::{Crash, FuseDisk, MemDisk, Mode};
@@ -37,7 +38,7 @@ pub struct Interrupted {
 /// A new image means what a run of any script comes to: nothing was put yet.
 pub fn new_images_have_begun()
     ensures { (limits : Limits) (script : List Wanted) (file : List ℕ)
-        → Means (new_memory limits) 0 0 file → MeansBegun limits script file }
+        → Means (new_memory limits) 0 0 file → LedBy (HasComeTo limits script) file }
 {}
 
 /// Serves a script once, whatever stops it: a run for each stop, each behind the crash of the one before it, and then
@@ -54,10 +55,10 @@ pub fn serial_over_stops<W: Write, N: Observer<News>>(
     observer: &mut N,
 ) -> (u8, MemDisk)
     ensures status { result.0 ≤ 1 }
-    ensures keeps { (limits : Limits) → LeavesNow image.disk.moment (MeansBegun limits (wanted_of script.now))
-        → LeavesNow result.1.moment (MeansBegun limits (wanted_of script.now)) }
-    ensures now { (limits : Limits) → LeavesNow image.disk.moment (MeansBegun limits (wanted_of script.now))
-        → result.0 ≡ 0 → LeavesNow result.1.moment (MeansDone limits (wanted_of script.now)) }
+    ensures keeps { (limits : Limits) → LeavesNow image.disk.moment (LedBy (HasComeTo limits (wanted_of script.now)))
+        → LeavesNow result.1.moment (LedBy (HasComeTo limits (wanted_of script.now))) }
+    ensures now { (limits : Limits) → LeavesNow image.disk.moment (LedBy (HasComeTo limits (wanted_of script.now)))
+        → result.0 ≡ 0 → LeavesNow result.1.moment (LedBy (HasDone limits (wanted_of script.now))) }
 {
     let Interrupted { mut disk, stops } = image;
     for at in 0..stops.len() {

@@ -17,22 +17,21 @@ use Rattle.im_groups.specs.Commands.{places}
 use Rattle.im_groups.proofs.CommandLemmas.{at-after, at-accepts}
 use Rattle.im_checkpoint.specs.declared.checkpoint.TurnDone.{TurnDone}
 use Rattle.im_checkpoint.proofs.Fitting.{none_or_some}
-use Rattle.im_engine.specs.State.{EngineState, MeansState, MeansEither}
-use Rattle.im_engine.specs.Run.{Answered, MeansWithOrWithout, SweepAnswered, TurnAnswered, is_device}
+use Rattle.im_engine.specs.State.{EngineState, MeansState, MeansEither, with_command}
+use Rattle.im_engine.specs.Answered.{Answered, SweepAnswered, TurnAnswered, is_device}
 use Rattle.im_engine.specs.Chain.{Advances, ServesAhead}
-use Rattle.im_engine.specs.Commands.{CommandsAnswered, MeansCommands, ServesCommands, after_commands, commands_put}
+use Rattle.im_engine.specs.Commands.{CommandsAnswered, ServesCommands, after_commands, commands_put}
 use Rattle.im_engine.proofs.Accepting.{accepted_answers}
-use Rattle.im_engine.proofs.Running.{caused_somehow}
 use Rattle.im_session.specs.Put.{sure_by, doubted_by, sure_of, doubted_of}
 use Rattle.im_session.proofs.AcceptedLemmas.{accepted_each, one_accepted}
 use Rattle.im_session.proofs.KeptLemmas.{Accepted, CallLeaves, GoesOn, Puts, Stays, all_of, none_of, puts_all, puts_none}
-use Rattle.im_session.proofs.KeptLemmas.{puts_nothing, rose_by, steady_by}
+use Rattle.im_session.proofs.KeptLemmas.{MeansWithOrWithout, puts_nothing, rose_by, steady_by}
 use Rattle.im_session.proofs.ServedLemmas.{not_device, undoubted, unsure}
 
 -- ---- a command
 
 module _ {D : Type 0} (disk : Ghosts D) (mid new : EngineState D) (c : Command) (a : Result Outcome Refusal)
-    (it : Answered mid c a new) (call : CallLeaves disk mid new (MeansEither mid c))
+    (it : Answered mid c a new) (call : CallLeaves disk mid new (MeansEither mid (with_command mid c)))
     (cause : Faults (λ e. Unit {0}) a (disk.failures mid.disk) (disk.failures new.disk)) where
   abbrev Goes : Type 0
   Goes = GoesOn disk mid new (sure_by mid.memory c a) (doubted_by mid.memory c a)
@@ -44,7 +43,7 @@ module _ {D : Type 0} (disk : Ghosts D) (mid new : EngineState D) (c : Command) 
     none_doubted = ap (doubted_by mid.memory c) is ∙ not_device mid.memory c r e;
   })
 
-  either : (file : List ℕ) → MeansEither mid c file → MeansWithOrWithout mid [] (c ∷ []) file
+  either : (file : List ℕ) → MeansEither mid (with_command mid c) file → MeansWithOrWithout mid [] (c ∷ []) file
   either file (inl old) = none_of mid (c ∷ []) file old
   either file (inr with_it) = inr (all_of mid (c ∷ []) (step mid.memory c).contents (mid.count + 1) _ file refl refl with_it)
 
@@ -58,14 +57,16 @@ module _ {D : Type 0} (disk : Ghosts D) (mid new : EngineState D) (c : Command) 
       let sure : sure_by mid.memory c a ≡ c ∷ []
       = ap (sure_by mid.memory c) is ∙ ap (λ (b : Bool). if b then c ∷ [] else []) e in
       let doubt : doubted_by mid.memory c a ≡ [] = ap (doubted_by mid.memory c) is in
-      inr (rw (sure, doubt) (puts_all disk mid new (MeansEither mid c) call f (c ∷ []) (one_accepted mid.memory c e) either
+      inr (rw (sure, doubt) (puts_all disk mid new (MeansEither mid (with_command mid c)) call f (c ∷ [])
+      (one_accepted mid.memory c e) either
       (ap (λ (s : EngineState D). s.memory) done.1) (ap (λ (s : EngineState D). s.count) done.1)
       (ap (λ (s : EngineState D). s.failed) done.1 ∙ f) (steady_by a o.0 _ _ cause is))))
       (λ fault.
       let sure : sure_by mid.memory c a ≡ [] = ap (sure_by mid.memory c) fault.0 in
       let doubt : doubted_by mid.memory c a ≡ c ∷ []
       = ap (doubted_by mid.memory c) fault.0 ∙ ap (λ (b : Bool). if b && true then c ∷ [] else []) e in
-      inr (rw (sure, doubt) (puts_none disk mid new (MeansEither mid c) call f (c ∷ []) (one_accepted mid.memory c e) either
+      inr (rw (sure, doubt) (puts_none disk mid new (MeansEither mid (with_command mid c)) call f (c ∷ [])
+      (one_accepted mid.memory c e) either
       fault.1 (rose_by a _ _ cause fault.0))))
       (it.put f e some))
       (none_or_some mid.room)
@@ -127,7 +128,8 @@ module _ {D : Type 0} (mid : EngineState D) (members : List Command) where
   all_accepted = accepted_each mid.memory (commands_put mid members) _
       (at-accepts mid.memory (places mid.count mid.room) members)
 
-  both : (file : List ℕ) → MeansCommands mid members file → MeansWithOrWithout mid [] (commands_put mid members) file
+  both : (file : List ℕ) → MeansEither mid (after_commands mid members) file
+      → MeansWithOrWithout mid [] (commands_put mid members) file
   both file (inl old) = none_of mid (commands_put mid members) file old
   both file (inr all) = inr (all_of mid (commands_put mid members) (after_commands mid members).memory
       (after_commands mid members).count (after_commands mid members).room file (sym together) refl all)
@@ -143,7 +145,7 @@ module _ {D : Type 0} (disk : Ghosts D) (mid new : EngineState D) (members : Lis
   same_again : new ≡ mid → sure_of new.failed cs ≡ [] → doubted_of mid.failed new.failed cs ≡ [] → GoesTogether
   same_again same sure doubt = inl (record { same = same; none_sure = sure; none_doubted = doubt })
 
-  call : CallLeaves disk mid new (MeansCommands mid members)
+  call : CallLeaves disk mid new (MeansEither mid (after_commands mid members))
   call = record { since = it.leaves; now = it.doubt; means = it.means; honest = it.honest }
 
   failed_before : mid.failed ≡ true → GoesTogether
@@ -164,14 +166,15 @@ module _ {D : Type 0} (disk : Ghosts D) (mid new : EngineState D) (members : Lis
       let alive : new.failed ≡ false = ap (λ (s : EngineState D). s.failed) done.1 ∙ works in
       let sure : sure_of new.failed cs ≡ cs = ap (λ (b : Bool). sure_of b cs) alive in
       let doubt : doubted_of mid.failed new.failed cs ≡ [] = ap (λ (b : Bool). doubted_of mid.failed b cs) alive in
-      inr (rw (sure, doubt) (puts_all disk mid new (MeansCommands mid members) call works cs (all_accepted mid members)
-      (both mid members) (ap (λ (s : EngineState D). s.memory) done.1 ∙ sym (together mid members))
+      inr (rw (sure, doubt) (puts_all disk mid new (MeansEither mid (after_commands mid members)) call works cs
+      (all_accepted mid members) (both mid members)
+      (ap (λ (s : EngineState D). s.memory) done.1 ∙ sym (together mid members))
       (ap (λ (s : EngineState D). s.count) done.1) alive (it.faults.steady (alive ∙ sym works)))))
       (λ fault.
       let dead : new.failed ≡ true = ap (λ (s : EngineState D). s.failed) fault.1 in
       let sure : sure_of new.failed cs ≡ [] = ap (λ (b : Bool). sure_of b cs) dead in
       let doubt : doubted_of mid.failed new.failed cs ≡ cs = ap₂ (λ (b f : Bool). doubted_of b f cs) works dead in
-      inr (rw (sure, doubt) (puts_none disk mid new (MeansCommands mid members) call works cs
+      inr (rw (sure, doubt) (puts_none disk mid new (MeansEither mid (after_commands mid members)) call works cs
       (all_accepted mid members) (both mid members) fault.1 (it.faults.failed works dead).0)))
       (did.put works some))
       (none_or_more cs)
@@ -180,6 +183,12 @@ module _ {D : Type 0} (disk : Ghosts D) (mid new : EngineState D) (members : Lis
   commands_go = ⊎_elim failed_before worked_before (true_or_false mid.failed)
 
 -- ---- a chain of groups
+
+-- a refusal has its cause, whichever reasons there may be
+caused_somehow : {T : Type 0} (r : Result T Refusal) (may : Refusal → Type 0) (old now : ℕ) → Faults may r old now
+    → Faults (λ e. Unit {0}) r old now
+caused_somehow (Ok x) may old now same = same
+caused_somehow (Err e) may old now fault = (tt, fault.1, fault.2)
 
 module _ {D : Type 0} (disk : Ghosts D) (mid new : EngineState D) (next : List Command) (result : Result ℕ Refusal)
     (answers : List Served) (most : ℕ) (did : Advances mid next result answers new)
@@ -190,7 +199,7 @@ module _ {D : Type 0} (disk : Ghosts D) (mid new : EngineState D) (next : List C
   abbrev GoesAhead : Type 0
   GoesAhead = GoesOn disk mid new (sure_of new.failed put) (doubted_of mid.failed new.failed put)
 
-  call_ahead : CallLeaves disk mid new (MeansCommands mid mid.ahead)
+  call_ahead : CallLeaves disk mid new (MeansEither mid (after_commands mid mid.ahead))
   call_ahead = record { since = it.leaves; now = it.doubt; means = it.means; honest = it.honest }
 
   cause : Faults (λ e. Unit {0}) result (disk.failures mid.disk) (disk.failures new.disk)
@@ -212,7 +221,7 @@ module _ {D : Type 0} (disk : Ghosts D) (mid new : EngineState D) (next : List C
       let alive : new.failed ≡ false = ap (λ (s : EngineState D). s.failed) done.3 ∙ works in
       let sure : sure_of new.failed put ≡ put = ap (λ (b : Bool). sure_of b put) alive in
       let doubt : doubted_of mid.failed new.failed put ≡ [] = ap (λ (b : Bool). doubted_of mid.failed b put) alive in
-      inr (rw (sure, doubt) (puts_all disk mid new (MeansCommands mid mid.ahead) call_ahead works put
+      inr (rw (sure, doubt) (puts_all disk mid new (MeansEither mid (after_commands mid mid.ahead)) call_ahead works put
       (all_accepted mid mid.ahead) (both mid mid.ahead)
       (ap (λ (s : EngineState D). s.memory) done.3 ∙ sym (together mid mid.ahead))
       (ap (λ (s : EngineState D). s.count) done.3) alive (steady_by result done.0 _ _ cause done.1))))
@@ -220,7 +229,7 @@ module _ {D : Type 0} (disk : Ghosts D) (mid new : EngineState D) (next : List C
       let dead : new.failed ≡ true = ap (λ (s : EngineState D). s.failed) fault.2 in
       let sure : sure_of new.failed put ≡ [] = ap (λ (b : Bool). sure_of b put) dead in
       let doubt : doubted_of mid.failed new.failed put ≡ put = ap₂ (λ (b f : Bool). doubted_of b f put) works dead in
-      inr (rw (sure, doubt) (puts_nothing disk mid new (MeansCommands mid mid.ahead) call_ahead works put
+      inr (rw (sure, doubt) (puts_nothing disk mid new (MeansEither mid (after_commands mid mid.ahead)) call_ahead works put
       (all_accepted mid mid.ahead) (both mid mid.ahead) dead (ap (λ (s : EngineState D). s.memory) fault.2)
       (ap (λ (s : EngineState D). s.count) fault.2) (rose_by result _ _ cause fault.0))))
       (did.alive works)

@@ -1,22 +1,14 @@
 -- What each file left has, if the commands of a session keep it.
-use Rattle.std.proofs.Common.{◌≡◌, ◌+◌, ◌≤◌, ⊎_elim, ℕ, Bool, true, false, ◌&&◌, List, [], ◌∷◌, ◌++◌, length, take, Result}
-use Rattle.std.proofs.Common.{Ok, Err, refl, sym, ap, subst, arith, length-append, if◌then◌else◌}
+use Rattle.std.proofs.Common.{◌≡◌, ◌+◌, ◌≤◌, ⊎_elim, ℕ, List, ◌++◌, length, take, sym, subst, arith, length-append}
 use Rattle.std.proofs.lemmas.List.{length-take-le}
 use Rattle.im_types.specs.declared.commands.Command.{Command}
-use Rattle.im_types.specs.declared.commands.Outcome.{Outcome}
-use Rattle.im_types.specs.declared.refusals.Refusal.{Refusal}
 use Rattle.im_types.specs.Contents.{Contents}
-use Rattle.im_types.specs.Step.{is_accepted}
 use Rattle.im_types.specs.Meaning.{Means}
 use Rattle.im_types.specs.Run.{after}
 use Rattle.im_disk.specs.declared.disk.Disk.{Ghosts}
 use Rattle.im_disk.specs.Since.{LeavesNow, LeavesOnly}
 use Rattle.im_disk.proofs.SinceLemmas.{leaves_weaker}
-use Rattle.im_engine.specs.declared.run.Event.TheVariants.{Command as Serve}
-use Rattle.im_engine.specs.declared.run.Answer.TheVariants.{Served as Told}
-use Rattle.im_engine.specs.Run.{acknowledged_by, in_doubt_by}
 use Rattle.im_engine.proofs.FilesMean.{means_one}
-use Rattle.im_session.specs.Put.{sure_by, doubted_by}
 use Rattle.im_session.specs.Kept.{Kept, MeansPrefix, SessionState}
 use Rattle.im_session.specs.Carrying.{LedBy, PrefixesKeep}
 use Rattle.im_session.proofs.KeptLemmas.{all_begins, beginning}
@@ -64,19 +56,3 @@ module _ {D : Type 0} (disk : Ghosts D) (P : List Command → Contents → Type 
         (λ all. prefix_led keep file (all_begins s.start (s.put ++ s.doubt) file all))
         (it.now file left);
   }
-
--- ---- what a run of the engine acknowledges
-
-pub put_is : (m : Contents) (ahead : List Command) (c : Command) (answer : Result Outcome Refusal)
-    → sure_by m c answer ≡ acknowledged_by m ahead (Serve c) (Told answer)
-put_is m ahead c (Ok outcome) = refl
-put_is m ahead c (Err refusal) = refl
-
-pub doubt_is : (m : Contents) (count : ℕ) (ahead : List Command) (c : Command) (answer : Result Outcome Refusal)
-    → doubted_by m c answer ≡ in_doubt_by m count ahead (Serve c) (Told answer)
-doubt_is m count ahead c (Ok outcome) = by_test (is_accepted m c)
-  where
-    by_test : (b : Bool) → [] ≡ (if b && false then c ∷ [] else [])
-    by_test true = refl
-    by_test false = refl
-doubt_is m count ahead c (Err refusal) = refl

@@ -16,7 +16,6 @@ use Rattle.im_disk.specs.Moment.{Faults, Left, Moment, Rises}
 use Rattle.im_disk.specs.Since.{LeavesWithin, LeavesNow}
 use Rattle.im_disk.proofs.SinceLemmas.{leaves_now, leaves_start, leaves_then, leaves_weaker, left_now}
 use Rattle.im_engine.specs.State.{EngineState, MeansState}
-use Rattle.im_engine.specs.Run.{MeansAll, MeansWithOrWithout}
 use Rattle.im_engine.specs.Leaving.{LeavesSince, LeavesAfter, LeavesState}
 use Rattle.im_session.specs.Kept.{Kept, MeansPrefix, MeansPut, SessionStart, session_of, start_at}
 use Rattle.im_session.specs.Keeping.{KeepsPut, MeansFrom}
@@ -26,6 +25,14 @@ use Rattle.im_session.proofs.KeepingLemmas.{from_all}
 -- each of the commands is accepted in its turn
 abbrev pub Accepted : Contents → List Command → Type 0
 Accepted m commands = accepted m commands ≡ commands
+
+-- the file means what the engine is after these commands
+abbrev pub MeansAll : {D : Type 0} → EngineState D → List Command → List ℕ → Type 0
+MeansAll s commands file = MeansPut (start_at s.disk s) commands file
+
+-- after these, or after these and all of those in doubt
+abbrev pub MeansWithOrWithout : {D : Type 0} → EngineState D → List Command → List Command → List ℕ → Type 0
+MeansWithOrWithout s commands doubt file = MeansAll s commands file ⊎ MeansAll s (commands ++ doubt) file
 
 -- ---- a call of the engine
 

@@ -5,3 +5,5 @@ pub mod CallLemmas
 pub mod ServedLemmas
 pub mod RoomLemmas
 pub mod CarryLemmas
+pub mod GroupLemmas
+pub mod EventLemmas

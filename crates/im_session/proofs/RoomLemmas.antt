@@ -5,7 +5,7 @@ use Rattle.im_types.specs.declared.refusals.Refusal.TheVariants.{Device, Failed}
 use Rattle.im_checkpoint.specs.declared.checkpoint.TurnDone.{TurnDone}
 use Rattle.im_laws.proofs.Tests.{true_or_false}
 use Rattle.im_engine.specs.State.{EngineState}
-use Rattle.im_engine.specs.Run.{TurnAnswered}
+use Rattle.im_engine.specs.Answered.{TurnAnswered}
 use Rattle.im_session.specs.Kept.{SessionState, session_of}
 use Rattle.im_session.specs.Serving.{IsBroken, Rests}
 

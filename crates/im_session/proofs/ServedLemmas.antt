@@ -14,7 +14,7 @@ use Rattle.im_laws.proofs.AcceptLemmas.{accepted-ok, unaccepted-leaves}
 use Rattle.im_laws.proofs.Tests.{true_or_false, true_false}
 use Rattle.im_checkpoint.proofs.Fitting.{none_or_some}
 use Rattle.im_engine.specs.State.{EngineState}
-use Rattle.im_engine.specs.Run.{Answered, is_device}
+use Rattle.im_engine.specs.Answered.{Answered, is_device}
 use Rattle.im_session.specs.Put.{doubted_by, sure_by}
 use Rattle.im_session.specs.Kept.{SessionState, session_of}
 use Rattle.im_session.specs.Serving.{CommandRefused, CommandServed, Rests, served_one}

@@ -5,7 +5,7 @@ use Rattle.im_types.specs.declared.commands.Outcome.{Outcome}
 use Rattle.im_types.specs.declared.refusals.Refusal.{Refusal}
 use Rattle.im_types.specs.Contents.{Contents}
 use Rattle.im_types.specs.Step.{is_accepted}
-use Rattle.im_engine.specs.Run.{is_device}
+use Rattle.im_engine.specs.Answered.{is_device}
 
 -- the commands that were acknowledged, and those in doubt
 pub record PutList : Type 0 where

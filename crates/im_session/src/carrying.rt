@@ -1,14 +1,15 @@
 //! Laws of sessions. Each function does nothing, and its contract is a law.
-ghost use Rattle.std.specs.Prelude.{◌≡◌, ℕ, List, Result};
-ghost use Rattle.im_types.specs.declared.commands.Command.{Command};
-ghost use Rattle.im_types.specs.declared.commands.Outcome.{Outcome};
+ghost use Rattle.std.specs.Prelude.{◌≡◌, ◌<◌, List, [], length, map, true, false};
+ghost use Rattle.im_types.specs.declared.commands.Request.{Request};
+ghost use Rattle.im_types.specs.declared.commands.Command.TheVariants.{Request as Asks};
 ghost use Rattle.im_types.specs.declared.refusals.Refusal.{Refusal};
+ghost use Rattle.im_types.specs.declared.refusals.Refusal.TheVariants.{Device, Failed};
 ghost use Rattle.im_types.specs.Contents.{Contents};
-ghost use Rattle.im_engine.specs.declared.run.Event.TheVariants.{Command as Serve};
-ghost use Rattle.im_engine.specs.declared.run.Answer.TheVariants.{Served as Told};
-ghost use Rattle.im_engine.specs.Run.{acknowledged_by, in_doubt_by};
+ghost use Rattle.im_types.specs.Meaning.{Reached};
+ghost use Rattle.im_types.specs.Groups.{as_served, answers_of, puts_of};
+ghost use Rattle.im_engine.specs.Groups.{all_refused};
+ghost use Rattle.im_session.specs.Events.{acknowledged_members, has_device};
 ghost use Rattle.im_session.specs.Kept.{SessionState};
-ghost use Rattle.im_session.specs.Put.{doubted_by, sure_by};
 ghost use Rattle.im_session.specs.Carrying.{PrefixesCarry};
 
 use im_disk::Disk;
@@ -29,11 +30,18 @@ pub fn prefixes_carry<D: Disk, P: Property>()
     ensures leaves { (s : SessionState D) → PrefixesCarry D.Disk P.holds s }
 {}
 
-/// What a session puts of a command, and what it leaves in doubt, is what a run of the engine acknowledges of it, and
-/// leaves in doubt. So `put` and `doubt` are the lists of `im_promise`.
-pub fn acknowledged_is_put()
-    ensures put { (m : Contents) (ahead : List Command) (c : Command) (answer : Result Outcome Refusal)
-        → sure_by m c answer ≡ acknowledged_by m ahead (Serve c) (Told answer) }
-    ensures doubt { (m : Contents) (count : ℕ) (ahead : List Command) (c : Command) (answer : Result Outcome Refusal)
-        → doubted_by m c answer ≡ in_doubt_by m count ahead (Serve c) (Told answer) }
+/// The commands that a group acknowledges. If its members are answered one after another, it acknowledges just the
+/// commands that it puts on the disk, and no answer says that the disk failed. If it is refused as a whole, it
+/// acknowledges none. Refused with `Device`, it says that the disk failed if it would have put any command there; with
+/// `Failed`, it never does.
+pub fn groups_acknowledge_what_they_put()
+    ensures put { (s : Reached) (members : List Request)
+        → acknowledged_members s.contents (map Asks members) (map as_served (answers_of s members)) ≡ puts_of s members }
+    ensures works { (s : Reached) (members : List Request)
+        → has_device (map as_served (answers_of s members)) ≡ false }
+    ensures refused { (m : Contents) (refusal : Refusal) (members : List Request)
+        → acknowledged_members m (map Asks members) (all_refused refusal members) ≡ [] }
+    ensures fault { (s : Reached) (members : List Request)
+        → 0 < length (puts_of s members) → has_device (all_refused Device members) ≡ true }
+    ensures dead { (members : List Request) → has_device (all_refused Failed members) ≡ false }
 {}

@@ -6,8 +6,8 @@ ghost use Rattle.im_checkpoint.specs.Turns.{most_calls};
 ghost use Rattle.im_groups.specs.Ahead.{ServesPrefix};
 ghost use Rattle.im_engine.specs.Chain.{Advances, TakesNext};
 ghost use Rattle.im_engine.specs.Commands.{CommandsAnswered, commands_put};
-ghost use Rattle.im_engine.specs.Run.{Answered, SweepAnswered, TurnAnswered, calls_for};
-ghost use Rattle.im_session.specs.Keeping.{KeepsPut, MakesFewCalls};
+ghost use Rattle.im_engine.specs.Answered.{Answered, SweepAnswered, TurnAnswered, calls_for};
+ghost use Rattle.im_session.specs.Keeping.{KeepsPut, MakesAtMost, MakesFewCalls};
 ghost use Rattle.im_session.specs.Serving.{Rests, served_one, served_together};
 
 use crate::calls::GroupFound;
@@ -57,10 +57,11 @@ impl<D: Disk> Session<D> {
             memory: Snapshot::of(self.engine.memory()),
             places: Snapshot::of(&places),
             failed: Snapshot::of(&failed),
+            members: Snapshot::of(members),
         };
         self.engine.serve_commands(members, served);
         let failed = self.engine.failed();
-        self.calls.note_all(found, members, served, failed);
+        self.calls.note_all(found, served, failed);
     }
 
     /// Does what [`Session::advance`] does. Each file that a crash may leave since then has all that was put before.
@@ -75,8 +76,7 @@ impl<D: Disk> Session<D> {
         ensures takes { IfOk result (λ many. TakesNext self.old.engine next.now.items self.new.engine many) }
         ensures put { self.new ≡ served_together self.old self.old.engine.ahead self.new.engine }
         ensures keeps { KeepsPut D.Disk self.old self.new }
-        ensures few { D.honest self.new.engine.disk
-            → CallsAtMost D.past self.old.engine.disk self.new.engine.disk (length next.now.items + 2) }
+        ensures few { MakesAtMost D.Disk self.old (length next.now.items + 2) self.new }
     {
         let failed = self.engine.failed();
         let places = self.engine.places();
@@ -84,11 +84,11 @@ impl<D: Disk> Session<D> {
             memory: Snapshot::of(self.engine.memory()),
             places: Snapshot::of(&places),
             failed: Snapshot::of(&failed),
+            members: Snapshot::of(self.engine.ahead()),
         };
-        let ahead = Snapshot::of(self.engine.ahead());
         let result = self.engine.advance(next, served);
         let failed = self.engine.failed();
-        self.calls.note_ahead(found, ahead, served, failed);
+        self.calls.note_all(found, served, failed);
         result
     }
 

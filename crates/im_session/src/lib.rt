@@ -7,10 +7,13 @@
 
 mod calls;
 mod carrying;
+mod events;
 mod keeping;
 mod opening;
 mod room;
+mod running;
 mod session;
 
-pub use carrying::{Property, acknowledged_is_put, prefixes_carry};
+pub use carrying::{Property, groups_acknowledge_what_they_put, prefixes_carry};
+pub use events::{Answer, Event};
 pub use session::{Session, served_answer};

@@ -2,7 +2,7 @@
 ghost use Rattle.std.specs.Prelude.{◌≡◌, [], length, take};
 ghost use Rattle.im_engine.specs.Chain.{Advances};
 ghost use Rattle.im_engine.specs.Commands.{CommandsAnswered};
-ghost use Rattle.im_engine.specs.Run.{Answered, SweepAnswered, TurnAnswered};
+ghost use Rattle.im_engine.specs.Answered.{Answered, SweepAnswered, TurnAnswered};
 ghost use Rattle.im_session.specs.Kept.{Kept};
 ghost use Rattle.im_session.specs.Serving.{Rests, served_answer, served_one, served_together};
 

@@ -1,6 +1,6 @@
 //! What a story is about.
 
-use im_engine::{Answer, Event};
+use im_session::{Answer, Event};
 use im_story_disk::StoryFile;
 use im_types::{Command, Limits, Refusal, Served};
 use std::alloc::Global;

@@ -4,7 +4,8 @@ use crate::engines::Engines;
 use crate::known::served;
 use arrayvec::ArrayVec;
 use im_checkpoint::TurnDone;
-use im_engine::{Answer, Event, Group};
+use im_engine::Group;
+use im_session::{Answer, Event};
 use im_story::{Cases, Phrase, Saying, command};
 use im_types::{Command, MAX_GROUP, Refusal, Request, Served};
 
@@ -158,10 +159,7 @@ fn plan(engines: &mut Engines, call: &Phrase, said: &mut Saying) {
 
 // Runs what was planned.
 fn run(engines: &mut Engines, said: &mut Saying) {
-    let Some(engine) = &mut engines.file.engine else {
-        return said.fail("no engine");
-    };
-    let run = engine.run(engines.file.alloc, engines.events.as_slice());
+    let run = engines.file.run(engines.events.as_slice());
     engines.events.clear();
     said.result(run, |answers, said| {
         write!(said, "{} answers", answers.len());
@@ -203,7 +201,7 @@ fn add_answer(said: &mut Saying, answer: &Answer) -> Option<u32> {
             add_served(said, served.as_slice());
             said.text("]")
         }
-        Answer::Advanced(result, served) => add_advanced(said, *result, served.as_slice()),
+        Answer::Advanced(_, result, served) => add_advanced(said, *result, served.as_slice()),
         Answer::Turned(Ok(TurnDone::Idle)) => said.text("idle"),
         Answer::Turned(Ok(TurnDone::Began)) => said.text("began"),
         Answer::Turned(Ok(TurnDone::Page(page))) => {

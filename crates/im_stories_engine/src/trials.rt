@@ -6,7 +6,8 @@ use crate::events::{add_number, group_of};
 use crate::known::{KnownEngine, are_alike, are_refused, does_work, is_wrong_at, served};
 use arrayvec::ArrayVec;
 use im_disk::{Crash, Mode};
-use im_engine::{Answer, Event, Group};
+use im_engine::Group;
+use im_session::{Answer, Event};
 use im_story::{Cases, Phrase, Saying, asked, crash, mode};
 use im_story_disk::{STEADY, StoryFile};
 use im_types::{Command, LAST, MAX_GROUP, Op, Refusal};
@@ -44,7 +45,7 @@ fn has_failed(answer: &Answer) -> bool {
         Answer::Turned(answer) => *answer == Err(Refusal::Failed),
         Answer::Swept(answer) => *answer == Err(Refusal::Failed),
         Answer::Grouped(_, answers) => are_refused(answers, Refusal::Failed),
-        Answer::Advanced(result, _) => *result == Err(Refusal::Failed),
+        Answer::Advanced(_, result, _) => *result == Err(Refusal::Failed),
     }
 }
 
@@ -107,8 +108,9 @@ impl Trial<'_, '_> {
                     .known
                     .hears(&[*command], &[served(*answer)], usize::MAX, said);
             }
-            (Event::Ahead(group), Answer::Advanced(result, answers)) => {
+            (Event::Ahead(group), Answer::Advanced(were, result, answers)) => {
                 let ahead = self.ahead.take();
+                said.check(were.as_slice() == ahead.as_slice());
                 self.ahead = commands_of(group, result.unwrap_or(0));
                 return self
                     .known
@@ -127,15 +129,18 @@ impl Trial<'_, '_> {
 
     // Runs the events. Returns whether the disk stops.
     fn does_run_stop(&mut self, said: &mut Saying) -> bool {
-        let Some(engine) = &mut self.known.file.engine else {
-            said.fail("no engine");
+        let Ok(answers) = self.known.file.run(self.events) else {
+            said.fail("there is no run");
             return false;
         };
-        let Ok(answers) = engine.run(said.alloc(), self.events) else {
-            said.fail("no memory is left");
-            return false;
-        };
-        let (events, has_failed) = (self.events, engine.failed());
+        let (events, has_failed) = (
+            self.events,
+            self.known
+                .file
+                .engine
+                .as_ref()
+                .is_some_and(|it| it.failed()),
+        );
         let mut works = true;
         for (event, answer) in events.iter().zip(answers.as_slice()) {
             works = self.hears(works, event, answer, said);

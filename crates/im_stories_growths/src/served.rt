@@ -4,7 +4,7 @@
 use crate::disks::{has_answered, open_again, state};
 use crate::requests::{ALL, add_answer, lacks_memory, request};
 use im_checkpoint::TurnDone;
-use im_engine::{Answer, Event};
+use im_session::{Answer, Event};
 use im_story::Saying;
 use im_story_disk::StoryFile;
 use im_types::{Command, Outcome, Refusal};
@@ -87,10 +87,7 @@ fn add_answers(said: &mut Saying, answers: &[Answer]) -> usize {
 
 // Runs events, and tells the answers. Returns how many there are, or why nothing was done.
 fn run_once(place: &mut StoryFile, events: &[Event], said: &mut Saying) -> Result<usize, Refusal> {
-    let Some(engine) = &mut place.engine else {
-        return Err(Refusal::Failed);
-    };
-    let answers = engine.run(place.alloc, events)?;
+    let answers = place.run(events)?;
     Ok(add_answers(said, answers.as_slice()))
 }
 

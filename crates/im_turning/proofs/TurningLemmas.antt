@@ -18,7 +18,7 @@ use Rattle.im_checkpoint.specs.Turns.{is_due, next_header}
 use Rattle.im_checkpoint.proofs.Fitting.{none_or_some, turns_with}
 use Rattle.im_types.specs.declared.refusals.Refusal.{Refusal}
 use Rattle.im_engine.specs.State.{EngineState}
-use Rattle.im_engine.specs.Run.{TurnAnswered, TurnTaken}
+use Rattle.im_engine.specs.Answered.{TurnAnswered, TurnTaken}
 use Rattle.im_turning.specs.Turning.{Point, point_of, checkpoint_at, point_journal, TurnsInto, TurnsLead, IsAtRest}
 use Rattle.im_turning.specs.Turning.{due_turns}
 use Rattle.im_turning.specs.Turning.{later_turns}

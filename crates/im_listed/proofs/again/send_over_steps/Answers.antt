@@ -18,7 +18,7 @@ returns-in-Ok-clause-once c = λ crash entry told.
     let old : EngineState Listing = begun_in c.args.image in
     let e : EngineState Listing = begun_in c.in-Ok.opened in
     let file = c.args.file.items in
-    let either : MeansEither old (Asks r) file = (c.serve-first.ensures.carried alive).way left.0 file left.1 left.2 in
+    let either : MeansEither old (with_command old (Asks r)) file = (c.serve-first.ensures.carried alive).way left.0 file left.1 left.2 in
     let means : MeansState e file = c.in-Ok.ensures.means file (subst (λ (b : List ℕ). Left c.in-Ok.opened.engine.disk.now b)
     c.in-Ok.ensures.kept (left_now c.in-Ok.opened.engine.disk.now)) in
     let there : (e.memory ≡ old.memory) ⊎ (e.memory ≡ (step old.memory (Asks r)).contents) = ⊎_elim
@@ -39,7 +39,7 @@ returns-in-Err-clause-refused c = λ crash.
     let r = c.args.request in
     let old : EngineState Listing = begun_in c.args.image in
     let file = c.args.file.items in
-    let either : MeansEither old (Asks r) file = (c.serve-first.ensures.carried alive).way left.0 file left.1 left.2 in
+    let either : MeansEither old (with_command old (Asks r)) file = (c.serve-first.ensures.carried alive).way left.0 file left.1 left.2 in
     ⊎_elim (λ want. inl want) (λ more. ⊎_elim (λ device. inr device)
     (λ fault. absurd (no_fault_of_one old r c.in-Err.refusal file c.files_mean_one_thing.ensures.fault either fault))
     more) c.in-Err.ensures.fault

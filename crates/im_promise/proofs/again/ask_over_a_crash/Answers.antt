@@ -6,7 +6,7 @@ use Rattle.im_types.specs.Agreement.{WaitingAgrees}
 use Rattle.im_types.specs.Run.{after}
 use Rattle.im_laws.specs.Requests.{after_request}
 use Rattle.im_laws.specs.Entries.{IsToldAgainOrForgotten}
-use Rattle.im_engine.specs.Run.{acknowledged}
+use Rattle.im_session.specs.Events.{acknowledged}
 use Rattle.im_promise.proofs.Sent.{answer_of, said, by_is_false, is_false_by, acted, asked}
 use Rattle.im_promise.proofs.again.ask_over_a_crash.Goals as goal
 
@@ -20,8 +20,7 @@ returns-in-Ok-clause-again c = λ f entry told.
     (λ un. (c.accepted_where_changed.ensures.unaccepted old.memory (Asks r)).0 (is_false_by _ un)) in
     let agrees : WaitingAgrees old.memory = subst WaitingAgrees c.memory.ensures c.cells-cells.ensures.memory.agrees in
     let found = c.in-Ok.ensures.recovers first.works in
-    let l : List Command = acknowledged mid.memory mid.ahead c.args.events.now c.in-Ok.recovered.answers.items ++
-    found.also in
+    let l : List Command = acknowledged mid.memory c.args.events.now c.in-Ok.recovered.answers.items ++ found.also in
     let is : now.memory ≡ after (after_request old.memory r) l =
     found.memory ∙ ap (λ (x : Contents). after x l) first.memory in
     let again =

@@ -17,8 +17,8 @@ returns-in-Ok-clause-once c = λ f entry told.
     let e : EngineState Recording = c.in-Ok.engine in
     let inner : c.into_inner.result ≡ n.disk.disk =
     c.into_inner.ensures ∙ ap (λ (x : Fused). x.disk) c.close.ensures.disk in
-    let doubt : LeavesNow c.into_inner.result.moment (MeansEither old (Asks r)) =
-    subst (λ (d : Recording). LeavesNow d.moment (MeansEither old (Asks r))) (sym inner)
+    let doubt : LeavesNow c.into_inner.result.moment (MeansEither old (with_command old (Asks r))) =
+    subst (λ (d : Recording). LeavesNow d.moment (MeansEither old (with_command old (Asks r)))) (sym inner)
     (c.serve-first.ensures.doubt tt f) in
     let file = e.disk.moment.bytes in
     let there : (e.memory ≡ old.memory) ⊎ (e.memory ≡ (step old.memory (Asks r)).contents) = ⊎_elim
@@ -39,8 +39,8 @@ returns-in-Err-clause-refused c = λ f.
     let r = c.args.request in
     let inner : c.into_inner.result ≡ n.disk.disk =
     c.into_inner.ensures ∙ ap (λ (x : Fused). x.disk) c.close.ensures.disk in
-    let doubt : LeavesNow c.into_inner.result.moment (MeansEither old (Asks r)) =
-    subst (λ (d : Recording). LeavesNow d.moment (MeansEither old (Asks r))) (sym inner)
+    let doubt : LeavesNow c.into_inner.result.moment (MeansEither old (with_command old (Asks r))) =
+    subst (λ (d : Recording). LeavesNow d.moment (MeansEither old (with_command old (Asks r)))) (sym inner)
     (c.serve-first.ensures.doubt tt f) in
     ⊎_elim (λ want. inl want) (λ more. ⊎_elim (λ device. inr device)
     (λ fault. absurd (no_fault_of_one old r c.in-Err.refusal fault.0 c.files_mean_one_thing.ensures.fault

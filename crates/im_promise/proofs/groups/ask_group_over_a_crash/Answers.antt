@@ -3,7 +3,7 @@ use Rattle.im_types.specs.declared.commands.Command.{Command}
 use Rattle.im_types.specs.Contents.{Contents}
 use Rattle.im_types.specs.Agreement.{WaitingAgrees}
 use Rattle.im_types.specs.Run.{after}
-use Rattle.im_engine.specs.Run.{acknowledged}
+use Rattle.im_session.specs.Events.{acknowledged}
 use Rattle.im_engine.specs.Groups.{reached_in, group_put}
 use Rattle.im_promise.proofs.Sent.{is_false_by, by_is_false, agrees_after}
 use Rattle.im_promise.proofs.Grouping.{GroupsAreRuns, group_answer, group_acted, group_asked}
@@ -25,7 +25,7 @@ returns-in-Ok-clause-again c = λ f quiet.
     c.serve_group.ensures.answered quiet in
     let agrees : WaitingAgrees old.memory = subst WaitingAgrees c.memory.ensures c.cells-cells.ensures.memory.agrees in
     let found = c.in-Ok.ensures.recovers acted.works in
-    let between : List Command = acknowledged mid.memory mid.ahead events answers ++ found.also in
+    let between : List Command = acknowledged mid.memory events answers ++ found.also in
     let is : opened.memory ≡ after (after old.memory (group_put old members)) between =
     found.memory ∙ ap (λ (x : Contents). after x between) (acted.memory ∙ runs.memory (reached_in old) members) in
     group_asked old mid opened c.serve_group-in-Ok.new.self members events answers c.serve_group-in-Ok.new.served.items

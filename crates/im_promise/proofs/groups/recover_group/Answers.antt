@@ -4,8 +4,8 @@ use Rattle.im_disk.specs.Moment.{Left}
 use Rattle.im_disk.specs.Since.{LeavesNow}
 use Rattle.im_disk.specs.Recording.{Recording}
 use Rattle.im_disk.specs.Fuse.{Fused}
-use Rattle.im_engine.specs.State.{EngineState, MeansState}
-use Rattle.im_engine.specs.Groups.{MeansGroup}
+use Rattle.im_engine.specs.State.{EngineState, MeansState, MeansEither}
+use Rattle.im_engine.specs.Groups.{after_group}
 use Rattle.im_promise.specs.Groups.{RecoversGroup}
 use Rattle.im_promise.proofs.Reopening.{under, under_err}
 use Rattle.im_promise.proofs.Grouping.{group_by, group_refused}
@@ -20,8 +20,8 @@ returns-clause-recovers c =
     let inner : c.into_inner.result ≡ n.disk.disk =
     c.into_inner.ensures ∙ ap (λ (x : Fused). x.disk) c.close.ensures.disk in
     under (s.failed ≡ false) (λ e. RecoversGroup s members answers e) c.open_crashed.result (λ f.
-    let doubt : LeavesNow c.into_inner.result.moment (MeansGroup s members) =
-    subst (λ (d : Recording). LeavesNow d.moment (MeansGroup s members)) (sym inner)
+    let doubt : LeavesNow c.into_inner.result.moment (MeansEither s (after_group s members)) =
+    subst (λ (d : Recording). LeavesNow d.moment (MeansEither s (after_group s members))) (sym inner)
     (c.serve_group.ensures.doubt tt f) in
     group_by s n members answers
     (Left c.into_inner.result.moment) c.open_crashed.result f c.files_mean_one_thing.ensures.memory
@@ -38,8 +38,8 @@ returns-clause-refused c =
     let inner : c.into_inner.result ≡ c.serve_group.new.self.disk.disk =
     c.into_inner.ensures ∙ ap (λ (x : Fused). x.disk) c.close.ensures.disk in
     under_err (s.failed ≡ false) (λ e. (e ≡ NoMemory) ⊎ (e ≡ Device)) c.open_crashed.result (λ f.
-    let doubt : LeavesNow c.into_inner.result.moment (MeansGroup s members) =
-    subst (λ (d : Recording). LeavesNow d.moment (MeansGroup s members)) (sym inner)
+    let doubt : LeavesNow c.into_inner.result.moment (MeansEither s (after_group s members)) =
+    subst (λ (d : Recording). LeavesNow d.moment (MeansEither s (after_group s members))) (sym inner)
     (c.serve_group.ensures.doubt tt f) in
     group_refused s members
     (Left c.into_inner.result.moment) c.open_crashed.result c.files_mean_one_thing.ensures.fault doubt

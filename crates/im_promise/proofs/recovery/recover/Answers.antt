@@ -1,32 +1,34 @@
-use Rattle.std.proofs.Common.{◌≡◌, inl, inr, ⊎_elim, List, sym, ap, ◌∙◌, subst}
-use Rattle.im_types.specs.declared.commands.Command.{Command}
-use Rattle.im_disk.specs.Since.{LeavesNow}
-use Rattle.im_disk.specs.Recording.{Recording}
+use Rattle.std.proofs.Common.{◌≡◌, false, sym, ◌∙◌, subst}
+use Rattle.im_laws.proofs.Tests.{true_false}
 use Rattle.im_disk.specs.Fuse.{Fused}
 use Rattle.im_engine.specs.State.{EngineState}
-use Rattle.im_engine.specs.Run.{acknowledged, in_doubt, MeansWithOrWithout}
+use Rattle.im_session.specs.Events.{AnsweredInTurn, after_events}
+use Rattle.im_session.specs.Kept.{SessionState}
+use Rattle.im_promise.specs.Recovery.{HasNoRoom, Recovers}
 use Rattle.im_promise.proofs.Answering.{Known, told}
-use Rattle.im_promise.proofs.Recovering.{Crashes, found, is_no_fault, meant_with_or_without}
+use Rattle.im_promise.proofs.Reopening.{under, under_err}
+use Rattle.im_promise.proofs.SessionLemmas.{recovered}
 use Rattle.im_promise.proofs.recovery.recover.Goals as goal
 
-pub returns-in-Ok-open-clause-recovers : goal.returns-in-Ok-open-clause-recovers
-returns-in-Ok-open-clause-recovers c = λ f.
+pub returns-then-failed-clause-recovers : goal.returns-then-failed-clause-recovers
+returns-then-failed-clause-recovers c =
     let s : EngineState Fused = c.args.engine in
-    let e : EngineState Recording = c.in-Ok-open.engine in
+    under (s.failed ≡ false)
+    (λ x. Recovers s.memory s.count s.ahead c.args.events.now x.answers.items x.engine.memory x.engine.count)
+    c.recover_failed.result
+    (λ f. absurd (true_false (sym c.if-failed.true ∙ c.failed.ensures.failed ∙ f)))
+
+pub returns-then-failed-clause-refused : goal.returns-then-failed-clause-refused
+returns-then-failed-clause-refused c =
+    under_err (c.args.engine.failed ≡ false) HasNoRoom c.recover_failed.result
+    (λ f. absurd (true_false (sym c.if-failed.true ∙ c.failed.ensures.failed ∙ f)))
+
+pub returns-in-Ok-recover_session-clause-recovers : goal.returns-in-Ok-recover_session-clause-recovers
+returns-in-Ok-recover_session-clause-recovers c = λ f.
+    let s : EngineState Fused = c.args.engine in
+    let new : SessionState Fused = c.run.new.self in
+    let events = c.args.events.now in
     let answers = c.in-Ok.answers.items in
-    let sure : List Command = acknowledged s.memory s.ahead c.args.events.now answers in
-    let doubt : List Command = in_doubt s.memory s.count s.ahead c.args.events.now answers in
-    let inner : c.into_inner.result ≡ c.run.new.self.disk.disk =
-    c.into_inner.ensures ∙ ap (λ (x : Fused). x.disk) c.close.ensures.disk in
-    let said : LeavesNow c.into_inner.result.moment (MeansWithOrWithout s sure doubt) =
-    subst (λ (d : Recording). LeavesNow d.moment (MeansWithOrWithout s sure doubt)) (sym inner)
-    (c.in-Ok.ensures.now tt f) in
-    let crash : Crashes c.into_inner.result.moment c.crash.result.moment e.disk.moment c.crash.result.past e.disk.past =
-    record {
-      ranges = ap (λ (d : Recording). d.moment.ranges) c.crash.ensures.after;
-      left = c.crash.ensures.left;
-      opened = c.in-Ok-open.ensures.leaves tt;
-    } in
     let known : Known = record {
       ok = c.accepted_where_changed.ensures.answered;
       step = c.steps_tell_of_no_failure.ensures;
@@ -37,39 +39,9 @@ returns-in-Ok-open-clause-recovers c = λ f.
       fault = c.groups_acknowledge_what_they_put.ensures.fault;
       dead = c.groups_acknowledge_what_they_put.ensures.dead;
     } in
-    let parts = told known s c.run.new.self c.args.events.now answers f c.in-Ok.ensures.answers in
-    let it =
-    found s e c.into_inner.result.moment c.crash.result.moment e.disk.moment c.crash.result.past e.disk.past crash
-    c.args.events.now answers c.files_mean_one_thing.ensures.memory said (c.in-Ok-open.ensures.means tt) in
-    record {
-      answered = parts.answered;
-      one_in_doubt = parts.one;
-      few_in_doubt = parts.few;
-      also = it.also;
-      or_not = it.or_not;
-      memory = it.memory;
-      count = it.count;
-    }
-
-pub returns-in-Err-open-clause-refused : goal.returns-in-Err-open-clause-refused
-returns-in-Err-open-clause-refused c = λ f.
-    let s : EngineState Fused = c.args.engine in
-    let answers = c.in-Ok.answers.items in
-    let sure : List Command = acknowledged s.memory s.ahead c.args.events.now answers in
-    let doubt : List Command = in_doubt s.memory s.count s.ahead c.args.events.now answers in
-    let d = c.in-Err-open.field-0-1 in
-    let inner : c.into_inner.result ≡ c.run.new.self.disk.disk =
-    c.into_inner.ensures ∙ ap (λ (x : Fused). x.disk) c.close.ensures.disk in
-    let said : LeavesNow c.into_inner.result.moment (MeansWithOrWithout s sure doubt) =
-    subst (λ (x : Recording). LeavesNow x.moment (MeansWithOrWithout s sure doubt)) (sym inner)
-    (c.in-Ok.ensures.now tt f) in
-    let crash : Crashes c.into_inner.result.moment c.crash.result.moment d.moment c.crash.result.past d.past = record {
-      ranges = ap (λ (x : Recording). x.moment.ranges) c.crash.ensures.after;
-      left = c.crash.ensures.left;
-      opened = c.in-Err-open.ensures.leaves tt;
-    } in
-    ⊎_elim (λ none. inl none) (λ more. ⊎_elim (λ device. inr device) (λ fault. absurd (
-    is_no_fault c.into_inner.result.moment c.crash.result.moment d.moment c.crash.result.past d.past crash
-    c.files_mean_one_thing.ensures.fault (MeansWithOrWithout s sure doubt)
-    (λ file it. meant_with_or_without s sure doubt file it) said c.in-Err-open.refusal
-    (fault tt))) more) c.in-Err-open.ensures.fault
+    let answered = subst (λ (x : SessionState Fused). AnsweredInTurn x.engine events answers new.engine)
+    c.of-session.ensures c.in-Ok.ensures.answers in
+    let put = subst (λ (x : SessionState Fused). new ≡ after_events x events answers new.engine) c.of-session.ensures
+    c.in-Ok.ensures.put in
+    recovered s new events answers put (told known s new.engine events answers f answered)
+    c.in-Ok-recover_session.engine.memory c.in-Ok-recover_session.engine.count c.in-Ok-recover_session.ensures.recovers

@@ -3,8 +3,9 @@ use Rattle.im_disk.specs.Fuse.{Fused}
 use Rattle.im_disk.specs.Recording.{Recording}
 use Rattle.im_disk.specs.Since.{LeavesNow}
 use Rattle.im_serial.proofs.KeepsLemmas.{crashed_keeps}
-use Rattle.im_run.specs.Stops.{MeansAccepted, MeansPlanned}
 use Rattle.im_run.proofs.stops.run_over_stops.Goals as goal
+use Rattle.im_run.specs.Stops.{HasRunByPlan, LeadTo}
+use Rattle.im_session.specs.Carrying.{LedBy}
 
 pub loop-at-preserved : goal.loop-at-preserved
 loop-at-preserved g c =
@@ -19,10 +20,10 @@ loop-at-preserved g c =
     λ P left. crashed_keeps c.into_inner.result.moment c.crash-disk.result.moment P c.crash-disk.ensures.left
     (ap (λ (d : Recording). d.moment.ranges) c.crash-disk.ensures.after)
     (subst (λ (d : Recording). LeavesNow d.moment P) (sym c.into_inner.ensures) left) in (
-      λ limits before. behind (MeansAccepted limits) (kept.accepted limits (ready (MeansAccepted limits)
+      λ limits before. behind (LedBy (LeadTo limits)) (kept.accepted limits (ready (LedBy (LeadTo limits))
           (c.loop-at.invariant.0 limits before))),
-      λ limits planned before. behind (MeansPlanned limits text) (kept.by_plan limits planned
-          (ready (MeansPlanned limits text) (c.loop-at.invariant.1 limits planned before))),
+      λ limits planned before. behind (LedBy (HasRunByPlan limits text)) (kept.by_plan limits planned
+          (ready (LedBy (HasRunByPlan limits text)) (c.loop-at.invariant.1 limits planned before))),
     )
 
 pub returns-clause-accepted : goal.returns-clause-accepted

@@ -1,11 +1,12 @@
 use Rattle.std.specs.Prelude.{◌≡◌, true}
 use Rattle.im_types.specs.declared.sizes.Limits.{Limits}
-use Rattle.im_run.specs.Stops.{CarriesOver, MeansAccepted, MeansPlanned}
+use Rattle.im_run.specs.Stops.{CarriesOver, HasRunByPlan, LeadTo}
 use Rattle.im_run.proofs.stops.run_over_stops.Given as goal
+use Rattle.im_session.specs.Carrying.{LedBy}
 
 abbrev pub invariant-loop-at : goal.invariant-loop-at
-invariant-loop-at g l = ((limits : Limits) → CarriesOver l.fn.image.disk.moment (MeansAccepted limits) l.disk.moment
-    (MeansAccepted limits))
+invariant-loop-at g l = ((limits : Limits) → CarriesOver l.fn.image.disk.moment (LedBy (LeadTo limits)) l.disk.moment
+    (LedBy (LeadTo limits)))
     × ((limits : Limits) → l.asked.mode.planned ≡ true
-    → CarriesOver l.fn.image.disk.moment (MeansPlanned limits l.asked.script.now) l.disk.moment
-    (MeansPlanned limits l.asked.script.now))
+    → CarriesOver l.fn.image.disk.moment (LedBy (HasRunByPlan limits l.asked.script.now)) l.disk.moment
+    (LedBy (HasRunByPlan limits l.asked.script.now)))

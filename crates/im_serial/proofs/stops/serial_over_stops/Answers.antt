@@ -3,13 +3,14 @@ use Rattle.im_disk.specs.Fuse.{Fused}
 use Rattle.im_disk.specs.Recording.{Recording}
 use Rattle.im_disk.specs.Since.{LeavesNow}
 use Rattle.im_serial.specs.Asked.{wanted_of}
-use Rattle.im_serial.specs.Begun.{MeansBegun}
 use Rattle.im_serial.proofs.KeepsLemmas.{crashed_keeps}
 use Rattle.im_serial.proofs.stops.serial_over_stops.Goals as goal
+use Rattle.im_serial.specs.Begun.{HasComeTo}
+use Rattle.im_session.specs.Carrying.{LedBy}
 
 pub loop-at-preserved : goal.loop-at-preserved
 loop-at-preserved g c = λ limits before.
-    let P = MeansBegun limits (wanted_of c.args.script.now) in
+    let P = LedBy (HasComeTo limits (wanted_of c.args.script.now)) in
     let so_far = c.loop-at.invariant limits before in
     let fresh = ap (λ (x : Fused). x.disk) c.new-fused.ensures.fresh in
     let ready = subst (λ (d : Recording). LeavesNow d.moment P) (sym fresh) so_far in

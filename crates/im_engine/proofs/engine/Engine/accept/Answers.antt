@@ -3,7 +3,7 @@ use Rattle.im_disk.specs.Since.{LeavesNow, LeavesOnly, CallsBy}
 use Rattle.im_disk.proofs.SinceLemmas.{leaves_start, only_weaker}
 use Rattle.im_types.specs.Step.{step, is_accepted}
 use Rattle.im_journal.specs.Holding.{JournalState, MayAppend}
-use Rattle.im_engine.specs.State.{EngineState, MeansState, MeansEither}
+use Rattle.im_engine.specs.State.{EngineState, MeansState, MeansEither, with_command}
 use Rattle.im_checkpoint.specs.Keeping.{paged, Fits}
 use Rattle.im_checkpoint.specs.Step.{CheckpointState}
 use Rattle.im_engine.proofs.Keeping.{accept_one, all_mean, all_hold, may_put_means, kept_prepared}
@@ -17,7 +17,8 @@ returns-then-room-eq0-clause-leaves g c =
     let e = c.self.inside in
     let alive : e.failed ≡ false = ap (λ (s : EngineState g.row.D.Denot). s.failed) c.self.view_is ∙ c.requires.alive in
     subst (λ (s : EngineState g.row.D.Denot). g.D.Disk.honest s.disk
-    → LeavesOnly g.D.Disk.now g.D.Disk.past s.disk s.disk (MeansEither s c.args.command.now)) c.self.view_is
+    → LeavesOnly g.D.Disk.now g.D.Disk.past s.disk s.disk (MeansEither s (with_command s c.args.command.now)))
+    c.self.view_is
     (λ h. record {
       within = leaves_start (g.D.Disk.now e.disk) (g.D.Disk.past e.disk) _;
       after = λ file left. inl
@@ -54,7 +55,7 @@ returns-in-Err-clause-leaves g c = λ h.
     (step e.memory.contents c.args.command.now).contents
     (accept_one e.memory.contents c.args.command.now accepted) 1 in
     subst (λ (s : EngineState g.row.D.Denot). LeavesOnly g.D.Disk.now g.D.Disk.past s.disk c.append.new.disk
-    (MeansEither s c.args.command.now)) c.self.view_is
+    (MeansEither s (with_command s c.args.command.now))) c.self.view_is
     (only_weaker g.D.Disk.now g.D.Disk.past e.disk c.append.new.disk
     (MayAppend e.journal (c.args.command.now ∷ []) (g.D.Disk.now e.disk)) _ (c.append.ensures.runs.leaves h) means)
 
@@ -94,7 +95,7 @@ returns-clause-leaves g c = λ h.
     (step e.memory.contents c.args.command.now).contents
     (accept_one e.memory.contents c.args.command.now accepted) 1 in
     subst (λ (s : EngineState g.row.D.Denot). LeavesOnly g.D.Disk.now g.D.Disk.past s.disk c.append.new.disk
-    (MeansEither s c.args.command.now)) c.self.view_is
+    (MeansEither s (with_command s c.args.command.now))) c.self.view_is
     (only_weaker g.D.Disk.now g.D.Disk.past e.disk c.append.new.disk
     (MayAppend e.journal (c.args.command.now ∷ []) (g.D.Disk.now e.disk)) _ (c.append.ensures.runs.leaves h) means)
 

@@ -10,8 +10,8 @@ use Rattle.im_journal.specs.Holding.{JournalState, longer, with_ahead}
 use Rattle.im_checkpoint.specs.Keeping.{paged, IsKept}
 use Rattle.im_groups.specs.Commands.{places, contents_after_all}
 use Rattle.im_groups.proofs.EnoughLemmas.{enough-contents}
-use Rattle.im_engine.specs.State.{EngineState, engine_of}
-use Rattle.im_engine.specs.Commands.{MeansCommands}
+use Rattle.im_engine.specs.State.{EngineState, engine_of, MeansEither}
+use Rattle.im_engine.specs.Commands.{after_commands}
 use Rattle.im_engine.specs.Chain.{Advances, ServesAhead, AreVerdicts, IsComing, put_ahead}
 use Rattle.im_engine.specs.Chain.{places_left, calls_to_advance}
 use Rattle.im_engine.proofs.Keeping.{all_mean, all_hold}
@@ -133,7 +133,8 @@ returns-in-Err-clause-runs g c =
     let next = c.judge_coming-coming.result in
     let only = λ (h : g.D.Disk.honest c.put_behind.new.disk). only_weaker g.D.Disk.now g.D.Disk.past e.disk
     c.put_behind.new.disk _
-    (MeansCommands (engine_of e.disk e.checkpoint e.memory e.journal ms e.failed) ms)
+    (MeansEither (engine_of e.disk e.checkpoint e.memory e.journal ms e.failed)
+    (after_commands (engine_of e.disk e.checkpoint e.memory e.journal ms e.failed) ms))
     (c.put_behind.ensures.leaves h e.checkpoint.state (paged e.checkpoint e.memory) e.memory.contents
     (contents_after_all e.memory.contents (places e.journal.count e.journal.room) ms)
     (accepts e.disk e.checkpoint e.memory e.journal ms cs ts e.failed known it)
@@ -208,7 +209,8 @@ returns-clause-runs g c =
     let next = c.judge_coming-coming.result in
     let only = λ (h : g.D.Disk.honest c.put_behind.new.disk). only_weaker g.D.Disk.now g.D.Disk.past e.disk
     c.put_behind.new.disk _
-    (MeansCommands (engine_of e.disk e.checkpoint e.memory e.journal ms e.failed) ms)
+    (MeansEither (engine_of e.disk e.checkpoint e.memory e.journal ms e.failed)
+    (after_commands (engine_of e.disk e.checkpoint e.memory e.journal ms e.failed) ms))
     (c.put_behind.ensures.leaves h e.checkpoint.state (paged e.checkpoint e.memory) e.memory.contents
     (contents_after_all e.memory.contents (places e.journal.count e.journal.room) ms)
     (accepts e.disk e.checkpoint e.memory e.journal ms cs ts e.failed known it)

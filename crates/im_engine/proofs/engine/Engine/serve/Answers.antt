@@ -4,9 +4,9 @@ use Rattle.im_memory.specs.State.{MemoryState}
 use Rattle.im_types.specs.Step.{step, is_accepted}
 use Rattle.im_checkpoint.specs.Step.{changed_in}
 use Rattle.im_checkpoint.specs.Keeping.{paged, Fits, IsKept}
-use Rattle.im_engine.specs.State.{EngineState, MeansState, MeansEither}
+use Rattle.im_engine.specs.State.{EngineState, MeansState, MeansEither, with_command}
 use Rattle.im_engine.specs.Chain.{IsAhead}
-use Rattle.im_engine.specs.Run.{calls_for}
+use Rattle.im_engine.specs.Answered.{calls_for}
 use Rattle.im_engine.proofs.Keeping.{all_mean}
 use Rattle.im_engine.proofs.Serving.{accepts, answered_unaccepted, calls_accepted, calls_none}
 use Rattle.im_engine.proofs.engine.Engine.serve.Goals as goal
@@ -56,7 +56,7 @@ pub returns-in-Ok-false-clause-doubt : goal.returns-in-Ok-false-clause-doubt
 returns-in-Ok-false-clause-doubt g c =
     let e = c.self.inside in
     subst (λ (s : EngineState g.row.D.Denot). g.D.Disk.honest e.disk → s.failed ≡ false
-    → LeavesNow (g.D.Disk.now e.disk) (MeansEither s c.args.command.now)) c.self.view_is
+    → LeavesNow (g.D.Disk.now e.disk) (MeansEither s (with_command s c.args.command.now))) c.self.view_is
     (λ h f file left. inl
     (all_mean e.checkpoint.state (paged e.checkpoint e.memory) e.memory.contents e.journal (g.D.Disk.now e.disk)
     (c.self.invariant.1 h f) file left))
@@ -77,7 +77,7 @@ pub returns-in-Err-clause-doubt : goal.returns-in-Err-clause-doubt
 returns-in-Err-clause-doubt g c =
     let e = c.self.inside in
     subst (λ (s : EngineState g.row.D.Denot). g.D.Disk.honest s.disk → s.failed ≡ false
-    → LeavesNow (g.D.Disk.now s.disk) (MeansEither s c.args.command.now)) c.self.view_is
+    → LeavesNow (g.D.Disk.now s.disk) (MeansEither s (with_command s c.args.command.now))) c.self.view_is
     (λ h f file left. inl
     (all_mean e.checkpoint.state (paged e.checkpoint e.memory) e.memory.contents e.journal (g.D.Disk.now e.disk)
     (c.self.invariant.1 h f) file left))

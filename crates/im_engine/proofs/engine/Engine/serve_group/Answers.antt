@@ -2,9 +2,9 @@ use Rattle.std.proofs.Common.{List, length, map, ◌∙◌, ap, subst}
 use Rattle.im_types.specs.declared.commands.Command.{Command}
 use Rattle.im_types.specs.declared.commands.Command.TheVariants.{Request as Asks}
 use Rattle.im_disk.proofs.SinceLemmas.{leaves_weaker}
-use Rattle.im_engine.specs.State.{EngineState}
-use Rattle.im_engine.specs.Groups.{GroupCalls, calls_for_group, MeansGroup}
-use Rattle.im_engine.specs.Commands.{CommandsAnswered, ServesCommands, MeansCommands}
+use Rattle.im_engine.specs.State.{EngineState, MeansEither}
+use Rattle.im_engine.specs.Groups.{GroupCalls, calls_for_group, after_group}
+use Rattle.im_engine.specs.Commands.{CommandsAnswered, ServesCommands, after_commands}
 use Rattle.im_engine.proofs.Requests.{all_served, put_is, means_requests, requests_answered}
 use Rattle.im_engine.proofs.Together.{counted_by}
 use Rattle.im_engine.proofs.engine.Engine.serve_group.Goals as goal
@@ -49,7 +49,8 @@ returns-clause-leaves g c = λ h f.
     let runs = subst (λ (l : List Command). ServesCommands g.D.Disk old c.serve_commands.new.self l) all
     c.serve_commands.ensures.runs in
     leaves_weaker (g.D.Disk.now old.disk) (g.D.Disk.now c.serve_commands.new.self.disk) (g.D.Disk.past old.disk)
-    (g.D.Disk.past c.serve_commands.new.self.disk) (MeansCommands old (map Asks rs)) (MeansGroup old rs)
+    (g.D.Disk.past c.serve_commands.new.self.disk) (MeansEither old (after_commands old (map Asks rs)))
+    (MeansEither old (after_group old rs))
     (runs.leaves h f) (means_requests old rs counted)
 
 pub returns-clause-doubt : goal.returns-clause-doubt

@@ -9,8 +9,8 @@ use Rattle.im_checkpoint.specs.Turns.{AddsAtMost}
 use Rattle.im_journal.specs.Holding.{JournalState}
 use Rattle.im_checkpoint.specs.Keeping.{paged, Fits, IsKept}
 use Rattle.im_groups.specs.Commands.{places, answers_with, contents_after_all, most_pages_with}
-use Rattle.im_engine.specs.State.{EngineState, engine_of}
-use Rattle.im_engine.specs.Commands.{AreWhole, AreParted, commands_put, MeansCommands, CommandsAnswered, ServesCommands}
+use Rattle.im_engine.specs.State.{EngineState, engine_of, MeansEither}
+use Rattle.im_engine.specs.Commands.{AreWhole, AreParted, commands_put, CommandsAnswered, ServesCommands, after_commands}
 use Rattle.im_engine.proofs.Keeping.{all_mean, all_hold}
 use Rattle.im_engine.proofs.Members.{length_refused, length_answers}
 use Rattle.im_engine.proofs.Together.{room_for, last_for, accepts, means_group, group_done, group_failed}
@@ -75,8 +75,9 @@ returns-in-Err-clause-runs g c =
     let known = c.places_in-places.ensures.known in
     let only = λ (h : g.D.Disk.honest c.put_on.new.disk). only_weaker g.D.Disk.now g.D.Disk.past e.disk
     c.put_on.new.disk _
-    (MeansCommands (engine_of e.disk e.checkpoint e.memory e.journal e.ahead.members.items e.failed)
-    c.args.members.now.all.now)
+    (MeansEither (engine_of e.disk e.checkpoint e.memory e.journal e.ahead.members.items e.failed)
+    (after_commands (engine_of e.disk e.checkpoint e.memory e.journal e.ahead.members.items e.failed)
+    c.args.members.now.all.now))
     (c.put_on.ensures.leaves h e.checkpoint.state (paged e.checkpoint e.memory) e.memory.contents
     (contents_after_all e.memory.contents (places e.journal.count e.journal.room) c.args.members.now.all.now)
     (accepts e.disk e.checkpoint e.memory e.journal e.ahead.members.items e.failed
@@ -173,8 +174,9 @@ returns-clause-runs g c =
     c.places_in-places.ensures.places in
     let only = λ (h : g.D.Disk.honest c.put_on.new.disk). only_weaker g.D.Disk.now g.D.Disk.past e.disk
     c.put_on.new.disk _
-    (MeansCommands (engine_of e.disk e.checkpoint e.memory e.journal e.ahead.members.items e.failed)
-    c.args.members.now.all.now)
+    (MeansEither (engine_of e.disk e.checkpoint e.memory e.journal e.ahead.members.items e.failed)
+    (after_commands (engine_of e.disk e.checkpoint e.memory e.journal e.ahead.members.items e.failed)
+    c.args.members.now.all.now))
     (c.put_on.ensures.leaves h e.checkpoint.state (paged e.checkpoint e.memory) e.memory.contents
     (contents_after_all e.memory.contents (places e.journal.count e.journal.room) c.args.members.now.all.now)
     (accepts e.disk e.checkpoint e.memory e.journal e.ahead.members.items e.failed

@@ -7,7 +7,7 @@ use Rattle.im_checkpoint.proofs.Fitting.{room_fits}
 use Rattle.im_checkpoint.specs.Step.{changed_in}
 use Rattle.im_checkpoint.specs.Turns.{swept_at_once, calls_to_sweep}
 use Rattle.im_engine.specs.State.{EngineState, MeansState, engine_of, journal_of, journal_in}
-use Rattle.im_engine.specs.Run.{SweepAnswered}
+use Rattle.im_engine.specs.Answered.{SweepAnswered}
 use Rattle.im_engine.specs.Chain.{IsAhead}
 use Rattle.im_engine.proofs.Keeping.{all_hold, all_mean}
 use Rattle.im_engine.proofs.Chaining.{more_room, swept_here, calls_here}

@@ -6,7 +6,7 @@ use Rattle.im_journal.specs.Holding.{JournalState}
 use Rattle.im_checkpoint.specs.Step.{PagedCheckpoint}
 use Rattle.im_checkpoint.specs.Keeping.{paged, Fits, IsKept}
 use Rattle.im_engine.specs.State.{EngineState, MeansState, engine_of}
-use Rattle.im_engine.specs.Run.{TurnAnswered}
+use Rattle.im_engine.specs.Answered.{TurnAnswered}
 use Rattle.im_engine.specs.Chain.{IsAhead}
 use Rattle.im_engine.proofs.Keeping.{all_mean}
 use Rattle.im_engine.proofs.Chaining.{ahead_kept, turned_here}

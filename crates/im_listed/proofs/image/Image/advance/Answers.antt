@@ -1,7 +1,7 @@
 use Rattle.std.proofs.Common.{◌≡◌, inl, List, ℕ, false, IfOk, sym, ◌∙◌, ap, subst}
-use Rattle.im_engine.specs.State.{EngineState}
+use Rattle.im_engine.specs.State.{EngineState, MeansEither}
 use Rattle.im_engine.specs.Chain.{Advances, TakesNext}
-use Rattle.im_engine.specs.Commands.{MeansCommands}
+use Rattle.im_engine.specs.Commands.{after_commands}
 use Rattle.im_listed.specs.Listing.{Listing}
 use Rattle.im_listed.specs.Numbers.{told_number}
 use Rattle.im_listed.specs.Image.{ImageState, begun_in}
@@ -27,7 +27,7 @@ returns-clause-ahead c = λ alive.
       takes = subst (λ (t : EngineState Listing). IfOk c.advance-answer.result (TakesNext t next new.engine)) same
           c.advance-answer.ensures.takes;
       carried = carries_on c.args.self.now new
-          (λ (t : EngineState Listing) (file : List ℕ). MeansCommands t t.ahead file) s same (record {
+          (λ (t : EngineState Listing) (file : List ℕ). MeansEither t (after_commands t t.ahead) file) s same (record {
             same = λ is. steady_advance s new.engine next c.advance-answer.result answers
                 (told_number s.disk.failed s.disk.begun)
                 (told_number new.engine.disk.failed new.engine.disk.begun)

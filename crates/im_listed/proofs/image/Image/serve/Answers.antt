@@ -1,5 +1,5 @@
 use Rattle.std.proofs.Common.{◌≡◌, inl, List, ℕ, false, sym, ◌∙◌, ap}
-use Rattle.im_engine.specs.State.{EngineState, MeansEither}
+use Rattle.im_engine.specs.State.{EngineState, MeansEither, with_command}
 use Rattle.im_listed.specs.Listing.{Listing}
 use Rattle.im_listed.specs.Numbers.{told_number}
 use Rattle.im_listed.specs.Image.{ImageState, begun_in, tells_device}
@@ -24,7 +24,7 @@ returns-clause-carried c = λ alive.
     let calm : new.lost ≡ false → tells_device c.serve-answer.result
     ≡ false = λ is. sym c.tells_device-self-inside.ensures ∙ is in
     carries_on c.args.self.now new
-    (λ (t : EngineState Listing) (file : List ℕ). MeansEither t c.args.command.now file) s
+    (λ (t : EngineState Listing) (file : List ℕ). MeansEither t (with_command t c.args.command.now) file) s
     (c.empty_list.ensures.emptied ∙ ap (λ (i : ImageState). begun_in i) c.self.view_is) (record {
       same = λ is. steady_after c.serve-answer.result (told_number s.disk.failed s.disk.begun)
           (told_number new.engine.disk.failed new.engine.disk.begun) c.serve-answer.ensures.faults (calm is);

@@ -1,7 +1,7 @@
 use Rattle.std.proofs.Common.{◌≡◌, inl, List, ℕ, false, length, take, sym, ◌∙◌, ap, subst}
 use Rattle.im_groups.specs.Ahead.{ServesPrefix}
-use Rattle.im_engine.specs.State.{EngineState}
-use Rattle.im_engine.specs.Commands.{CommandsAnswered, MeansCommands, commands_put}
+use Rattle.im_engine.specs.State.{EngineState, MeansEither}
+use Rattle.im_engine.specs.Commands.{CommandsAnswered, commands_put, after_commands}
 use Rattle.im_listed.specs.Listing.{Listing}
 use Rattle.im_listed.specs.Image.{ImageState, begun_in}
 use Rattle.im_listed.proofs.ImageLemmas.{carries_on, start_of}
@@ -28,7 +28,7 @@ returns-clause-served c = λ alive.
       answered = subst (λ (t : EngineState Listing). CommandsAnswered t served answers new.engine) same
           c.serve_commands.ensures.answered;
       carried = carries_on c.args.self.now new
-          (λ (t : EngineState Listing) (file : List ℕ). MeansCommands t served file) s same (record {
+          (λ (t : EngineState Listing) (file : List ℕ). MeansEither t (after_commands t served) file) s same (record {
             same = λ is. runs.faults.steady (calm is ∙ sym here);
             leaves = runs.leaves tt here;
             start = λ file left. inl

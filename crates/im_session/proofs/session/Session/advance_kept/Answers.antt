@@ -1,5 +1,7 @@
 use Rattle.std.proofs.Common.{◌∙◌, ap, refl, length, arith}
 use Rattle.std.proofs.lemmas.List.{take_all}
+use Rattle.arrayvec.specs.ArrayVec.{ArrayVec}
+use Rattle.im_types.specs.declared.commands.Command.{Command}
 use Rattle.im_memory.specs.State.{MemoryState}
 use Rattle.im_engine.proofs.Advancing.{advanced_long}
 use Rattle.im_session.proofs.CallLemmas.{advance_goes}
@@ -9,13 +11,13 @@ use Rattle.im_session.proofs.session.Session.advance_kept.Goals as goal
 pub invariant_of-self : goal.invariant_of-self
 invariant_of-self g c =
     let memory = ap (λ (m : MemoryState). m.contents) c.of.ensures ∙ c.memory.ensures in
-    let places = c.of-2.ensures ∙ c.places-places.ensures in
+    let places = c.of-2.ensures ∙ c.places-places.ensures.places in
     let before = c.of-3.ensures ∙ c.failed-failed.ensures.failed in
-    let members = ap (λ v. v.items) c.of-ahead.ensures ∙ c.ahead.ensures in
+    let them = ap (λ (v : ArrayVec Command). v.items) c.of-4.ensures ∙ c.ahead.ensures in
     let long = advanced_long c.self.inside.engine c.args.next.now.items c.advance-result.result
     c.advance-result.new.served.items c.advance-result.new.self c.advance-result.ensures.answered in
     let all = take_all (length c.advance-result.new.served.items) c.self.inside.engine.ahead (omega (arith, long)) in
-    rw (c.note_ahead.ensures, memory, places, before, members, all, c.failed-failed-2.ensures.failed) (kept_on g.D.Disk
+    rw (c.note_all.ensures, memory, places, before, them, all, c.failed-failed-2.ensures.failed) (kept_on g.D.Disk
     c.self.inside.start c.self.inside.calls.sure c.self.inside.calls.doubt c.self.inside.engine
     c.advance-result.new.self c.self.invariant _ _
     (advance_goes g.D.Disk c.self.inside.engine c.advance-result.new.self c.args.next.now.items c.advance-result.result
@@ -24,13 +26,13 @@ invariant_of-self g c =
 pub returns-clause-put : goal.returns-clause-put
 returns-clause-put g c =
     let memory = ap (λ (m : MemoryState). m.contents) c.of.ensures ∙ c.memory.ensures in
-    let places = c.of-2.ensures ∙ c.places-places.ensures in
+    let places = c.of-2.ensures ∙ c.places-places.ensures.places in
     let before = c.of-3.ensures ∙ c.failed-failed.ensures.failed in
-    let members = ap (λ v. v.items) c.of-ahead.ensures ∙ c.ahead.ensures in
+    let them = ap (λ (v : ArrayVec Command). v.items) c.of-4.ensures ∙ c.ahead.ensures in
     let long = advanced_long c.self.inside.engine c.args.next.now.items c.advance-result.result
     c.advance-result.new.served.items c.advance-result.new.self c.advance-result.ensures.answered in
     let all = take_all (length c.advance-result.new.served.items) c.self.inside.engine.ahead (omega (arith, long)) in
-    rw (c.note_ahead.ensures, memory, places, before, members, all, c.failed-failed-2.ensures.failed, ← c.self.view_is)
+    rw (c.note_all.ensures, memory, places, before, them, all, c.failed-failed-2.ensures.failed, ← c.self.view_is)
     refl
 
 pub returns-clause-answered : goal.returns-clause-answered
@@ -42,13 +44,13 @@ returns-clause-takes g c = rw (← c.self.view_is) c.advance-result.ensures.take
 pub returns-clause-keeps : goal.returns-clause-keeps
 returns-clause-keeps g c =
     let memory = ap (λ (m : MemoryState). m.contents) c.of.ensures ∙ c.memory.ensures in
-    let places = c.of-2.ensures ∙ c.places-places.ensures in
+    let places = c.of-2.ensures ∙ c.places-places.ensures.places in
     let before = c.of-3.ensures ∙ c.failed-failed.ensures.failed in
-    let members = ap (λ v. v.items) c.of-ahead.ensures ∙ c.ahead.ensures in
+    let them = ap (λ (v : ArrayVec Command). v.items) c.of-4.ensures ∙ c.ahead.ensures in
     let long = advanced_long c.self.inside.engine c.args.next.now.items c.advance-result.result
     c.advance-result.new.served.items c.advance-result.new.self c.advance-result.ensures.answered in
     let all = take_all (length c.advance-result.new.served.items) c.self.inside.engine.ahead (omega (arith, long)) in
-    rw (c.note_ahead.ensures, memory, places, before, members, all, c.failed-failed-2.ensures.failed, ← c.self.view_is)
+    rw (c.note_all.ensures, memory, places, before, them, all, c.failed-failed-2.ensures.failed, ← c.self.view_is)
     (keeps_on g.D.Disk c.self.inside.start c.self.inside.calls.sure c.self.inside.calls.doubt c.self.inside.engine
     c.advance-result.new.self c.self.invariant _ _
     (advance_goes g.D.Disk c.self.inside.engine c.advance-result.new.self c.args.next.now.items c.advance-result.result

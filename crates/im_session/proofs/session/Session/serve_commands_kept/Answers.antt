@@ -1,4 +1,6 @@
 use Rattle.std.proofs.Common.{◌∙◌, ap, refl}
+use Rattle.arrayvec.specs.ArrayVec.{ArrayVec}
+use Rattle.im_types.specs.declared.commands.Command.{Command}
 use Rattle.im_memory.specs.State.{MemoryState}
 use Rattle.im_session.proofs.CallLemmas.{commands_go}
 use Rattle.im_session.proofs.KeptLemmas.{keeps_on, kept_on}
@@ -7,9 +9,10 @@ use Rattle.im_session.proofs.session.Session.serve_commands_kept.Goals as goal
 pub invariant_of-self : goal.invariant_of-self
 invariant_of-self g c =
     let memory = ap (λ (m : MemoryState). m.contents) c.of.ensures ∙ c.memory.ensures in
-    let places = c.of-2.ensures ∙ c.places-places.ensures in
+    let places = c.of-2.ensures ∙ c.places-places.ensures.places in
     let before = c.of-3.ensures ∙ c.failed-failed.ensures.failed in
-    rw (c.note_all.ensures, memory, places, before, c.failed-failed-2.ensures.failed) (kept_on g.D.Disk
+    let them = ap (λ (v : ArrayVec Command). v.items) c.of-4.ensures in
+    rw (c.note_all.ensures, memory, places, before, them, c.failed-failed-2.ensures.failed) (kept_on g.D.Disk
     c.self.inside.start c.self.inside.calls.sure c.self.inside.calls.doubt c.self.inside.engine
     c.serve_commands.new.self c.self.invariant _ _
     (commands_go g.D.Disk c.self.inside.engine c.serve_commands.new.self _ c.serve_commands.new.served.items
@@ -18,9 +21,10 @@ invariant_of-self g c =
 pub returns-clause-put : goal.returns-clause-put
 returns-clause-put g c =
     let memory = ap (λ (m : MemoryState). m.contents) c.of.ensures ∙ c.memory.ensures in
-    let places = c.of-2.ensures ∙ c.places-places.ensures in
+    let places = c.of-2.ensures ∙ c.places-places.ensures.places in
     let before = c.of-3.ensures ∙ c.failed-failed.ensures.failed in
-    rw (c.note_all.ensures, memory, places, before, c.failed-failed-2.ensures.failed, ← c.self.view_is) refl
+    let them = ap (λ (v : ArrayVec Command). v.items) c.of-4.ensures in
+    rw (c.note_all.ensures, memory, places, before, them, c.failed-failed-2.ensures.failed, ← c.self.view_is) refl
 
 pub returns-clause-answered : goal.returns-clause-answered
 returns-clause-answered g c = rw (← c.self.view_is) c.serve_commands.ensures.answered
@@ -31,9 +35,10 @@ returns-clause-begins g c = rw (← c.self.view_is) c.serve_commands.ensures.beg
 pub returns-clause-keeps : goal.returns-clause-keeps
 returns-clause-keeps g c =
     let memory = ap (λ (m : MemoryState). m.contents) c.of.ensures ∙ c.memory.ensures in
-    let places = c.of-2.ensures ∙ c.places-places.ensures in
+    let places = c.of-2.ensures ∙ c.places-places.ensures.places in
     let before = c.of-3.ensures ∙ c.failed-failed.ensures.failed in
-    rw (c.note_all.ensures, memory, places, before, c.failed-failed-2.ensures.failed, ← c.self.view_is)
+    let them = ap (λ (v : ArrayVec Command). v.items) c.of-4.ensures in
+    rw (c.note_all.ensures, memory, places, before, them, c.failed-failed-2.ensures.failed, ← c.self.view_is)
     (keeps_on g.D.Disk c.self.inside.start c.self.inside.calls.sure c.self.inside.calls.doubt c.self.inside.engine
     c.serve_commands.new.self c.self.invariant _ _
     (commands_go g.D.Disk c.self.inside.engine c.serve_commands.new.self _ c.serve_commands.new.served.items
