@@ -30,11 +30,7 @@ pub enum Answer {
     Grouped(u32, ArrayVec<Served, MAX_GROUP>),
     /// The members that were ahead, how many requests are ahead now, and the answers to those members, in their order.
     /// If it is `Device`, the commands of those members are in doubt.
-    Advanced(
-        ArrayVec<Command, MAX_GROUP>,
-        Result<usize, Refusal>,
-        ArrayVec<Served, MAX_GROUP>,
-    ),
+    Advanced(ArrayVec<Command, MAX_GROUP>, Result<usize, Refusal>, ArrayVec<Served, MAX_GROUP>),
     /// The answer to a turn.
     Turned(Result<TurnDone, Refusal>),
     /// The answer to a sweep.
