@@ -31,7 +31,7 @@ use Rattle.im_groups.proofs.EnoughLemmas.{enough-commands, enough-takes, enough-
 use Rattle.im_groups.proofs.EnoughLemmas.{at_most_members, whole-accepted}
 use Rattle.im_engine.specs.State.{EngineState, engine_of}
 use Rattle.im_engine.specs.Commands.{AreWhole, AreParted, each_refused}
-use Rattle.im_engine.specs.Chain.{AreVerdicts, IsAhead, Advances, IsComing, FitsBehind, put_ahead, places_left}
+use Rattle.im_engine.specs.Chain.{WereJudged, IsAhead, Advances, IsComing, FitsBehind, put_ahead, places_left}
 use Rattle.im_engine.specs.Chain.{calls_to_advance}
 use Rattle.im_engine.proofs.Members.{longer_none, length_refused, length_answers}
 use Rattle.im_laws.proofs.Tests.{true_or_false}
@@ -78,9 +78,9 @@ beginning next asked members k many asked_are members_are within =
 -- what was judged with as many places as were asked holds with as many as were judged
 pub told_of : (m : Contents) (asked members commands : List Command) (taken : List Bool) (many : ℕ)
     → members ≡ take many asked → commands ≡ commands_at m (length asked) (take many asked)
-    → taken ≡ takes_at m (length asked) (take many asked) → many ≤ length asked → AreVerdicts m members commands taken
+    → taken ≡ takes_at m (length asked) (take many asked) → many ≤ length asked → WereJudged m members commands taken
 told_of m asked members commands taken many members_are commands_are taken_are within =
-    subst (λ (l : List Command). AreVerdicts m l commands taken) (sym members_are) (record {
+    subst (λ (l : List Command). WereJudged m l commands taken) (sym members_are) (record {
       commands = commands_are ∙ enough-commands m (length asked) (length (take many asked)) (take many asked)
           (omega (arith, length-take many asked)) (omega arith);
       taken = taken_are ∙ enough-takes m (length asked) (length (take many asked)) (take many asked)
@@ -136,7 +136,7 @@ module _ {D : Type 0} (d : D) (c : PagedCheckpoint) (m : MemoryState) (j : Journ
 
   -- what was judged of the next members fits behind the group
   module _ (next put : List Command) (told : List Bool)
-      (judged : AreVerdicts (after m.contents (put_ahead here)) next put told)
+      (judged : WereJudged (after m.contents (put_ahead here)) next put told)
       (few : length next ≤ places_left here) where
     few_next : length put ≤ length next
     few_next = omega (
@@ -164,7 +164,7 @@ module _ {D : Type 0} (d : D) (c : PagedCheckpoint) (m : MemoryState) (j : Journ
         ap (λ (x : JournalState). x.count) journal,
         ap (λ (x : JournalState). x.room) journal,
       );
-      told = subst (λ (x : Contents). AreVerdicts x next put told) (sym (contents
+      told = subst (λ (x : Contents). WereJudged x next put told) (sym (contents
           ∙ enough-contents m.contents (length members) p members (omega arith) it.enough
           ∙ sym (at-after m.contents p members))) judged;
       laid = ap (λ (x : JournalState). x.ahead) journal;
@@ -320,7 +320,7 @@ has_room_for j next fits full = ⊎_elim
     full
 
 pub whole_of : (m : Contents) (left : ℕ) (members slice commands : List Command) (taken : List Bool)
-    → slice ≡ members → left ≡ length slice → length slice ≤ MAX_GROUP → AreVerdicts m members commands taken
+    → slice ≡ members → left ≡ length slice → length slice ≤ MAX_GROUP → WereJudged m members commands taken
     → (length commands == length members) ≡ true → AreWhole m left slice
 whole_of m left members slice commands taken same enough few told all = record {
   few = few;
@@ -331,7 +331,7 @@ whole_of m left members slice commands taken same enough few told all = record {
 }
 
 pub parted_of : (m : Contents) (left : ℕ) (members slice commands : List Command) (taken told_slice : List Bool)
-    → slice ≡ members → left ≡ length slice → length slice ≤ MAX_GROUP → AreVerdicts m members commands taken
+    → slice ≡ members → left ≡ length slice → length slice ≤ MAX_GROUP → WereJudged m members commands taken
     → told_slice ≡ taken → AreParted m left slice told_slice
 parted_of m left members slice commands taken told_slice same enough few told is = record {
   few = few;
@@ -354,7 +354,7 @@ calls_few past d d2 ahead next most (Err x) le calls = omega (arith, calls, le, 
 
 -- no more commands come than next members
 pub few_coming : (m : Contents) (next slice members commands : List Command) (taken : List Bool) → slice ≡ next
-    → AreVerdicts m members commands taken → length members ≤ length slice → length commands ≤ length next
+    → WereJudged m members commands taken → length members ≤ length slice → length commands ≤ length next
 few_coming m next slice members commands taken same told within = omega (
   arith,
   ap length told.commands,
@@ -374,7 +374,8 @@ pub advanced_long : {D : Type 0} (old : EngineState D) (next : List Command) (re
     (answers : List Served) (new : EngineState D) → Advances old next result answers new
     → length answers ≡ length old.ahead
 advanced_long {D} old next result answers new it = ⊎_elim
-    (λ (dead : old.failed ≡ true). ap (λ (l : List Served). length l) (it.dead dead).1 ∙ length_refused Failed old.ahead)
+    (λ (dead : old.failed ≡ true). ap (λ (l : List Served). length l) (it.dead dead).1 ∙ length_refused Failed
+    old.ahead)
     (λ (alive : old.failed ≡ false). ⊎_elim
     (λ done. ap (λ (l : List Served). length l) done.2
     ∙ length_answers old.memory (places old.count old.room) old.ahead)

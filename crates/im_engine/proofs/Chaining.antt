@@ -12,12 +12,12 @@ use Rattle.im_checkpoint.specs.Keeping.{StepFits, Fits}
 use Rattle.im_engine.specs.State.{journal_of}
 use Rattle.im_groups.specs.Commands.{commands_at, takes_at, contents_after_all}
 use Rattle.im_groups.proofs.CommandLemmas.{at-after}
-use Rattle.im_engine.specs.Chain.{AreVerdicts, IsAhead}
+use Rattle.im_engine.specs.Chain.{WereJudged, IsAhead}
 use Rattle.im_engine.proofs.Members.{longer_none}
 
 -- nothing is ahead
 none_told : (m : Contents) (members commands : List Command) (taken : List Bool) → members ≡ [] → commands ≡ []
-    → taken ≡ [] → AreVerdicts m members commands taken
+    → taken ≡ [] → WereJudged m members commands taken
 none_told m members commands taken none nothing told = record {
   commands = nothing ∙ sym (ap (λ (l : List Command). commands_at m (length l) l) none);
   taken = told ∙ sym (ap (λ (l : List Command). takes_at m (length l) l) none);
@@ -50,7 +50,8 @@ more_room m j k n members commands taken is it = ahead_kept m j k members comman
 -- a memory that no command changes
 pub unchanged_after : (m : Contents) (left : ℕ) (cs cmds : List Command) → cmds ≡ commands_at m left cs → cmds ≡ []
     → contents_after_all m left cs ≡ m
-unchanged_after m left cs cmds are none = sym (at-after m left cs) ∙ ap (λ (l : List Command). after m l) (sym are ∙ none)
+unchanged_after m left cs cmds are none = sym (at-after m left cs) ∙ ap (λ (l : List Command). after m l)
+    (sym are ∙ none)
 
 -- a group stays ahead where no command is put, and is no more where any is
 pub still_ahead : (m n : Contents) (j k : JournalState) (cmds members members2 commands commands2 : List Command)
@@ -59,7 +60,7 @@ pub still_ahead : (m n : Contents) (j k : JournalState) (cmds members members2 c
     → (cmds ≡ [] → n ≡ m) → IsJournal j → IsAhead m j members commands taken → IsAhead n k members2 commands2 taken2
 still_ahead m n j k [] members members2 commands commands2 taken taken2 k_is ms cs ts same known it =
     let here : k ≡ j = k_is ∙ longer_none j known in
-    let told : AreVerdicts n members2 commands2 taken2 = record {
+    let told : WereJudged n members2 commands2 taken2 = record {
       commands = cs ∙ it.told.commands
           ∙ (λ i. commands_at (sym (same refl) i) (length (sym ms i)) (sym ms i));
       taken = ts ∙ it.told.taken ∙ (λ i. takes_at (sym (same refl) i) (length (sym ms i)) (sym ms i));

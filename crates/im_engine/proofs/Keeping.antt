@@ -13,7 +13,7 @@ use Rattle.im_types.specs.Meaning.{accept_each}
 use Rattle.im_disk.specs.Moment.{Moment, Left}
 use Rattle.im_disk.specs.Since.{SameBut, LeavesNow}
 use Rattle.im_journal.specs.Holding.{JournalState, Holds, AllHold, room_after, longer, longer_tail, KeepsBoundaries}
-use Rattle.im_journal.specs.Holding.{IsPut, MayPut, MayLay, Lays, with_ahead}
+use Rattle.im_journal.specs.Holding.{IsAdded, MayPut, MayLay, Lays, with_ahead}
 use Rattle.im_journal.specs.Groups.{SameButGroup}
 use Rattle.im_journal.proofs.Slots.{slot_inside}
 use Rattle.im_memory.specs.State.{MemoryState}
@@ -166,7 +166,7 @@ module _ (c : CheckpointState) (x : Paged) (m : Contents) (j : JournalState) (no
 
     -- once they are put, the disk keeps it with the longer journal, whatever is ahead of that
     pub kept_put : (n : ℕ) (new : Moment) (k : JournalState) (next : List Command) → k ≡ with_ahead next more
-        → SameButGroup j.ring j.count n now.bytes new.bytes → new.ranges ≡ [] → IsPut n j commands now new.bytes
+        → SameButGroup j.ring j.count n now.bytes new.bytes → new.ranges ≡ [] → IsAdded n j commands now new.bytes
         → Holds k new.bytes → IsKept c x m2 k new
     kept_put n new k next k_is but calm added holds =
         let ring : SameBut j.ring.base (64 * j.ring.slots) now.bytes new.bytes = in_ring n now.bytes new.bytes but in
@@ -189,7 +189,7 @@ module _ (c : CheckpointState) (x : Paged) (m : Contents) (j : JournalState) (no
 
     -- the same with nothing more ahead
     pub kept_longer : (new : Moment) → SameButGroup j.ring j.count (length commands) now.bytes new.bytes → new.ranges
-        ≡ [] → IsPut (length commands) j commands now new.bytes → Holds (longer (length commands) j) new.bytes
+        ≡ [] → IsAdded (length commands) j commands now new.bytes → Holds (longer (length commands) j) new.bytes
         → IsKept c x m2 (longer (length commands) j) new
     kept_longer new but calm added holds = kept_put (length commands) new more more.ahead refl but calm added holds
 

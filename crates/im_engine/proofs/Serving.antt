@@ -11,7 +11,7 @@ use Rattle.im_laws.proofs.MemoryLemmas.{step-cell_count, step-window_count}
 use Rattle.im_disk.specs.Moment.{Moment, Left}
 use Rattle.im_disk.specs.Since.{Calls, CallsBy}
 use Rattle.im_disk.proofs.SinceLemmas.{left_now}
-use Rattle.im_journal.specs.Holding.{JournalState, Holds, AllHold, longer, IsPut}
+use Rattle.im_journal.specs.Holding.{JournalState, Holds, AllHold, longer, IsAdded}
 use Rattle.im_journal.specs.Groups.{SameButGroup}
 use Rattle.im_checkpoint.specs.Step.{Step, NoCheckpoint, PagesLeft, PagesDone, Synced, CheckpointState}
 use Rattle.im_checkpoint.specs.Keeping.{Paged, IsBetween, StepFits, Fits, IsKept}
@@ -60,7 +60,7 @@ module _ (c : CheckpointState) (x : Paged) (m : Contents) (j : JournalState) (no
     (kept : IsKept c x m j now) (command : Command) (accepted : is_accepted m command ≡ true) where
   pub kept_with_it : (new : Contents) → new ≡ (step m command).contents → (longer_j : JournalState) → longer_j
       ≡ longer 1 j → (after : Moment) → SameButGroup j.ring j.count 1 now.bytes after.bytes → after.ranges ≡ []
-      → ((file : List ℕ) → Left after file → IsPut 1 j (command ∷ []) now file) → AllHold longer_j after
+      → ((file : List ℕ) → Left after file → IsAdded 1 j (command ∷ []) now file) → AllHold longer_j after
       → IsKept c x new longer_j after
   kept_with_it new is longer_j more after but calm added holds =
       subst (λ (y : Contents). IsKept c x y longer_j after) (sym is)

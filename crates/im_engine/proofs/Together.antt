@@ -1,5 +1,6 @@
 -- How a group is served.
-use Rattle.std.proofs.Common.{◌≡◌, ◌⊎◌, inl, inr, ⊎_elim, ℕ, ◌+◌, ◌-◌, ◌<◌, ◌≤◌, min, Bool, true, false, List, [], length}
+use Rattle.std.proofs.Common.{◌≡◌, ◌⊎◌, inl, inr, ⊎_elim, ℕ, ◌+◌, ◌-◌, ◌<◌, ◌≤◌, min, Bool, true, false, List, []}
+use Rattle.std.proofs.Common.{length}
 use Rattle.std.proofs.Common.{Some, Result, Ok, Err, sym, ◌∙◌, ap, subst, arith}
 use Rattle.im_types.specs.declared.TheConstants.{LAST}
 use Rattle.im_types.specs.declared.commands.Command.{Command}

@@ -19,7 +19,7 @@ use Rattle.im_engine.specs.Commands.{after_commands, commands_put, answers_in_tu
 
 -- what was judged of members at this memory, with a place for each: `put` are the commands of those that are accepted,
 -- and `told` is of each whether it is
-pub record AreVerdicts (m : Contents) (members put : List Command) (told : List Bool) : Type 0 where
+pub record WereJudged (m : Contents) (members put : List Command) (told : List Bool) : Type 0 where
   pub commands : put ≡ commands_at m (length members) members
   pub taken : told ≡ takes_at m (length members) members
 
@@ -28,7 +28,7 @@ pub record AreVerdicts (m : Contents) (members put : List Command) (told : List 
 pub record IsAhead (m : Contents) (j : JournalState) (members commands : List Command)
     (taken : List Bool) : Type 0 where
   pub enough : length members ≤ places j.count j.room
-  pub told : AreVerdicts m members commands taken
+  pub told : WereJudged m members commands taken
   pub laid : j.ahead ≡ commands
 
 -- the commands of the group ahead that take places

@@ -6,11 +6,12 @@ ghost use Rattle.im_types.specs.Groups.{as_served};
 ghost use Rattle.im_types.specs.Run.{after};
 ghost use Rattle.im_disk.specs.Moment.{Moment, Faults};
 ghost use Rattle.im_journal.specs.Holding.{JournalState, AllHold, longer, with_ahead};
+ghost use Rattle.im_journal.specs.OnDisk.{KnownOf};
 ghost use Rattle.im_image.specs.Reading.{HasSizes};
 ghost use Rattle.im_checkpoint.specs.Keeping.{paged, IsKept};
 ghost use Rattle.im_groups.specs.Commands.{answers_with, contents_after_all, most_pages_with};
 ghost use Rattle.im_engine.specs.Groups.{LeavesAllOrNone, KeepsAfter, StaysBut};
-ghost use Rattle.im_engine.specs.Chain.{Advances, TakesNext, ServesAhead, FitsBehind, BehindPut, AreVerdicts, IsComing};
+ghost use Rattle.im_engine.specs.Chain.{Advances, TakesNext, ServesAhead, FitsBehind, BehindPut, WereJudged, IsComing};
 ghost use Rattle.im_engine.specs.Chain.{put_ahead};
 
 use crate::ahead::GroupAhead;
@@ -33,7 +34,7 @@ fn put_behind<D: Disk>(
     next: &ArrayVec<Command, MAX_GROUP>,
 ) -> Result<(), Refusal>
     requires fits { FitsBehind journal.old next.now.items }
-    requires holds { D.honest disk.old → AllHold journal.old (D.now disk.old) }
+    requires holds { KnownOf D.Disk disk.old (AllHold journal.old) }
     ensures leaves { D.honest disk.new → LeavesAllOrNone D.Disk journal.old journal.old.ahead disk.old disk.new }
     ensures kept { OnOk result (D.honest disk.new
         → KeepsAfter D.Disk journal.old journal.old.ahead disk.old disk.new journal.new) }
@@ -74,7 +75,7 @@ fn act_ahead(
     ahead: &GroupAhead,
     served: &mut ArrayVec<Served, MAX_GROUP>,
 )
-    requires told { AreVerdicts memory.old.contents
+    requires told { WereJudged memory.old.contents
         ahead.now.members.items ahead.now.commands.items ahead.now.taken.items }
     requires empty { served.old.items ≡ [] }
     requires sizes { HasSizes checkpoint.old.state.header.sizes memory.old.contents }
@@ -155,7 +156,7 @@ impl<D: Disk> Engine<D> {
     // Judges the next members behind the group ahead, as many as there are places for.
     fn judge_coming(&self, next: &[Command]) -> GroupAhead
         requires few { length next.now ≤ MAX_GROUP }
-        ensures told { AreVerdicts (after self.now.memory (put_ahead self.now))
+        ensures told { WereJudged (after self.now.memory (put_ahead self.now))
             result.members.items result.commands.items result.taken.items }
         ensures members { result.members.items ≡ take (length result.members.items) next.now }
         ensures begins { IsComing self.now next.now result.commands.items (length result.members.items) }

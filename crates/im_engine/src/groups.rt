@@ -9,6 +9,7 @@ ghost use Rattle.im_types.specs.Step.{step, is_accepted};
 ghost use Rattle.im_types.specs.Groups.{AreOthers, AreApart, as_served};
 ghost use Rattle.im_disk.specs.Moment.{Moment, Faults};
 ghost use Rattle.im_journal.specs.Holding.{JournalState, IsJournal, AllHold, longer};
+ghost use Rattle.im_journal.specs.OnDisk.{KnownOf};
 ghost use Rattle.im_image.specs.Reading.{HasSizes};
 ghost use Rattle.im_memory.specs.Covering.{most_pages};
 ghost use Rattle.im_checkpoint.specs.Keeping.{paged, IsKept};
@@ -90,7 +91,7 @@ pub(crate) fn put_on<D: Disk>(
     commands: &[Command],
 ) -> Result<(), Refusal>
     requires fits { FitsGroup journal.old commands.now }
-    requires holds { D.honest disk.old → AllHold journal.old (D.now disk.old) }
+    requires holds { KnownOf D.Disk disk.old (AllHold journal.old) }
     ensures leaves { D.honest disk.new → LeavesAllOrNone D.Disk journal.old commands.now disk.old disk.new }
     ensures kept { OnOk result (D.honest disk.new
         → KeepsAfter D.Disk journal.old commands.now disk.old disk.new journal.new) }

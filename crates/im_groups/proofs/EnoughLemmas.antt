@@ -138,7 +138,8 @@ whole-accepted m l (c ∷ cs) all = by_test (takes_place m l c) refl all
         → (length rest ≡ length cs → AreAccepted (contents_with m l c) cs) → AreAccepted m (c ∷ cs)
     by_test true e many few later =
         let accepted = (and_both (is_accepted m c) (nat_lt 0 l) e).0 in
-        let here : contents_with m l c ≡ (step m c).contents = ap (λ (t : Bool). if t then (step m c).contents else m) e in
+        let here : contents_with m l c ≡ (step m c).contents = ap (λ (t : Bool). if t then (step m c).contents else m)
+        e in
         ap (λ (t : Bool). if t then accept_each (step m c).contents cs else None) accepted
         ∙ ap (λ (n : Contents). accept_each n cs) (sym here)
         ∙ later (omega (arith, many))

@@ -1,5 +1,6 @@
 -- What the slots of a group that is written, or may be, do to the tail.
-use Rattle.std.proofs.Common.{◌≡◌, ◌≢◌, ◌⊎◌, inl, inr, ⊎_elim, ℕ, zero, suc, ◌+◌, ◌-◌, ◌*◌, ◌<◌, ◌≤◌, ◌==◌, ◌&&◌, nat_le, Result}
+use Rattle.std.proofs.Common.{◌≡◌, ◌≢◌, ◌⊎◌, inl, inr, ⊎_elim, ℕ, zero, suc, ◌+◌, ◌-◌, ◌*◌, ◌<◌, ◌≤◌, ◌==◌, ◌&&◌}
+use Rattle.std.proofs.Common.{nat_le, Result}
 use Rattle.std.proofs.Common.{Bool, true, false, List, [], ◌∷◌, ◌++◌, Some, option_map, length, get_or, drop, refl}
 use Rattle.std.proofs.Common.{sym, ◌∙◌, ap, subst, arith, length-append, get_or-take, get_or-drop, if◌then◌else◌}
 use Rattle.std.proofs.lemmas.Bool.{cases_eq, cases_lt, leb-true}
@@ -17,7 +18,7 @@ use Rattle.im_disk.proofs.GateLemmas.{done_same, done_there, done_kept, done_cal
 use Rattle.im_disk.proofs.SinceLemmas.{left_now, leaves_then, only_weaker}
 use Rattle.im_journal.specs.Groups.{HasBodies, AllFit, SameButBodies, SameButGroup, MayWriteBodies, AreWritten}
 use Rattle.im_journal.specs.Holding.{JournalState, journal_state, IsJournal, Holds, AllHold, room_after, ahead_after}
-use Rattle.im_journal.specs.Holding.{longer, longer_tail, KeepsBoundaries, IsPut, MayAppend, Adds, IsFullBy}
+use Rattle.im_journal.specs.Holding.{longer, longer_tail, KeepsBoundaries, IsAdded, MayAppend, Adds, IsFullBy}
 use Rattle.im_journal.proofs.Slots.{slot_inside, same_body, opened_gate, no_gate_behind, away_after}
 use Rattle.im_journal.proofs.Rings.{other_number}
 use Rattle.im_journal.proofs.Groups.{same_bodies, none_there, beside_group}
@@ -124,18 +125,21 @@ module _ {j : JournalState} {commands : List Command} {m0 : Moment} (next : IsNe
           ∙ sym held.reads
 
       kept_boundaries : get_or c at 0 ≢ open_gate → KeepsBoundaries j.ring j.first d c
-      kept_boundaries shut = boundaries_kept j.ring some_slots j.first j.count g d c t parts held.count next.some room_there same shut
+      kept_boundaries shut = boundaries_kept j.ring some_slots j.first j.count g d c t parts held.count next.some
+          room_there same shut
 
       module _ (fits : AllFit commands) (opened : is_open (slot j.ring j.count c) ≡ true)
           (bodies : HasBodies j.ring g j.count commands c) where
         added : tail j.ring j.first c ≡ Some (longer_tail j.count commands t)
-        added = tail_added j.ring some_slots j.first j.count g d c t parts held.count next.some room_there same commands refl next.few fits next.known.begun next.last opened bodies
+        added = tail_added j.ring some_slots j.first j.count g d c t parts held.count next.some room_there same
+            commands refl next.few fits next.known.begun next.last opened bodies
 
         pub added_to : tail j.ring j.first c ≡ option_map (longer_tail j.count commands) (tail j.ring j.first d)
         added_to = added ∙ ap (λ o. option_map (longer_tail j.count commands) o) (sym held.reads)
 
         pub added_boundaries : KeepsBoundaries j.ring j.first d c
-        added_boundaries = boundaries_added j.ring some_slots j.first j.count g d c t parts held.count next.some room_there same commands refl next.few fits next.known.begun next.last opened bodies
+        added_boundaries = boundaries_added j.ring some_slots j.first j.count g d c t parts held.count next.some
+            room_there same commands refl next.few fits next.known.begun next.last opened bodies
 
         pub longer_held : Holds (longer g j) c
         longer_held = record {
@@ -252,7 +256,7 @@ module _ {j : JournalState} {commands : List Command} {m0 : Moment} (next : IsNe
         opened_c : is_open (slot j.ring j.count c) ≡ true
         opened_c = opened_gate j.ring j.count c gate_c
 
-        appended : IsPut (length commands) j commands m0 c
+        appended : IsAdded (length commands) j commands m0 c
         appended = record {
           from = m0.bytes;
           left = left_now m0;

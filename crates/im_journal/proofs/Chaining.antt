@@ -9,14 +9,15 @@ use Rattle.im_types.specs.declared.commands.Command.{Command}
 use Rattle.im_types.specs.Bytes.{open_gate}
 use Rattle.im_types.specs.Slot.{is_open}
 use Rattle.im_types.specs.Journal.{Ring, slot_offset, slot, Tail, tail}
+use Rattle.im_disk.specs.declared.disk.Disk.{Ghosts}
 use Rattle.im_disk.specs.Moment.{Moment, Left}
 use Rattle.im_disk.specs.Since.{SameBut, LeavesOnly, LeavesNow}
 use Rattle.im_disk.proofs.SinceLemmas.{left_now, left_settled, leaves_then, only_weaker}
-use Rattle.im_journal.specs.Gates.{MayTouch, IsOpened}
+use Rattle.im_journal.specs.Gates.{MayTouch, HasOpened}
 use Rattle.im_journal.specs.Groups.{HasBodies, SameButBodies, SameButGroup, MayWriteBodies, AreLaid}
-use Rattle.im_journal.specs.Holding.{JournalState, journal_state, IsJournal, AreThere, Holds, AllHold, room_after}
-use Rattle.im_journal.specs.Holding.{longer}
-use Rattle.im_journal.specs.Holding.{longer_tail, with_ahead, slots_ahead, KeepsBoundaries, IsPut, MayPut, Puts}
+use Rattle.im_journal.specs.Holding.{JournalState, journal_state, IsJournal, StandAhead, Holds, AllHold, room_after}
+use Rattle.im_journal.specs.Holding.{longer, longer_tail, with_ahead, slots_ahead, KeepsBoundaries, IsAdded, MayPut}
+use Rattle.im_journal.specs.Holding.{Puts}
 use Rattle.im_journal.proofs.Slots.{slot_inside, opened_gate, no_gate_behind}
 use Rattle.im_journal.proofs.Rings.{other_number}
 use Rattle.im_journal.proofs.Groups.{same_bodies}
@@ -166,7 +167,7 @@ module _ {j : JournalState} {next : List Command} {m0 : Moment} (chain : IsChain
       boundaries_open m b = boundaries_laid k some_slots h room_next e c longer_e but m
           (added_boundaries as_next d held e group_same held.laid.fits opened_e bodies_e m b)
 
-      pub holds_open : AreThere j.ring (j.count + g) next c → Holds (with_ahead next k) c
+      pub holds_open : StandAhead j.ring (j.count + g) next c → Holds (with_ahead next k) c
       holds_open there = holds_laid k some_slots h room_next e c longer_e but next there
 
     pub may_put : Left m0 d → MayPut (g + h) j j.ahead m0 c
@@ -201,14 +202,14 @@ module _ {j : JournalState} {next : List Command} {m0 : Moment} (chain : IsChain
         may_put gated.from (chain.all gated.from gated.left) w.from gated.same c w.same gated.left
 
     -- once all is on the disk
-    module _ (o : IsOpened at m0 m1) (m2 : Moment) (w : AreLaid j.ring (j.count + g) next m1 m2) where
+    module _ (o : HasOpened at m0 m1) (m2 : Moment) (w : AreLaid j.ring (j.count + g) next m1 m2) where
       held_now : Holds j m0.bytes
       held_now = chain.all m0.bytes (left_now m0)
 
       gate_now : get_or m2.bytes at 0 ≡ open_gate
       gate_now = gate_stays m0.bytes held_now m1.bytes o.kept m2.bytes w.kept ∙ o.opened
 
-      is_put : IsPut (g + h) j j.ahead m0 m2.bytes
+      is_put : IsAdded (g + h) j j.ahead m0 m2.bytes
       is_put = record {
         from = m0.bytes;
         left = left_now m0;
@@ -221,7 +222,7 @@ module _ {j : JournalState} {next : List Command} {m0 : Moment} (chain : IsChain
 
       pub puts : (l : JournalState) → l ≡ with_ahead next k → Puts (g + h) j l j.ahead m0 m2
       puts l l_is = record {
-        added = λ c left. subst (λ (f : List ℕ). IsPut (g + h) j j.ahead m0 f) (sym (left_settled m2 c w.calm left))
+        added = λ c left. subst (λ (f : List ℕ). IsAdded (g + h) j j.ahead m0 f) (sym (left_settled m2 c w.calm left))
             is_put;
         holds = λ c left. subst (λ (f : List ℕ). Holds l f) (sym (left_settled m2 c w.calm left))
             (subst (λ (x : JournalState). Holds x m2.bytes) (sym l_is)
@@ -232,39 +233,42 @@ module _ {j : JournalState} {next : List Command} {m0 : Moment} (chain : IsChain
       }
 
 -- since the start, and at the end: while the gate is written, and then the bodies
-module _ {D : Type 0} (now : D → Moment) (past : D → List Moment) (d0 d1 : D) {s j : JournalState}
-    {l next : List Command} (is : s ≡ j) (same : l ≡ next) (chain : IsChain s l (now d0))
-    (touch : LeavesOnly now past d0 d1 (MayTouch (slot_offset s.ring s.count) (now d0))) where
+module _ {D : Type 0} (disk : Ghosts D) (d0 d1 : D) {s j : JournalState}
+    {l next : List Command} (is : s ≡ j) (same : l ≡ next) (chain : IsChain s l (disk.now d0))
+    (touch : LeavesOnly disk.now disk.past d0 d1 (MayTouch (slot_offset s.ring s.count) (disk.now d0))) where
   abbrev May : JournalState → List Command → List ℕ → Type 0
-  May x xs = MayPut (slots_ahead x xs) x x.ahead (now d0)
+  May x xs = MayPut (slots_ahead x xs) x x.ahead (disk.now d0)
 
-  moved : (d : D) → LeavesOnly now past d0 d (May s l) → LeavesOnly now past d0 d (May j next)
-  moved d only = subst (λ (x : JournalState). LeavesOnly now past d0 d (May x next)) is
-      (subst (λ (xs : List Command). LeavesOnly now past d0 d (May s xs)) same only)
+  moved : (d : D) → LeavesOnly disk.now disk.past d0 d (May s l) → LeavesOnly disk.now disk.past d0 d (May j next)
+  moved d only = subst (λ (x : JournalState). LeavesOnly disk.now disk.past d0 d (May x next)) is
+      (subst (λ (xs : List Command). LeavesOnly disk.now disk.past d0 d (May s xs)) same only)
 
-  pub gate_leaves_put : LeavesOnly now past d0 d1 (May j next)
-  gate_leaves_put = moved d1 (only_weaker now past d0 d1 (MayTouch (slot_offset s.ring s.count) (now d0)) (May s l) touch
-      (touch_puts chain))
+  pub gate_leaves_put : LeavesOnly disk.now disk.past d0 d1 (May j next)
+  gate_leaves_put = moved d1 (only_weaker disk.now disk.past d0 d1
+      (MayTouch (slot_offset s.ring s.count) (disk.now d0)) (May s l) touch (touch_puts chain))
 
   module _ (from : ℕ) (from_is : from ≡ s.count + length s.ahead) (d2 : D) where
-    pub bodies_leave_put : LeavesOnly now past d1 d2 (MayWriteBodies s.ring from (length l) (now d1))
-        → LeavesOnly now past d0 d2 (May j next)
+    pub bodies_leave_put : LeavesOnly disk.now disk.past d1 d2 (MayWriteBodies s.ring from (length l) (disk.now d1))
+        → LeavesOnly disk.now disk.past d0 d2 (May j next)
     bodies_leave_put only = moved d2 (record {
-      within = leaves_then (now d0) (now d1) (now d2) (past d0) (past d1) (past d2)
-          (MayTouch (slot_offset s.ring s.count) (now d0)) (MayWriteBodies s.ring (s.count + length s.ahead)
-          (length l) (now d1)) (May s l) touch.within there.within (touch_puts chain)
-          (lay_puts chain (now d1) touch.after);
-      after = λ c left. lay_puts chain (now d1) touch.after c (there.after c left);
+      within = leaves_then (disk.now d0) (disk.now d1) (disk.now d2) (disk.past d0) (disk.past d1) (disk.past d2)
+          (MayTouch (slot_offset s.ring s.count) (disk.now d0)) (MayWriteBodies s.ring (s.count + length s.ahead)
+          (length l) (disk.now d1)) (May s l) touch.within there.within (touch_puts chain)
+          (lay_puts chain (disk.now d1) touch.after);
+      after = λ c left. lay_puts chain (disk.now d1) touch.after c (there.after c left);
     })
       where
-        there : LeavesOnly now past d1 d2 (MayWriteBodies s.ring (s.count + length s.ahead) (length l) (now d1))
-        there = subst (λ (n : ℕ). LeavesOnly now past d1 d2 (MayWriteBodies s.ring n (length l) (now d1))) from_is only
+        there : LeavesOnly disk.now disk.past d1 d2
+            (MayWriteBodies s.ring (s.count + length s.ahead) (length l) (disk.now d1))
+        there = subst (λ (n : ℕ). LeavesOnly disk.now disk.past d1 d2
+            (MayWriteBodies s.ring n (length l) (disk.now d1))) from_is only
 
-    pub group_puts : IsOpened (slot_offset s.ring s.count) (now d0) (now d1) → AreLaid s.ring from l (now d1) (now d2)
-        → (k : JournalState) → k ≡ with_ahead l (longer (length s.ahead) s)
-        → Puts (slots_ahead j next) j k j.ahead (now d0) (now d2)
+    pub group_puts : HasOpened (slot_offset s.ring s.count) (disk.now d0) (disk.now d1)
+        → AreLaid s.ring from l (disk.now d1) (disk.now d2) → (k : JournalState) → k ≡ with_ahead l
+        (longer (length s.ahead) s)
+        → Puts (slots_ahead j next) j k j.ahead (disk.now d0) (disk.now d2)
     group_puts opened laid k k_is =
-        subst (λ (x : JournalState). Puts (slots_ahead x next) x k x.ahead (now d0) (now d2)) is
-        (subst (λ (xs : List Command). Puts (slots_ahead s xs) s k s.ahead (now d0) (now d2)) same
-        (puts chain (now d1) opened (now d2)
-        (subst (λ (n : ℕ). AreLaid s.ring n l (now d1) (now d2)) from_is laid) k k_is))
+        subst (λ (x : JournalState). Puts (slots_ahead x next) x k x.ahead (disk.now d0) (disk.now d2)) is
+        (subst (λ (xs : List Command). Puts (slots_ahead s xs) s k s.ahead (disk.now d0) (disk.now d2)) same
+        (puts chain (disk.now d1) opened (disk.now d2)
+        (subst (λ (n : ℕ). AreLaid s.ring n l (disk.now d1) (disk.now d2)) from_is laid) k k_is))

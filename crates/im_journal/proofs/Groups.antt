@@ -8,7 +8,7 @@ use Rattle.im_types.specs.declared.commands.Command.TheVariants.{Request as Asks
 use Rattle.im_types.specs.Slot.{is_open, sequence_of, group_of, slot_body, read_in, FitsCommand}
 use Rattle.im_types.specs.Journal.{Ring, slot_offset, slot, continues, with_first, if_true, leads, commands_in}
 use Rattle.im_journal.specs.Groups.{HasBodies, AllFit, SameButGroup, count_at}
-use Rattle.im_journal.specs.Holding.{AreThere}
+use Rattle.im_journal.specs.Holding.{StandAhead}
 use Rattle.im_journal.proofs.Spelling.{sequence_of-spelled, group_of-spelled, read_in-spelled}
 use Rattle.im_journal.proofs.Slots.{or_at, not_in, same_slot, goes_on}
 use Rattle.im_journal.proofs.Runs.{slots_at}
@@ -113,14 +113,14 @@ same_bodies r c d g s (command ∷ commands) same bodies =
 
 -- no commands stand everywhere
 pub none_there : (r : Ring) (s : ℕ) (commands : List Command) (file : List ℕ) → commands ≡ []
-    → AreThere r s commands file
-none_there r s commands file none = subst (λ (l : List Command). AreThere r s l file) (sym none)
+    → StandAhead r s commands file
+none_there r s commands file none = subst (λ (l : List Command). StandAhead r s l file) (sym none)
     (record { bodies = tt; fits = tt })
 
 -- commands stand where what is behind their gates is the same
 pub same_there : (r : Ring) (c d : List ℕ) (s : ℕ) (commands : List Command)
     → ((k : ℕ) → k < length commands → drop 1 (slot r (s + k) d) ≡ drop 1 (slot r (s + k) c))
-    → AreThere r s commands c → AreThere r s commands d
+    → StandAhead r s commands c → StandAhead r s commands d
 same_there r c d s commands same there = record {
   bodies = same_bodies r c d (length commands) s commands same there.bodies;
   fits = there.fits;

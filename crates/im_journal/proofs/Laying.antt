@@ -9,11 +9,12 @@ use Rattle.im_types.specs.declared.commands.Command.{Command}
 use Rattle.im_types.specs.Bytes.{open_gate}
 use Rattle.im_types.specs.Slot.{sequence_of}
 use Rattle.im_types.specs.Journal.{Ring, slot_offset, slot, IsBoundary, Tail, tail}
+use Rattle.im_disk.specs.declared.disk.Disk.{Ghosts}
 use Rattle.im_disk.specs.Moment.{Moment}
 use Rattle.im_disk.specs.Since.{SameBut, LeavesOnly}
 use Rattle.im_disk.proofs.SinceLemmas.{left_now, left_settled, only_weaker}
 use Rattle.im_journal.specs.Groups.{SameButBodies, SameButGroup, MayWriteBodies, AreLaid}
-use Rattle.im_journal.specs.Holding.{JournalState, IsJournal, AreThere, Holds, AllHold, with_ahead}
+use Rattle.im_journal.specs.Holding.{JournalState, IsJournal, StandAhead, Holds, AllHold, with_ahead}
 use Rattle.im_journal.specs.Holding.{KeepsBoundaries, SameRun}
 use Rattle.im_journal.specs.Holding.{MayLay, Lays}
 use Rattle.im_journal.proofs.Slots.{slot_inside, no_gate_behind, away, away_after}
@@ -84,7 +85,7 @@ module _ (j : JournalState) (some : 0 < j.ring.slots) (h : ℕ) (room : h ≤ j.
       (cases_lt 0 h)
 
   -- the journal with these commands ahead
-  pub holds_laid : (commands : List Command) → AreThere j.ring j.count commands c → Holds (with_ahead commands j) c
+  pub holds_laid : (commands : List Command) → StandAhead j.ring j.count commands c → Holds (with_ahead commands j) c
   holds_laid commands stands = record {
     size = subst (λ (n : ℕ). j.ring.base + 64 * j.ring.slots ≤ n) (sym same.size) held.size;
     commands = held.commands;
@@ -175,9 +176,9 @@ module _ {s j : JournalState} {l next : List Command} {m0 : Moment} (f : IsFirst
   })
 
 -- the same of a disk
-pub lay_leaves : {D : Type 0} (now : D → Moment) (past : D → List Moment) (d0 d1 : D) {s j : JournalState}
-    {l next : List Command} → IsFirst s j l next (now d0)
-    → LeavesOnly now past d0 d1 (MayWriteBodies s.ring s.count (length l) (now d0))
-    → LeavesOnly now past d0 d1 (MayLay j (now d0))
-lay_leaves now past d0 d1 {s} {j} {l} {next} f leaves = only_weaker now past d0 d1
-    (MayWriteBodies s.ring s.count (length l) (now d0)) (MayLay j (now d0)) leaves (may_lay f)
+pub lay_leaves : {D : Type 0} (disk : Ghosts D) (d0 d1 : D) {s j : JournalState}
+    {l next : List Command} → IsFirst s j l next (disk.now d0)
+    → LeavesOnly disk.now disk.past d0 d1 (MayWriteBodies s.ring s.count (length l) (disk.now d0))
+    → LeavesOnly disk.now disk.past d0 d1 (MayLay j (disk.now d0))
+lay_leaves disk d0 d1 {s} {j} {l} {next} f leaves = only_weaker disk.now disk.past d0 d1
+    (MayWriteBodies s.ring s.count (length l) (disk.now d0)) (MayLay j (disk.now d0)) leaves (may_lay f)

@@ -4,40 +4,44 @@ use Rattle.std.proofs.Common.{ap, subst, arith}
 use Rattle.im_types.specs.declared.commands.Command.{Command}
 use Rattle.im_types.specs.Bytes.{open_gate}
 use Rattle.im_types.specs.Journal.{Ring}
+use Rattle.im_disk.specs.declared.disk.Disk.{Ghosts}
 use Rattle.im_disk.specs.Moment.{Moment, Left, Torn, Shaken, MayTick, overlaid, written, synced}
 use Rattle.im_disk.specs.Since.{SameBut, LeavesOnly, LeavesNow}
 use Rattle.im_disk.proofs.OverlayLemmas.{length-overlaid, overlaid_outside, overlaid_inside}
 use Rattle.im_disk.proofs.SinceLemmas.{leaves_start, leaves_step, left_torn, left_sync}
-use Rattle.im_journal.specs.Gates.{MayTouch, IsOpened}
+use Rattle.im_journal.specs.Gates.{MayTouch, HasOpened}
 use Rattle.im_journal.specs.Groups.{MayWriteBodies, AreWritten, AreLaid}
 
 -- a gate is written
-module _ {D : Type 0} (now : D → Moment) (past : D → List Moment) (at : ℕ) (d0 d1 : D)
-    (inside : at + 1 ≤ length (now d0).bytes) where
+module _ {D : Type 0} (disk : Ghosts D) (at : ℕ) (d0 d1 : D)
+    (inside : at + 1 ≤ length (disk.now d0).bytes) where
   abbrev May : List ℕ → Type 0
-  May = MayTouch at (now d0)
+  May = MayTouch at (disk.now d0)
 
-  touched : MayTick (Torn at 1) (now d0) (now d1) (past d0) (past d1) → LeavesNow (now d1) May
+  abbrev Written : Type 0
+  Written = MayTick (Torn at 1) (disk.now d0) (disk.now d1) (disk.past d0) (disk.past d1)
+
+  touched : Written → LeavesNow (disk.now d1) May
   touched (inl same) c left = record {
     from = c;
     left = subst (λ (m : Moment). Left m c) same.0 left;
     same = record { size = refl; same = λ i out. refl };
   }
   touched (inr tick) c left =
-      let from : (d : List ℕ) × Left (now d0) d
-      × SameBut at 1 d c = left_torn at 1 (now d0) (now d1) inside tick.now c left in
+      let from : (d : List ℕ) × Left (disk.now d0) d
+      × SameBut at 1 d c = left_torn at 1 (disk.now d0) (disk.now d1) inside tick.now c left in
       record { from = from.0; left = from.1; same = from.2 }
 
-  pub touch_leaves : MayTick (Torn at 1) (now d0) (now d1) (past d0) (past d1) → LeavesOnly now past d0 d1 May
+  pub touch_leaves : Written → LeavesOnly disk.now disk.past d0 d1 May
   touch_leaves tick = record {
-    within = leaves_step (now d0) (now d0) (now d1) (past d0) (past d0) (past d1) May (Torn at 1)
-        (leaves_start (now d0) (past d0) May) tick (touched tick);
+    within = leaves_step (disk.now d0) (disk.now d0) (disk.now d1) (disk.past d0) (disk.past d0) (disk.past d1) May
+        (Torn at 1) (leaves_start (disk.now d0) (disk.past d0) May) tick (touched tick);
     after = touched tick;
   }
 
 -- and then it is open
 pub touch_opens : (at : ℕ) (m0 m1 : Moment) → at + 1 ≤ length m0.bytes → m1 ≡ written at (open_gate ∷ []) m0
-    → IsOpened at m0 m1
+    → HasOpened at m0 m1
 touch_opens at m0 m1 inside is = record {
   kept = record {
     size = ap length bytes ∙ length-overlaid m0.bytes at (open_gate ∷ []) inside;
@@ -55,18 +59,18 @@ touch_opens at m0 m1 inside is = record {
     bytes = ap (λ (x : Moment). x.bytes) is
 
 -- bodies are written, and synced
-pub synced_bodies : {D : Type 0} (now : D → Moment) (past : D → List Moment) (r : Ring) (s n : ℕ) (d0 d1 d2 : D)
-    → LeavesOnly now past d0 d1 (MayWriteBodies r s n (now d0))
-    → MayTick Shaken (now d1) (now d2) (past d1) (past d2)
-    → LeavesOnly now past d0 d2 (MayWriteBodies r s n (now d0))
-synced_bodies now past r s n d0 d1 d2 only tick = record {
-  within = leaves_step (now d0) (now d1) (now d2) (past d0) (past d1) (past d2) (MayWriteBodies r s n (now d0)) Shaken
-      only.within tick after;
+pub synced_bodies : {D : Type 0} (disk : Ghosts D) (r : Ring) (s n : ℕ) (d0 d1 d2 : D)
+    → LeavesOnly disk.now disk.past d0 d1 (MayWriteBodies r s n (disk.now d0))
+    → MayTick Shaken (disk.now d1) (disk.now d2) (disk.past d1) (disk.past d2)
+    → LeavesOnly disk.now disk.past d0 d2 (MayWriteBodies r s n (disk.now d0))
+synced_bodies disk r s n d0 d1 d2 only tick = record {
+  within = leaves_step (disk.now d0) (disk.now d1) (disk.now d2) (disk.past d0) (disk.past d1) (disk.past d2)
+      (MayWriteBodies r s n (disk.now d0)) Shaken only.within tick after;
   after = after;
 }
   where
-    after : LeavesNow (now d2) (MayWriteBodies r s n (now d0))
-    after c left = only.after c (left_sync (now d1) (now d2) (past d1) (past d2) tick c left)
+    after : LeavesNow (disk.now d2) (MayWriteBodies r s n (disk.now d0))
+    after c left = only.after c (left_sync (disk.now d1) (disk.now d2) (disk.past d1) (disk.past d2) tick c left)
 
 pub laid_now : (r : Ring) (s : ℕ) (commands : List Command) (m0 m1 m2 : Moment) → AreWritten r s commands m0 m1
     → m2 ≡ synced m1 → AreLaid r s commands m0 m2

@@ -41,6 +41,6 @@ pub record MayTouch (at : ℕ) (m : Moment) (file : List ℕ) : Type 0 where
   pub same : SameBut at 1 from file
 
 -- The gate at this offset is open for whoever reads it now, and all other bytes are as they were. It isn't synced.
-pub record IsOpened (at : ℕ) (old new : Moment) : Type 0 where
+pub record HasOpened (at : ℕ) (old new : Moment) : Type 0 where
   pub kept : SameBut at 1 old.bytes new.bytes
   pub opened : slice_index new.bytes at ≡ open_gate

@@ -1,10 +1,11 @@
 -- A journal over a disk: what its file holds, and what an append leaves.
-use Rattle.std.specs.Prelude.{◌≡◌, ◌≢◌, ◌⊎◌, ℕ, zero, suc, ◌+◌, ◌-◌, ◌*◌, ◌^◌, ◌<◌, ◌≤◌, ◌==◌, min, List, [], ◌++◌, length, drop}
+use Rattle.std.specs.Prelude.{◌≡◌, ◌≢◌, ◌⊎◌, ℕ, zero, suc, ◌+◌, ◌-◌, ◌*◌, ◌^◌, ◌<◌, ◌≤◌, ◌==◌, min, List, []}
+use Rattle.std.specs.Prelude.{◌++◌, length, drop}
 use Rattle.std.specs.Prelude.{slice_index, true, Some, option_map, if◌then◌else◌, ◌↔◌, Result, IsErrOf}
 use Rattle.im_types.specs.declared.TheConstants.{LAST, MIN_SLOTS, MAX_SLOTS, MAX_GROUP}
 use Rattle.im_types.specs.declared.commands.Command.{Command}
 use Rattle.im_types.specs.declared.refusals.Refusal.{Refusal}
-use Rattle.im_types.specs.declared.refusals.Refusal.TheVariants.{JournalFull}
+use Rattle.im_types.specs.declared.refusals.Refusal.TheVariants.{JournalFull, Device}
 use Rattle.im_types.specs.declared.sizes.Limits.{Limits}
 use Rattle.im_types.specs.Bytes.{open_gate}
 use Rattle.im_types.specs.Slot.{is_open, sequence_of}
@@ -70,7 +71,7 @@ pub record IsJournal (j : JournalState) : Type 0 where
   pub ahead : FitAhead j.count j.room j.ahead
 
 -- these commands stand behind the gates of the slots from this sequence number on, as one group
-pub record AreThere (ring : Ring) (s : ℕ) (commands : List Command) (file : List ℕ) : Type 0 where
+pub record StandAhead (ring : Ring) (s : ℕ) (commands : List Command) (file : List ℕ) : Type 0 where
   pub bodies : HasBodies ring (length commands) s commands file
   pub fits : AllFit commands
 
@@ -86,7 +87,7 @@ pub record Holds (j : JournalState) (file : List ℕ) : Type 0 where
   pub enough : j.room ≤ there
   pub behind : j.count < LAST → (k : ℕ) → j.room ≤ k → k < j.ring.slots - (j.count - j.first)
       → sequence_of (slot j.ring (j.count + k) file) < j.first
-  pub laid : AreThere j.ring j.count j.ahead file
+  pub laid : StandAhead j.ring j.count j.ahead file
 
 -- the journal is the tail of each file that a crash at this moment may leave
 abbrev pub AllHold : JournalState → Moment → Type 0
@@ -132,9 +133,9 @@ MayBeginAt j first file = IsBoundary j.ring j.first (first - j.first) file
 abbrev pub KeepsBoundaries : Ring → ℕ → List ℕ → List ℕ → Type 0
 KeepsBoundaries ring first c d = (k : ℕ) → IsBoundary ring first k c → IsBoundary ring first k d
 
--- Outside n slots behind the run, the file is one that could be left. Its tail has these commands at its end, behind one
--- open gate.
-pub record IsPut (n : ℕ) (j : JournalState) (commands : List Command) (m : Moment) (file : List ℕ) : Type 0 where
+-- Outside n slots behind the run, the file is one that could be left. Its tail has these commands at its end, behind
+-- one open gate.
+pub record IsAdded (n : ℕ) (j : JournalState) (commands : List Command) (m : Moment) (file : List ℕ) : Type 0 where
   pub from : List ℕ
   pub left : Left m from
   pub same : SameButGroup j.ring j.count n from file
@@ -146,7 +147,7 @@ pub record IsPut (n : ℕ) (j : JournalState) (commands : List Command) (m : Mom
 -- The commands are on the disk for good, and the next journal is the tail of each file left. The bytes outside n slots
 -- behind the run are as they were.
 pub record Puts (n : ℕ) (j next : JournalState) (commands : List Command) (old new : Moment) : Type 0 where
-  pub added : LeavesNow new (IsPut n j commands old)
+  pub added : LeavesNow new (IsAdded n j commands old)
   pub holds : AllHold next new
   pub kept : SameButGroup j.ring j.count n old.bytes new.bytes
   pub calm : new.ranges ≡ []
@@ -154,6 +155,10 @@ pub record Puts (n : ℕ) (j next : JournalState) (commands : List Command) (old
 -- the same, if no other slots are written
 abbrev pub Adds : JournalState → JournalState → List Command → Moment → Moment → Type 0
 Adds j next commands old new = Puts (length commands) j next commands old new
+
+-- there is no room, or a call of the disk failed
+abbrev pub IsFullOrFault : Refusal → Type 0
+IsFullOrFault e = (e ≡ JournalFull) ⊎ (e ≡ Device)
 
 -- The result is `JournalFull` exactly if this holds, and then the disk is as it was.
 pub record IsFullBy {T D : Type 0} (full : Type 0) (old new : D) (result : Result T Refusal) : Type 0 where
@@ -223,8 +228,8 @@ pub record Sweeps (j next : JournalState) (old new : Moment) : Type 0 where
 abbrev pub MayLay : JournalState → Moment → List ℕ → Type 0
 MayLay j m file = MaySweep j m file
 
--- The bodies of commands are ahead on the disk for good: the journal with them is the tail of each file left. The run is
--- as it was.
+-- The bodies of commands are ahead on the disk for good: the journal with them is the tail of each file left. The run
+-- is as it was.
 abbrev pub Lays : JournalState → JournalState → Moment → Moment → Type 0
 Lays j next old new = Sweeps j next old new
 

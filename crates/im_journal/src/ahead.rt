@@ -1,9 +1,10 @@
 //! Commands ahead of a journal's run: their bodies are on the disk, and the gate before them is opened with the sync of
 //! the next ones. So a chain of groups makes one sync for each, and one more.
-ghost use Rattle.std.specs.Prelude.{◌≡◌, ◌⊎◌, ◌+◌, ◌<◌, List, [], ℕ, length, OnOk, MatchResult};
+ghost use Rattle.std.specs.Prelude.{◌≡◌, ◌+◌, ◌<◌, List, [], ℕ, length, OnOk, MatchResult};
 ghost use Rattle.im_disk.specs.Runs.{RunsOrRefuses};
 ghost use Rattle.im_journal.specs.Holding.{IsJournal, Holds, AllHold, longer, with_ahead, slots_ahead, IsFullBy};
-ghost use Rattle.im_journal.specs.Holding.{IsFullFor, MayLay, Lays, MayPut, Puts};
+ghost use Rattle.im_journal.specs.Holding.{IsFullFor, IsFullOrFault, MayLay, Lays, MayPut, Puts};
+ghost use Rattle.im_journal.specs.OnDisk.{KnownOf, LeadsFrom};
 
 use crate::gate::write_gate;
 use crate::group::lay_bodies;
@@ -42,14 +43,12 @@ impl Journal {
         next: &ArrayVec<Command, MAX_GROUP>,
     ) -> Result<(), Refusal>
         requires none { self.old.ahead ≡ [] }
-        requires holds { D.honest disk.old → AllHold self.old (D.now disk.old) }
+        requires holds { KnownOf D.Disk disk.old (AllHold self.old) }
         // Each file that a crash may leave, from the start on, has the run and the known room.
-        ensures runs { RunsOrRefuses D.Disk disk.old disk.new result
-            (λ e. (e ≡ Refusal.JournalFull) ⊎ (e ≡ Refusal.Device)) (length next.now.items + 1)
+        ensures runs { RunsOrRefuses D.Disk disk.old disk.new result IsFullOrFault (length next.now.items + 1)
             (MayLay self.old (D.now disk.old)) }
         // Once it is done, the bodies are on the disk.
-        ensures laid { OnOk result (D.honest disk.new
-            → Lays self.old self.new (D.now disk.old) (D.now disk.new)) }
+        ensures laid { OnOk result (LeadsFrom D.Disk disk.old disk.new (Lays self.old self.new)) }
         ensures state { MatchResult result (λ _. self.new ≡ with_ahead next.now.items self.old)
             (λ _. self.new ≡ self.old) }
         ensures full { IsFullBy (IsFullFor self.old next.now.items) disk.old disk.new result }
@@ -81,14 +80,13 @@ impl Journal {
         next: &ArrayVec<Command, MAX_GROUP>,
     ) -> Result<(), Refusal>
         requires some { 0 < length self.old.ahead }
-        requires holds { D.honest disk.old → AllHold self.old (D.now disk.old) }
+        requires holds { KnownOf D.Disk disk.old (AllHold self.old) }
         // Each file that a crash may leave, from the start on, has the old run, or the old run and all that was ahead.
-        ensures runs { RunsOrRefuses D.Disk disk.old disk.new result
-            (λ e. (e ≡ Refusal.JournalFull) ⊎ (e ≡ Refusal.Device)) (length next.now.items + 2)
+        ensures runs { RunsOrRefuses D.Disk disk.old disk.new result IsFullOrFault (length next.now.items + 2)
             (MayPut (slots_ahead self.old next.now.items) self.old self.old.ahead (D.now disk.old)) }
         // Once it is done, each has what was ahead, and the bodies of the next ones.
-        ensures added { OnOk result (D.honest disk.new → Puts (slots_ahead self.old next.now.items)
-            self.old self.new self.old.ahead (D.now disk.old) (D.now disk.new)) }
+        ensures added { OnOk result (LeadsFrom D.Disk disk.old disk.new
+            (Puts (slots_ahead self.old next.now.items) self.old self.new self.old.ahead)) }
         ensures state { MatchResult result
             (λ _. self.new ≡ with_ahead next.now.items (longer (length self.old.ahead) self.old))
             (λ _. self.new ≡ self.old) }

@@ -1,8 +1,9 @@
 // Closes the gates of slots, or opens one.
 ghost use Rattle.std.specs.Prelude.{◌≡◌, ◌+◌, ◌*◌, ◌≤◌, ◌<◌, ◌^◌, length, OnOk};
 ghost use Rattle.im_disk.specs.Runs.{Runs};
-ghost use Rattle.im_journal.specs.Gates.{IsRing, MayClose, AreShut, MayTouch, IsOpened};
+ghost use Rattle.im_journal.specs.Gates.{IsRing, MayClose, AreShut, MayTouch, HasOpened};
 ghost use Rattle.im_journal.specs.Holding.{ring_at};
+ghost use Rattle.im_journal.specs.OnDisk.{LeadsFrom};
 
 use im_disk::{DeviceFault, Disk};
 use im_types::layout::{CLOSED, OPEN};
@@ -22,8 +23,7 @@ pub(crate) fn close_gates<D: Disk>(
     requires inside { D.honest disk.old → base + 64 * slots ≤ length (D.now disk.old).bytes }
     ensures runs { Runs D.Disk disk.old disk.new result (count + 1)
         (MayClose (ring_at base slots) from count (D.now disk.old)) }
-    ensures closed { OnOk result (D.honest disk.new
-        → AreShut (ring_at base slots) from count (D.now disk.old) (D.now disk.new)) }
+    ensures closed { OnOk result (LeadsFrom D.Disk disk.old disk.new (AreShut (ring_at base slots) from count)) }
 {
     for i in 0..count {
         let at = base + 64 * (((from + i as u64) % slots as u64) as usize);
@@ -37,7 +37,7 @@ pub(crate) fn close_gates<D: Disk>(
 pub(crate) fn write_gate<D: Disk>(disk: &mut D, at: usize) -> Result<(), DeviceFault>
     requires inside { D.honest disk.old → at + 1 ≤ length (D.now disk.old).bytes }
     ensures runs { Runs D.Disk disk.old disk.new result 1 (MayTouch at (D.now disk.old)) }
-    ensures opened { OnOk result (D.honest disk.new → IsOpened at (D.now disk.old) (D.now disk.new)) }
+    ensures opened { OnOk result (LeadsFrom D.Disk disk.old disk.new (HasOpened at)) }
 {
     disk.write_at(at, &[OPEN])?; // A stop may leave any byte there: the gate is closed, or open.
     Ok(())

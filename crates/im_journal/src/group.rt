@@ -3,6 +3,7 @@ ghost use Rattle.std.specs.Prelude.{◌≡◌, ◌+◌, ◌*◌, ◌≤◌, leng
 ghost use Rattle.im_disk.specs.Runs.{Runs};
 ghost use Rattle.im_journal.specs.Groups.{count_at, FitsRing, MayWriteBodies, AreWritten, AreLaid};
 ghost use Rattle.im_journal.specs.Holding.{ring_at};
+ghost use Rattle.im_journal.specs.OnDisk.{LeadsFrom};
 
 use crate::slot::spell_in;
 use im_disk::{DeviceFault, Disk};
@@ -28,8 +29,8 @@ pub(crate) fn write_bodies<D: Disk>(
     requires inside { D.honest disk.old → base + 64 * slots ≤ length (D.now disk.old).bytes }
     ensures runs { Runs D.Disk disk.old disk.new result (length commands.now)
         (MayWriteBodies (ring_at base slots) from (length commands.now) (D.now disk.old)) }
-    ensures written { OnOk result (D.honest disk.new
-        → AreWritten (ring_at base slots) from commands.now (D.now disk.old) (D.now disk.new)) }
+    ensures written { OnOk result (LeadsFrom D.Disk disk.old disk.new
+        (AreWritten (ring_at base slots) from commands.now)) }
 {
     let group = commands.len() as u8;
     let mut slot = [0; 64];
@@ -53,8 +54,7 @@ pub(crate) fn lay_bodies<D: Disk>(
     requires inside { D.honest disk.old → base + 64 * slots ≤ length (D.now disk.old).bytes }
     ensures runs { Runs D.Disk disk.old disk.new result (length commands.now + 1)
         (MayWriteBodies (ring_at base slots) from (length commands.now) (D.now disk.old)) }
-    ensures laid { OnOk result (D.honest disk.new
-        → AreLaid (ring_at base slots) from commands.now (D.now disk.old) (D.now disk.new)) }
+    ensures laid { OnOk result (LeadsFrom D.Disk disk.old disk.new (AreLaid (ring_at base slots) from commands.now)) }
 {
     write_bodies(disk, base, slots, from, commands)?;
     disk.sync()?; // A stop leaves what it could leave before: any bytes behind those gates.

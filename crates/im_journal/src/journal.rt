@@ -7,7 +7,8 @@ ghost use Rattle.im_disk.specs.Runs.{RunsOrRefuses, ReadsOrRefuses};
 ghost use Rattle.im_disk.specs.Since.{Calls};
 ghost use Rattle.im_journal.specs.Holding.{ring_in, ring_under, IsJournal, Holds, AllHold, AreClosed, IsTail};
 ghost use Rattle.im_journal.specs.Holding.{longer, MayBeginAt, rest_behind, MayAppend, Adds, IsFullBy};
-ghost use Rattle.im_journal.specs.Holding.{to_sweep, MaySweep, IsSwept, IsSweptBy, Sweeps};
+ghost use Rattle.im_journal.specs.Holding.{to_sweep, MaySweep, IsSwept, IsSweptBy, Sweeps, IsFullOrFault};
+ghost use Rattle.im_journal.specs.OnDisk.{KnownOf, LeadsFrom};
 
 use crate::bytes::read_bytes;
 use crate::gate::close_gates;
@@ -167,14 +168,12 @@ impl Journal {
     /// `JournalFull` exactly where there is no room; then no call is made. `Device` where a call of the disk failed;
     /// then the command is on the disk or not, the journal is as it was, and the image has to be opened again.
     pub fn append<D: Disk>(&mut self, disk: &mut D, command: &Command) -> Result<(), Refusal>
-        requires holds { D.honest disk.old → AllHold self.old (D.now disk.old) }
+        requires holds { KnownOf D.Disk disk.old (AllHold self.old) }
         // Each file that a crash may leave, from the start on, has the old run, or the old run and the command.
-        ensures runs { RunsOrRefuses D.Disk disk.old disk.new result
-            (λ e. (e ≡ Refusal.JournalFull) ⊎ (e ≡ Refusal.Device)) 4
+        ensures runs { RunsOrRefuses D.Disk disk.old disk.new result IsFullOrFault 4
             (MayAppend self.old (command.now ∷ []) (D.now disk.old)) }
         // Once it is done, each has the command.
-        ensures added { OnOk result (D.honest disk.new
-            → Adds self.old self.new (command.now ∷ []) (D.now disk.old) (D.now disk.new)) }
+        ensures added { OnOk result (LeadsFrom D.Disk disk.old disk.new (Adds self.old self.new (command.now ∷ []))) }
         ensures state { MatchResult result (λ _. self.new ≡ longer 1 self.old) (λ _. self.new ≡ self.old) }
         ensures full { IsFullBy (self.old.room ≡ 0) disk.old disk.new result }
     {
@@ -195,14 +194,12 @@ impl Journal {
     ) -> Result<(), Refusal>
         requires some { 0 < length commands.now }
         requires few { length commands.now ≤ MAX_GROUP }
-        requires holds { D.honest disk.old → AllHold self.old (D.now disk.old) }
+        requires holds { KnownOf D.Disk disk.old (AllHold self.old) }
         // Each file that a crash may leave, from the start on, has the old run, or the old run and all of the commands.
-        ensures runs { RunsOrRefuses D.Disk disk.old disk.new result
-            (λ e. (e ≡ Refusal.JournalFull) ⊎ (e ≡ Refusal.Device)) (length commands.now + 3)
+        ensures runs { RunsOrRefuses D.Disk disk.old disk.new result IsFullOrFault (length commands.now + 3)
             (MayAppend self.old commands.now (D.now disk.old)) }
         // Once it is done, each has the commands.
-        ensures added { OnOk result (D.honest disk.new
-            → Adds self.old self.new commands.now (D.now disk.old) (D.now disk.new)) }
+        ensures added { OnOk result (LeadsFrom D.Disk disk.old disk.new (Adds self.old self.new commands.now)) }
         ensures state { MatchResult result (λ _. self.new ≡ longer (length commands.now) self.old)
             (λ _. self.new ≡ self.old) }
         ensures full { IsFullBy ((self.old.room < length commands.now) ⊎ (LAST < self.old.count + length commands.now))
@@ -236,13 +233,12 @@ impl Journal {
     /// the known room behind it on the disk.
     pub fn sweep<D: Disk>(&mut self, disk: &mut D, most: u32) -> Result<u32, Refusal>
         requires some { 0 < to_sweep self.old }
-        requires holds { D.honest disk.old → AllHold self.old (D.now disk.old) }
+        requires holds { KnownOf D.Disk disk.old (AllHold self.old) }
         // Each file that a crash may leave, from the start on, has the run and the known room.
         ensures runs { RunsOrRefuses D.Disk disk.old disk.new result (λ e. e ≡ Refusal.Device)
             (min most (to_sweep self.old) + 1) (MaySweep self.old (D.now disk.old)) }
         // Once it is done, the room is on the disk.
-        ensures swept { OnOk result (D.honest disk.new
-            → Sweeps self.old self.new (D.now disk.old) (D.now disk.new)) }
+        ensures swept { OnOk result (LeadsFrom D.Disk disk.old disk.new (Sweeps self.old self.new)) }
         ensures room { MatchResult result (λ n. IsSweptBy most self.old n self.new) (λ _. self.new ≡ self.old) }
     {
         let next = self.count + self.room as u64;
@@ -262,13 +258,12 @@ impl Journal {
     /// the known room behind it on the disk.
     pub fn sweep_turn<D: Disk>(&mut self, disk: &mut D) -> Result<u32, Refusal>
         requires some { 0 < to_sweep self.old }
-        requires holds { D.honest disk.old → AllHold self.old (D.now disk.old) }
+        requires holds { KnownOf D.Disk disk.old (AllHold self.old) }
         // Each file that a crash may leave, from the start on, has the run and the known room.
         ensures runs { RunsOrRefuses D.Disk disk.old disk.new result (λ e. e ≡ Refusal.Device)
             (min 3 (to_sweep self.old) + 1) (MaySweep self.old (D.now disk.old)) }
         // Once it is done, the room is on the disk.
-        ensures swept { OnOk result (D.honest disk.new
-            → Sweeps self.old self.new (D.now disk.old) (D.now disk.new)) }
+        ensures swept { OnOk result (LeadsFrom D.Disk disk.old disk.new (Sweeps self.old self.new)) }
         ensures room { MatchResult result (λ n. IsSwept self.old n self.new) (λ _. self.new ≡ self.old) }
     {
         self.sweep(disk, 3)

@@ -40,7 +40,7 @@ use Rattle.im_session.proofs.EventLemmas.{by_event}
 use Rattle.im_session.proofs.GroupLemmas.{acknowledged-commands, refused-none}
 use Rattle.im_session.proofs.ServedLemmas.{not_device, unsure}
 use Rattle.im_promise.specs.Acknowledged.{calls_in_doubt, most_of, most_of_one, is_doubt, IsFailed, IsAnswer}
-use Rattle.im_promise.specs.Acknowledged.{AreAnswers, Names, ahead_by}
+use Rattle.im_promise.specs.Acknowledged.{AreAnswers, NamesAhead, ahead_by}
 
 bool_cases : (b : Bool) → (b ≡ true) ⊎ (b ≡ false)
 bool_cases true = inl refl
@@ -102,7 +102,7 @@ no_call false n is none = omega (arith, none)
 
 module _ (known : Known) where
   over_more : (e : Event) (a : Answer) (events : List Event) (answers : List Answer) (m : Contents) (n : ℕ)
-      (ahead : List Command) → is_doubt a ≡ false → in_doubt_by m n e a ≡ [] → IsFailed e a → Names ahead a
+      (ahead : List Command) → is_doubt a ≡ false → in_doubt_by m n e a ≡ [] → IsFailed e a → NamesAhead ahead a
       → ((k : Contents) (j : ℕ) → IsOver k j ahead events answers) → IsOver m n ahead (e ∷ events) (a ∷ answers)
   over_more e a events answers m n ahead sure none failed named rest = record {
     calls_none = no_call (is_doubt a) (calls_in_doubt answers) sure (rest m n).calls_none;
@@ -118,7 +118,7 @@ module _ (known : Known) where
     pub sure : is_doubt a ≡ false
     pub none : (m : Contents) (n : ℕ) → in_doubt_by m n e a ≡ []
     pub failed : IsFailed e a
-    pub named : Names old.ahead a
+    pub named : NamesAhead old.ahead a
     pub same : mid ≡ old
 
   past : {D : Type 0} (old mid : EngineState D) (e : Event) (a : Answer) → old.failed ≡ true → EventAnswered old e a mid
@@ -193,7 +193,7 @@ record GoesOn {D : Type 0} (old mid : EngineState D) (e : Event) (a : Answer) : 
   pub sure : is_doubt a ≡ false
   pub none : in_doubt_by old.memory old.count e a ≡ []
   pub answer : IsAnswer old.memory old.count e a
-  pub named : Names old.ahead a
+  pub named : NamesAhead old.ahead a
   pub calm : is_fault a ≡ false
 
 -- the disk failed in it
@@ -202,7 +202,7 @@ record Fails {D : Type 0} (old mid : EngineState D) (e : Event) (a : Answer) : T
   pub ahead : mid.ahead ≡ ahead_by old.memory old.ahead e a
   pub few : length (in_doubt_by old.memory old.count e a) ≤ max (length old.ahead) (most_of e)
   pub answer : IsAnswer old.memory old.count e a
-  pub named : Names old.ahead a
+  pub named : NamesAhead old.ahead a
   pub fault : is_fault a ≡ true
 
 no_call_more : (b : Bool) (n : ℕ) → b ≡ false → n ≤ 1 → (if b then 1 else 0) + n ≤ 1
@@ -300,7 +300,8 @@ module _ (known : Known) {D : Type 0} (old mid : EngineState D) (f : old.failed 
 
   same_count : mid ≡ old → (l : List Command) → l ≡ [] → mid.count ≡ old.count + length l
   same_count same l none =
-      ap (λ (s : EngineState D). s.count) same ∙ nothing_more old.count ∙ ap (λ (k : List Command). old.count + length k)
+      ap (λ (s : EngineState D). s.count) same ∙ nothing_more old.count ∙ ap
+      (λ (k : List Command). old.count + length k)
       (sym none)
 
   same_ahead : mid ≡ old → (l : List Command) → l ≡ [] → mid.ahead ≡ ahead_after (length l) old.ahead
@@ -312,7 +313,8 @@ module _ (known : Known) {D : Type 0} (old mid : EngineState D) (f : old.failed 
     sure_c = acknowledged_by old.memory (Serve c) (Told a)
 
     still_command : mid ≡ old → acknowledged_by old.memory (Serve c) (Told a) ≡ [] → is_doubt (Told a) ≡ false
-        → is_fault (Told a) ≡ false → IsAnswer old.memory old.count (Serve c) (Told a) → GoesOn old mid (Serve c) (Told a)
+        → is_fault (Told a) ≡ false → IsAnswer old.memory old.count (Serve c) (Told a) → GoesOn old mid (Serve c)
+        (Told a)
     still_command same none sure calm answer = record {
       works = ap (λ (s : EngineState D). s.failed) same ∙ f;
       memory = same_memory same sure_c none;
@@ -448,7 +450,8 @@ module _ (known : Known) {D : Type 0} (old mid : EngineState D) (f : old.failed 
     })
 
     by_put : (put : List Command) → group_put old members ≡ put
-        → GoesOn old mid (Together members) (Grouped room served) ⊎ Fails old mid (Together members) (Grouped room served)
+        → GoesOn old mid (Together members) (Grouped room served) ⊎ Fails old mid (Together members)
+        (Grouped room served)
     by_put [] none =
         let is = it.none f none in
         inl (told_goes is.0 (ap (λ (s : EngineState D). s.failed) is.1 ∙ f)
@@ -492,7 +495,8 @@ module _ (known : Known) {D : Type 0} (old mid : EngineState D) (f : old.failed 
           count = ap (λ (s : EngineState D). s.count) same
               ∙ ap (λ (l : List Command). old.count + length l) (sym all);
           ahead = line
-              ∙ ap (λ (x : Result ℕ Refusal). ahead_by old.memory old.ahead (Ahead next) (Advanced were x served)) (sym told);
+              ∙ ap (λ (x : Result ℕ Refusal). ahead_by old.memory old.ahead (Ahead next) (Advanced were x served))
+              (sym told);
           no_more = omega (
             arith,
             ap length line,
@@ -518,7 +522,8 @@ module _ (known : Known) {D : Type 0} (old mid : EngineState D) (f : old.failed 
     lost_ahead told answers same = record {
       dead = ap (λ (s : EngineState D). s.failed) same;
       ahead = ap (λ (s : EngineState D). s.ahead) same
-          ∙ ap (λ (x : Result ℕ Refusal). ahead_by old.memory old.ahead (Ahead next) (Advanced were x served)) (sym told);
+          ∙ ap (λ (x : Result ℕ Refusal). ahead_by old.memory old.ahead (Ahead next) (Advanced were x served))
+          (sym told);
       few = omega (arith, few_lost (is_fault (Advanced were result served)), ap length are);
       answer = inr (told, answers ∙ ap (λ (l : List Command). each_refused Device l) (sym are));
       named = are;
@@ -596,5 +601,6 @@ module _ (known : Known) where
       (λ goes. goes_on old mid e a events answers goes (told mid new events answers goes.works rest))
       (λ fails. ends old mid e a events answers fails (over known mid new events answers fails.dead rest))
       (by_event old mid (λ d x. GoesOn old mid d x ⊎ Fails old mid d x)
-      (command_goes known old mid f) (group_goes known old mid f) (ahead_goes known old mid f) (turn_goes known old mid f)
+      (command_goes known old mid f) (group_goes known old mid f) (ahead_goes known old mid f)
+      (turn_goes known old mid f)
       (sweep_goes known old mid f) e a one)

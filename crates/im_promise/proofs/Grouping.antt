@@ -160,7 +160,9 @@ group_asked old mid opened new members events answers said acted works found aga
   opened = opened;
   works = works;
   once =
-      subst (λ (k : ℕ). Recovers (after_group old members).memory k mid.ahead events answers opened.memory opened.count) acted.count
-      (subst (λ (x : Contents). Recovers x mid.count mid.ahead events answers opened.memory opened.count) acted.memory found);
+      subst (λ (k : ℕ). Recovers (after_group old members).memory k mid.ahead events answers opened.memory
+      opened.count) acted.count
+      (subst (λ (x : Contents). Recovers x mid.count mid.ahead events answers opened.memory opened.count) acted.memory
+      found);
   again = again;
 }

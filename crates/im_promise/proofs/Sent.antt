@@ -132,7 +132,8 @@ asked {D} {E} old mid now new r entry answer events answers first found again =
       once =
           subst (λ (s : EngineState E). Recovers (step old.memory (Asks r)).contents
           (count_after old.memory r old.count) mid.ahead events answers s.memory s.count) back
-          (subst (λ (k : ℕ). Recovers (step old.memory (Asks r)).contents k mid.ahead events answers now.memory now.count)
+          (subst (λ (k : ℕ). Recovers (step old.memory (Asks r)).contents k mid.ahead events answers now.memory
+          now.count)
           first.count
           (subst (λ (x : Contents). Recovers x mid.count mid.ahead events answers now.memory now.count) first.memory
           found));

@@ -61,9 +61,9 @@ IsFailed event answer = ⊥
 
 -- What an answer may be. A command gets its answer on this memory. If it would change the memory, it may get
 -- `JournalFull` or `Device` instead. The members of a group get their answers one after another, and those without room
--- get `JournalFull`. If a member would have been put on the disk, all members may get `Device` instead. Where a group is
--- put ahead, the members that were ahead get their answers one after another, or all of them `Device`: there is a place
--- for each.
+-- get `JournalFull`. If a member would have been put on the disk, all members may get `Device` instead. Where a group
+-- is put ahead, the members that were ahead get their answers one after another, or all of them `Device`: there is a
+-- place for each.
 abbrev pub IsAnswer : Contents → ℕ → Event → Answer → Type 0
 IsAnswer m count (Serve command) (Told answer) =
     ((step m command).answer ≡ answer)
@@ -79,12 +79,12 @@ IsAnswer m count (Sweep most) (DidSweep answer) = Unit {0}
 IsAnswer m count event answer = ⊥
 
 -- an answer that tells which members were ahead names these
-abbrev pub Names : List Command → Answer → Type 0
-Names members (Advanced ahead result served) = ahead.items ≡ members
-Names members answer = Unit {0}
+abbrev pub NamesAhead : List Command → Answer → Type 0
+NamesAhead members (Advanced ahead result served) = ahead.items ≡ members
+NamesAhead members answer = Unit {0}
 
--- The members that are ahead after an event. Those that were put ahead; none after `Device`. Else those that were ahead,
--- unless something was put.
+-- The members that are ahead after an event. Those that were put ahead; none after `Device`. Else those that were
+-- ahead, unless something was put.
 abbrev pub ahead_by : Contents → List Command → Event → Answer → List Command
 ahead_by m members (Ahead next) (Advanced ahead (Ok many) served) = take many (map Asks next)
 ahead_by m members (Ahead next) (Advanced ahead (Err refusal) served) = if is_device refusal then [] else members
@@ -98,7 +98,7 @@ AreAnswers failed m count ahead [] [] = Unit {0}
 AreAnswers failed m count ahead [] (answer ∷ answers) = ⊥
 AreAnswers failed m count ahead (event ∷ events) [] = ⊥
 AreAnswers true m count ahead (event ∷ events) (answer ∷ answers) =
-    IsFailed event answer × Names ahead answer × AreAnswers true m count ahead events answers
+    IsFailed event answer × NamesAhead ahead answer × AreAnswers true m count ahead events answers
 AreAnswers false m count ahead (event ∷ events) (answer ∷ answers) = let sure = acknowledged_by m event answer in
-    IsAnswer m count event answer × Names ahead answer
+    IsAnswer m count event answer × NamesAhead ahead answer
     × AreAnswers (is_fault answer) (after m sure) (count + length sure) (ahead_by m ahead event answer) events answers

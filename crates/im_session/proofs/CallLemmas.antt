@@ -24,7 +24,8 @@ use Rattle.im_engine.specs.Commands.{CommandsAnswered, ServesCommands, after_com
 use Rattle.im_engine.proofs.Accepting.{accepted_answers}
 use Rattle.im_session.specs.Put.{sure_by, doubted_by, sure_of, doubted_of}
 use Rattle.im_session.proofs.AcceptedLemmas.{accepted_each, one_accepted}
-use Rattle.im_session.proofs.KeptLemmas.{Accepted, CallLeaves, GoesOn, Puts, Stays, all_of, none_of, puts_all, puts_none}
+use Rattle.im_session.proofs.KeptLemmas.{Accepted, CallLeaves, GoesOn, Puts, Stays, all_of, none_of, puts_all}
+use Rattle.im_session.proofs.KeptLemmas.{puts_none}
 use Rattle.im_session.proofs.KeptLemmas.{MeansWithOrWithout, puts_nothing, rose_by, steady_by}
 use Rattle.im_session.proofs.ServedLemmas.{not_device, undoubted, unsure}
 
@@ -45,7 +46,8 @@ module _ {D : Type 0} (disk : Ghosts D) (mid new : EngineState D) (c : Command) 
 
   either : (file : List ℕ) → MeansEither mid (with_command mid c) file → MeansWithOrWithout mid [] (c ∷ []) file
   either file (inl old) = none_of mid (c ∷ []) file old
-  either file (inr with_it) = inr (all_of mid (c ∷ []) (step mid.memory c).contents (mid.count + 1) _ file refl refl with_it)
+  either file (inr with_it) = inr (all_of mid (c ∷ []) (step mid.memory c).contents (mid.count + 1) _ file refl refl
+      with_it)
 
   accepted : mid.failed ≡ false → is_accepted mid.memory c ≡ true → Goes
   accepted f e = ⊎_elim
@@ -86,33 +88,34 @@ module _ {D : Type 0} (disk : Ghosts D) (mid new : EngineState D) (c : Command) 
 
 -- ---- a turn, and a sweep
 
-module _ {D : Type 0} (disk : Ghosts D) (mid new : EngineState D) (call : CallLeaves disk mid new (MeansState mid)) where
-  stood : (file : List ℕ) → MeansState mid file → MeansWithOrWithout mid [] [] file
-  stood file image = none_of mid [] file image
+module _ {D : Type 0} (disk : Ghosts D) (mid new : EngineState D) (call : CallLeaves disk mid new (MeansState mid))
+  where
+    stood : (file : List ℕ) → MeansState mid file → MeansWithOrWithout mid [] [] file
+    stood file image = none_of mid [] file image
 
-  pub turn_goes : (a : Result TurnDone Refusal) → TurnAnswered mid a new
-      → Faults (λ e. Unit {0}) a (disk.failures mid.disk) (disk.failures new.disk) → GoesOn disk mid new [] []
-  turn_goes a it cause = ⊎_elim
-      (λ dead. inl (record { same = (it.dead dead).1; none_sure = refl; none_doubted = refl }))
-      (λ f. inr (⊎_elim
-      (λ done. puts_all disk mid new (MeansState mid) call f [] refl stood done.2.memory
-      (let n = done.2.count in omega (arith, n)) done.2.alive (steady_by a done.0 _ _ cause done.1))
-      (λ fault. puts_none disk mid new (MeansState mid) call f [] refl stood fault.1 (rose_by a _ _ cause fault.0))
-      (it.alive f)))
-      (true_or_false mid.failed)
+    pub turn_goes : (a : Result TurnDone Refusal) → TurnAnswered mid a new
+        → Faults (λ e. Unit {0}) a (disk.failures mid.disk) (disk.failures new.disk) → GoesOn disk mid new [] []
+    turn_goes a it cause = ⊎_elim
+        (λ dead. inl (record { same = (it.dead dead).1; none_sure = refl; none_doubted = refl }))
+        (λ f. inr (⊎_elim
+        (λ done. puts_all disk mid new (MeansState mid) call f [] refl stood done.2.memory
+        (let n = done.2.count in omega (arith, n)) done.2.alive (steady_by a done.0 _ _ cause done.1))
+        (λ fault. puts_none disk mid new (MeansState mid) call f [] refl stood fault.1 (rose_by a _ _ cause fault.0))
+        (it.alive f)))
+        (true_or_false mid.failed)
 
-  pub sweep_goes : (most : ℕ) (a : Result ℕ Refusal) → SweepAnswered mid most a new
-      → Faults (λ e. Unit {0}) a (disk.failures mid.disk) (disk.failures new.disk) → GoesOn disk mid new [] []
-  sweep_goes most a it cause = ⊎_elim
-      (λ dead. inl (record { same = (it.dead dead).1; none_sure = refl; none_doubted = refl }))
-      (λ f. inr (⊎_elim
-      (λ done. puts_all disk mid new (MeansState mid) call f [] refl stood
-      (ap (λ (s : EngineState D). s.memory) done.1)
-      (let n = ap (λ (s : EngineState D). s.count) done.1 in omega (arith, n))
-      (ap (λ (s : EngineState D). s.failed) done.1 ∙ f) (steady_by a _ _ _ cause done.0))
-      (λ fault. puts_none disk mid new (MeansState mid) call f [] refl stood fault.1 (rose_by a _ _ cause fault.0))
-      (it.alive f)))
-      (true_or_false mid.failed)
+    pub sweep_goes : (most : ℕ) (a : Result ℕ Refusal) → SweepAnswered mid most a new
+        → Faults (λ e. Unit {0}) a (disk.failures mid.disk) (disk.failures new.disk) → GoesOn disk mid new [] []
+    sweep_goes most a it cause = ⊎_elim
+        (λ dead. inl (record { same = (it.dead dead).1; none_sure = refl; none_doubted = refl }))
+        (λ f. inr (⊎_elim
+        (λ done. puts_all disk mid new (MeansState mid) call f [] refl stood
+        (ap (λ (s : EngineState D). s.memory) done.1)
+        (let n = ap (λ (s : EngineState D). s.count) done.1 in omega (arith, n))
+        (ap (λ (s : EngineState D). s.failed) done.1 ∙ f) (steady_by a _ _ _ cause done.0))
+        (λ fault. puts_none disk mid new (MeansState mid) call f [] refl stood fault.1 (rose_by a _ _ cause fault.0))
+        (it.alive f)))
+        (true_or_false mid.failed)
 
 -- ---- commands that are put together
 
@@ -229,7 +232,8 @@ module _ {D : Type 0} (disk : Ghosts D) (mid new : EngineState D) (next : List C
       let dead : new.failed ≡ true = ap (λ (s : EngineState D). s.failed) fault.2 in
       let sure : sure_of new.failed put ≡ [] = ap (λ (b : Bool). sure_of b put) dead in
       let doubt : doubted_of mid.failed new.failed put ≡ put = ap₂ (λ (b f : Bool). doubted_of b f put) works dead in
-      inr (rw (sure, doubt) (puts_nothing disk mid new (MeansEither mid (after_commands mid mid.ahead)) call_ahead works put
+      inr (rw (sure, doubt) (puts_nothing disk mid new (MeansEither mid (after_commands mid mid.ahead)) call_ahead
+      works put
       (all_accepted mid mid.ahead) (both mid mid.ahead) dead (ap (λ (s : EngineState D). s.memory) fault.2)
       (ap (λ (s : EngineState D). s.count) fault.2) (rose_by result _ _ cause fault.0))))
       (did.alive works)

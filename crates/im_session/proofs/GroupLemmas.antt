@@ -14,7 +14,8 @@ use Rattle.im_types.specs.Contents.{Contents}
 use Rattle.im_types.specs.Run.{after}
 use Rattle.im_types.specs.Meaning.{Reached}
 use Rattle.im_types.specs.Step.{step, is_accepted}
-use Rattle.im_types.specs.Groups.{as_served, is_new, is_put, with_request, answer_of, reached_by_one, answers_of, puts_of}
+use Rattle.im_types.specs.Groups.{as_served, is_new, is_put, with_request, answer_of, reached_by_one, answers_of}
+use Rattle.im_types.specs.Groups.{puts_of}
 use Rattle.im_laws.proofs.Tests.{true_false, true_or_false}
 use Rattle.im_engine.specs.State.{EngineState}
 use Rattle.im_engine.specs.Answered.{is_device}
@@ -246,7 +247,8 @@ module _ {D : Type 0} (old new : EngineState D) (next : List Command) (ahead : A
   were = commands_put old old.ahead
 
   abbrev lost_ahead : List Command
-  lost_ahead = if is_fault (Advanced ahead result served) then commands_at old.memory (length ahead.items) ahead.items else []
+  lost_ahead = if is_fault (Advanced ahead result served) then commands_at old.memory (length ahead.items) ahead.items
+      else []
 
   -- what is acknowledged of it, and what is in doubt
   pub record AheadPuts : Type 0 where

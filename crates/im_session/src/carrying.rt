@@ -36,7 +36,8 @@ pub fn prefixes_carry<D: Disk, P: Property>()
 /// `Failed`, it never does.
 pub fn groups_acknowledge_what_they_put()
     ensures put { (s : Reached) (members : List Request)
-        → acknowledged_members s.contents (map Asks members) (map as_served (answers_of s members)) ≡ puts_of s members }
+        → acknowledged_members s.contents (map Asks members) (map as_served (answers_of s members))
+        ≡ puts_of s members }
     ensures works { (s : Reached) (members : List Request)
         → has_device (map as_served (answers_of s members)) ≡ false }
     ensures refused { (m : Contents) (refusal : Refusal) (members : List Request)

@@ -87,8 +87,8 @@ impl<D: Disk> Session<D> {
             members: Snapshot::of(self.engine.ahead()),
         };
         let result = self.engine.advance(next, served);
-        let failed = self.engine.failed();
-        self.calls.note_all(found, served, failed);
+        let has_failed = self.engine.failed();
+        self.calls.note_all(found, served, has_failed);
         result
     }
 

@@ -58,8 +58,8 @@ impl<D: Disk> Session<D> {
     /// Serves commands and groups, puts groups ahead, makes turns and sweeps in their order, and gives the answer to
     /// each.
     ///
-    /// What is acknowledged is put. Where a command or a group was answered `Device`, its commands are in doubt; where a
-    /// group that is put ahead was, those of the group that was ahead of it: what was only put ahead has no effect.
+    /// What is acknowledged is put. Where a command or a group was answered `Device`, its commands are in doubt; where
+    /// a group that is put ahead was, those of the group that was ahead of it: what was only put ahead has no effect.
     /// `NoMemory` where `alloc` refused the room for the answers: then nothing was done.
     pub fn run(&mut self, alloc: Global, events: &[Event]) -> Result<Vec<Answer>, Refusal>
         ensures answers { IfOk result (λ v. AnsweredInTurn self.old.engine events.now v.items self.new.engine) }

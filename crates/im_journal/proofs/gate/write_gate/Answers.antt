@@ -6,7 +6,7 @@ pub returns-in_err-write_at-clause-runs : goal.returns-in_err-write_at-clause-ru
 returns-in_err-write_at-clause-runs g c = record {
   honest = search rules;
   leaves = λ h.
-      touch_leaves g.D.Disk.now g.D.Disk.past c.args.at c.args.disk.now c.write_at.new.self
+      touch_leaves g.D.Disk c.args.at c.args.disk.now c.write_at.new.self
       (c.requires.inside (c.write_at.ensures.honest h)) (c.write_at.ensures.moment h);
   calls = search rules;
   failures = search rules;
@@ -16,7 +16,7 @@ pub returns-clause-runs : goal.returns-clause-runs
 returns-clause-runs g c = record {
   honest = search rules;
   leaves = λ h.
-      touch_leaves g.D.Disk.now g.D.Disk.past c.args.at c.args.disk.now c.write_at.new.self
+      touch_leaves g.D.Disk c.args.at c.args.disk.now c.write_at.new.self
       (c.requires.inside (c.write_at.ensures.honest h)) (c.write_at.ensures.moment h);
   calls = search rules;
   failures = search rules;

@@ -8,7 +8,7 @@ returns-in_err-sync-clause-runs g c = record {
   honest = search rules;
   leaves = λ h1.
       let h = c.sync.ensures.honest h1 in
-      synced_bodies g.D.Disk.now g.D.Disk.past (ring_at c.args.base c.args.slots) c.args.«from»
+      synced_bodies g.D.Disk (ring_at c.args.base c.args.slots) c.args.«from»
       (length c.args.commands.now) c.args.disk.now c.write_bodies.new.disk c.sync.new.self
       (c.write_bodies.ensures.runs.leaves h) (c.sync.ensures.moment h1);
   calls = search rules;
@@ -20,7 +20,7 @@ returns-clause-runs g c = record {
   honest = search rules;
   leaves = λ h1.
       let h = c.sync.ensures.honest h1 in
-      synced_bodies g.D.Disk.now g.D.Disk.past (ring_at c.args.base c.args.slots) c.args.«from»
+      synced_bodies g.D.Disk (ring_at c.args.base c.args.slots) c.args.«from»
       (length c.args.commands.now) c.args.disk.now c.write_bodies.new.disk c.sync.new.self
       (c.write_bodies.ensures.runs.leaves h) (c.sync.ensures.moment h1);
   calls = search rules;

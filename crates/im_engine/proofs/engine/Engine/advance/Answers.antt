@@ -12,7 +12,7 @@ use Rattle.im_groups.specs.Commands.{places, contents_after_all}
 use Rattle.im_groups.proofs.EnoughLemmas.{enough-contents}
 use Rattle.im_engine.specs.State.{EngineState, engine_of, MeansEither}
 use Rattle.im_engine.specs.Commands.{after_commands}
-use Rattle.im_engine.specs.Chain.{Advances, ServesAhead, AreVerdicts, IsComing, put_ahead}
+use Rattle.im_engine.specs.Chain.{Advances, ServesAhead, WereJudged, IsComing, put_ahead}
 use Rattle.im_engine.specs.Chain.{places_left, calls_to_advance}
 use Rattle.im_engine.proofs.Keeping.{all_mean, all_hold}
 use Rattle.im_engine.proofs.Together.{means_group, fits_group}
@@ -57,7 +57,7 @@ put_behind-requires-clause-fits g c =
     let next = c.judge_coming-coming.result in
     fits e.disk e.checkpoint e.memory e.journal ms cs ts e.failed known it next.members.items next.commands.items
     next.taken.items
-    (subst (λ (s : EngineState g.row.D.Denot). AreVerdicts (after s.memory (put_ahead s)) next.members.items
+    (subst (λ (s : EngineState g.row.D.Denot). WereJudged (after s.memory (put_ahead s)) next.members.items
     next.commands.items next.taken.items) (sym c.self.view_is) c.judge_coming-coming.ensures.told)
     (subst (λ (s : EngineState g.row.D.Denot). length next.members.items ≤ places_left s) (sym c.self.view_is)
     c.judge_coming-coming.ensures.begins.few)
@@ -189,7 +189,7 @@ invariant_of-self-2 g c =
       λ h f. kept h,
       next_ahead e.disk e.checkpoint e.memory e.journal ms cs ts e.failed known it next.members.items
           next.commands.items next.taken.items
-          (subst (λ (s : EngineState g.row.D.Denot). AreVerdicts (after s.memory (put_ahead s)) next.members.items
+          (subst (λ (s : EngineState g.row.D.Denot). WereJudged (after s.memory (put_ahead s)) next.members.items
           next.commands.items next.taken.items) (sym c.self.view_is) c.judge_coming-coming.ensures.told)
           (subst (λ (s : EngineState g.row.D.Denot). length next.members.items ≤ places_left s) (sym c.self.view_is)
           c.judge_coming-coming.ensures.begins.few)
@@ -232,7 +232,7 @@ returns-clause-runs g c =
     (c.self.invariant.1 (c.put_behind.ensures.honest h) alive))) in
     let ahead2 = next_ahead e.disk e.checkpoint e.memory e.journal ms cs ts e.failed known it next.members.items
     next.commands.items next.taken.items
-    (subst (λ (s : EngineState g.row.D.Denot). AreVerdicts (after s.memory (put_ahead s)) next.members.items
+    (subst (λ (s : EngineState g.row.D.Denot). WereJudged (after s.memory (put_ahead s)) next.members.items
     next.commands.items next.taken.items) (sym c.self.view_is) c.judge_coming-coming.ensures.told)
     (subst (λ (s : EngineState g.row.D.Denot). length next.members.items ≤ places_left s) (sym c.self.view_is)
     c.judge_coming-coming.ensures.begins.few)
@@ -276,7 +276,7 @@ returns-clause-takes g c =
     let next = c.judge_coming-coming.result in
     let ahead2 = next_ahead e.disk e.checkpoint e.memory e.journal ms cs ts e.failed known it next.members.items
     next.commands.items next.taken.items
-    (subst (λ (s : EngineState g.row.D.Denot). AreVerdicts (after s.memory (put_ahead s)) next.members.items
+    (subst (λ (s : EngineState g.row.D.Denot). WereJudged (after s.memory (put_ahead s)) next.members.items
     next.commands.items next.taken.items) (sym c.self.view_is) c.judge_coming-coming.ensures.told)
     (subst (λ (s : EngineState g.row.D.Denot). length next.members.items ≤ places_left s) (sym c.self.view_is)
     c.judge_coming-coming.ensures.begins.few)

@@ -4,7 +4,7 @@ use Rattle.im_types.specs.Run.{after}
 use Rattle.im_groups.specs.Commands.{places}
 use Rattle.im_groups.specs.Ahead.{AreAccepted, ServesBehind}
 use Rattle.im_engine.specs.State.{EngineState, engine_of}
-use Rattle.im_engine.specs.Chain.{AreVerdicts, IsComing, put_ahead}
+use Rattle.im_engine.specs.Chain.{WereJudged, IsComing, put_ahead}
 use Rattle.im_engine.proofs.Advancing.{put_is, few_put, accepted, coming, told_of, beginning}
 use Rattle.im_engine.proofs.engine.Engine.judge_coming.Goals as goal
 
@@ -40,9 +40,9 @@ returns-clause-told g c =
     let e = c.self.inside in
     let is = c.as_slice-group.ensures.value ∙ put_is e.disk e.checkpoint e.memory e.journal e.ahead.members.items
     e.ahead.commands.items e.ahead.taken.items e.failed c.places_in-places.ensures.known c.self.invariant.2 in
-    subst (λ (s : EngineState g.row.D.Denot). AreVerdicts (after s.memory (put_ahead s)) c.copy_members.new.copies.items
+    subst (λ (s : EngineState g.row.D.Denot). WereJudged (after s.memory (put_ahead s)) c.copy_members.new.copies.items
     c.judge_next-many.new.commands.items c.judge_next-many.new.taken.items) c.self.view_is
-    (subst (λ (l : List Command). AreVerdicts (after e.memory.contents l) c.copy_members.new.copies.items
+    (subst (λ (l : List Command). WereJudged (after e.memory.contents l) c.copy_members.new.copies.items
     c.judge_next-many.new.commands.items c.judge_next-many.new.taken.items) is
     (told_of (after e.memory.contents c.as_slice-group.result.now) (take c.min-most.result c.args.next.now)
     c.copy_members.new.copies.items c.judge_next-many.new.commands.items c.judge_next-many.new.taken.items

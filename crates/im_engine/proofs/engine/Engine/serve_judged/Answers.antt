@@ -10,7 +10,8 @@ use Rattle.im_journal.specs.Holding.{JournalState}
 use Rattle.im_checkpoint.specs.Keeping.{paged, Fits, IsKept}
 use Rattle.im_groups.specs.Commands.{places, answers_with, contents_after_all, most_pages_with}
 use Rattle.im_engine.specs.State.{EngineState, engine_of, MeansEither}
-use Rattle.im_engine.specs.Commands.{AreWhole, AreParted, commands_put, CommandsAnswered, ServesCommands, after_commands}
+use Rattle.im_engine.specs.Commands.{AreWhole, AreParted, commands_put, CommandsAnswered, ServesCommands}
+use Rattle.im_engine.specs.Commands.{after_commands}
 use Rattle.im_engine.proofs.Keeping.{all_mean, all_hold}
 use Rattle.im_engine.proofs.Members.{length_refused, length_answers}
 use Rattle.im_engine.proofs.Together.{room_for, last_for, accepts, means_group, group_done, group_failed}

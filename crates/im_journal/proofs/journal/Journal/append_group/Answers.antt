@@ -11,7 +11,8 @@ returns-in-Err-clause-runs g c = record {
       let h0 = c.write_bodies.ensures.runs.honest h in
       bodies_leave g.D.Disk.now g.D.Disk.past c.args.disk.now c.write_bodies.new.disk c.self.view_is
       (next_of (journal_state c.self.inside.base c.self.inside.slots c.self.inside.first c.self.inside.count
-      c.self.inside.room c.self.inside.laid) c.args.self.now c.args.commands.now (g.D.Disk.now c.args.disk.now) c.has_room.result
+      c.self.inside.room c.self.inside.laid) c.args.self.now c.args.commands.now (g.D.Disk.now c.args.disk.now)
+      c.has_room.result
       c.self.view_is c.self.invariant
       (c.requires.holds h0) c.requires.some c.requires.few c.has_room.ensures c.if-not-has_room.false)
       (c.write_bodies.ensures.runs.leaves h);
@@ -27,7 +28,8 @@ returns-in-Err-open_gate-clause-runs g c = record {
       let h0 = c.write_bodies.ensures.runs.honest h in
       gate_leaves g.D.Disk.now g.D.Disk.past c.args.disk.now c.write_bodies.new.disk c.self.view_is
       (next_of (journal_state c.self.inside.base c.self.inside.slots c.self.inside.first c.self.inside.count
-      c.self.inside.room c.self.inside.laid) c.args.self.now c.args.commands.now (g.D.Disk.now c.args.disk.now) c.has_room.result
+      c.self.inside.room c.self.inside.laid) c.args.self.now c.args.commands.now (g.D.Disk.now c.args.disk.now)
+      c.has_room.result
       c.self.view_is c.self.invariant
       (c.requires.holds h0) c.requires.some c.requires.few c.has_room.ensures c.if-not-has_room.false)
       (c.write_bodies.ensures.runs.leaves h) (c.in_default.ensures.written h) c.open_gate.new.disk
@@ -44,7 +46,8 @@ returns-clause-runs g c = record {
       let h0 = c.write_bodies.ensures.runs.honest h in
       gate_leaves g.D.Disk.now g.D.Disk.past c.args.disk.now c.write_bodies.new.disk c.self.view_is
       (next_of (journal_state c.self.inside.base c.self.inside.slots c.self.inside.first c.self.inside.count
-      c.self.inside.room c.self.inside.laid) c.args.self.now c.args.commands.now (g.D.Disk.now c.args.disk.now) c.has_room.result
+      c.self.inside.room c.self.inside.laid) c.args.self.now c.args.commands.now (g.D.Disk.now c.args.disk.now)
+      c.has_room.result
       c.self.view_is c.self.invariant
       (c.requires.holds h0) c.requires.some c.requires.few c.has_room.ensures c.if-not-has_room.false)
       (c.write_bodies.ensures.runs.leaves h) (c.in_default.ensures.written h) c.open_gate.new.disk
@@ -58,7 +61,9 @@ returns-clause-added g c = λ h2.
     let h = c.open_gate.ensures.runs.honest h2 in
     let h0 = c.write_bodies.ensures.runs.honest h in
     group_adds g.D.Disk.now g.D.Disk.past c.args.disk.now c.write_bodies.new.disk c.self.view_is
-    (next_of (journal_state c.self.inside.base c.self.inside.slots c.self.inside.first c.self.inside.count c.self.inside.room c.self.inside.laid) c.args.self.now c.args.commands.now (g.D.Disk.now c.args.disk.now) c.has_room.result
+    (next_of (journal_state c.self.inside.base c.self.inside.slots c.self.inside.first c.self.inside.count
+    c.self.inside.room c.self.inside.laid) c.args.self.now c.args.commands.now (g.D.Disk.now c.args.disk.now)
+    c.has_room.result
     c.self.view_is c.self.invariant
     (c.requires.holds h0) c.requires.some c.requires.few c.has_room.ensures c.if-not-has_room.false)
     (c.write_bodies.ensures.runs.leaves h) (c.in_default.ensures.written h) c.open_gate.new.disk
@@ -79,7 +84,8 @@ invariant_of-self g c =
     c.has_room.ensures c.if-not-has_room.false in
     let none = ap length c.none.ensures in
     known_longer (journal_state c.self.inside.base c.self.inside.slots c.self.inside.first c.self.inside.count
-    c.self.inside.room c.self.inside.laid) c.self.invariant (length c.args.commands.now) c.none.result (omega (arith, none))
+    c.self.inside.room c.self.inside.laid) c.self.invariant (length c.args.commands.now) c.none.result
+    (omega (arith, none))
     (omega (arith, none, fits.0)) (omega (arith, none, fits.1)) _
     (ap (λ (j : JournalState). with_ahead c.none.result j)
     (longer_state c.self.inside.base c.self.inside.slots c.self.inside.first c.self.inside.count c.self.inside.room

@@ -5,7 +5,8 @@ use Rattle.im_journal.proofs.Fitting.{known_none, holds_none}
 use Rattle.im_journal.proofs.journal.Journal.forget_ahead.Goals as goal
 
 pub invariant_of-self : goal.invariant_of-self
-invariant_of-self c = known_none (journal_state c.self.inside.base c.self.inside.slots c.self.inside.first c.self.inside.count
+invariant_of-self c = known_none (journal_state c.self.inside.base c.self.inside.slots c.self.inside.first
+    c.self.inside.count
     c.self.inside.room c.self.inside.laid) c.self.invariant c.none.result c.none.ensures
 
 pub returns-clause-state : goal.returns-clause-state
@@ -15,5 +16,6 @@ returns-clause-state c =
     ap with_these c.none.ensures ∙ ap (λ (j : JournalState). with_ahead [] j) c.self.view_is
 
 pub returns-clause-holds : goal.returns-clause-holds
-returns-clause-holds c = holds_none (journal_state c.self.inside.base c.self.inside.slots c.self.inside.first c.self.inside.count
+returns-clause-holds c = holds_none (journal_state c.self.inside.base c.self.inside.slots c.self.inside.first
+    c.self.inside.count
     c.self.inside.room c.self.inside.laid) c.args.self.now c.none.result c.self.view_is c.none.ensures

@@ -11,7 +11,7 @@ returns-in-Err-clause-runs g c = record {
   honest = search rules;
   leaves = λ h.
       let h0 = c.lay_bodies.ensures.runs.honest h in
-      lay_leaves g.D.Disk.now g.D.Disk.past c.args.disk.now c.lay_bodies.new.disk
+      lay_leaves g.D.Disk c.args.disk.now c.lay_bodies.new.disk
       (first_of (journal_state c.self.inside.base c.self.inside.slots c.self.inside.first c.self.inside.count
       c.self.inside.room c.self.inside.laid) c.args.self.now c.as_slice-slice.result.now c.args.next.now.items
       (g.D.Disk.now c.args.disk.now) (length c.as_slice-slice.result.now) c.has_room.result c.self.view_is
@@ -27,7 +27,7 @@ returns-clause-runs g c = record {
   honest = search rules;
   leaves = λ h.
       let h0 = c.lay_bodies.ensures.runs.honest h in
-      lay_leaves g.D.Disk.now g.D.Disk.past c.args.disk.now c.lay_bodies.new.disk
+      lay_leaves g.D.Disk c.args.disk.now c.lay_bodies.new.disk
       (first_of (journal_state c.self.inside.base c.self.inside.slots c.self.inside.first c.self.inside.count
       c.self.inside.room c.self.inside.laid) c.args.self.now c.as_slice-slice.result.now c.args.next.now.items
       (g.D.Disk.now c.args.disk.now) (length c.as_slice-slice.result.now) c.has_room.result c.self.view_is
@@ -65,7 +65,8 @@ invariant_of-self g c =
     c.if-not-has_room.false in
     let same : c.of.result ≡ slice = c.of.ensures ∙ sym c.as_slice-slice.ensures.value in
     known_laid (journal_state c.self.inside.base c.self.inside.slots c.self.inside.first c.self.inside.count
-    c.self.inside.room c.self.inside.laid) c.self.invariant c.of.result (omega (arith, ap length same, c.as_slice-slice.ensures.fits))
+    c.self.inside.room c.self.inside.laid) c.self.invariant c.of.result
+    (omega (arith, ap length same, c.as_slice-slice.ensures.fits))
     (omega (arith, ap length same, fits.0)) (omega (arith, ap length same, fits.1))
 
 pub lay_bodies-requires-clause-fits : goal.lay_bodies-requires-clause-fits
@@ -96,8 +97,8 @@ returns-then-not-has_room-clause-full g c =
     = omega (arith, ap length none, ap length c.as_slice-slice.ensures.value) in
     full_here (IsFullFor c.args.self.now c.args.next.now.items) c.args.disk.now
     (full_by (journal_state c.self.inside.base c.self.inside.slots c.self.inside.first c.self.inside.count
-    c.self.inside.room c.self.inside.laid) c.args.self.now c.args.next.now.items (length c.as_slice-slice.result.now) c.has_room.result
-    c.self.view_is all c.has_room.ensures c.if-not-has_room.true)
+    c.self.inside.room c.self.inside.laid) c.args.self.now c.args.next.now.items
+    (length c.as_slice-slice.result.now) c.has_room.result c.self.view_is all c.has_room.ensures c.if-not-has_room.true)
 
 pub returns-in-Err-clause-full : goal.returns-in-Err-clause-full
 returns-in-Err-clause-full g c =
@@ -106,8 +107,9 @@ returns-in-Err-clause-full g c =
     = omega (arith, ap length none, ap length c.as_slice-slice.ensures.value) in
     full_no_device (IsFullFor c.args.self.now c.args.next.now.items) c.args.disk.now c.lay_bodies.new.disk
     (not_full_by (journal_state c.self.inside.base c.self.inside.slots c.self.inside.first c.self.inside.count
-    c.self.inside.room c.self.inside.laid) c.args.self.now c.args.next.now.items (length c.as_slice-slice.result.now) c.has_room.result
-    c.self.view_is all c.has_room.ensures c.if-not-has_room.false)
+    c.self.inside.room c.self.inside.laid) c.args.self.now c.args.next.now.items
+    (length c.as_slice-slice.result.now) c.has_room.result c.self.view_is all c.has_room.ensures
+    c.if-not-has_room.false)
 
 pub returns-clause-full : goal.returns-clause-full
 returns-clause-full g c =
@@ -116,5 +118,6 @@ returns-clause-full g c =
     = omega (arith, ap length none, ap length c.as_slice-slice.ensures.value) in
     full_no_ok (IsFullFor c.args.self.now c.args.next.now.items) c.args.disk.now c.lay_bodies.new.disk tt
     (not_full_by (journal_state c.self.inside.base c.self.inside.slots c.self.inside.first c.self.inside.count
-    c.self.inside.room c.self.inside.laid) c.args.self.now c.args.next.now.items (length c.as_slice-slice.result.now) c.has_room.result
-    c.self.view_is all c.has_room.ensures c.if-not-has_room.false)
+    c.self.inside.room c.self.inside.laid) c.args.self.now c.args.next.now.items
+    (length c.as_slice-slice.result.now) c.has_room.result c.self.view_is all c.has_room.ensures
+    c.if-not-has_room.false)

@@ -2,7 +2,8 @@ use Rattle.std.proofs.Common.{◌≡◌, ◌+◌, length, refl, ap, ◌∙◌, s
 use Rattle.im_journal.specs.Holding.{JournalState, journal_state, room_after, longer, with_ahead, IsFullFor}
 use Rattle.im_journal.proofs.Fitting.{room_by, known_longer, full_by, not_full_by, full_here, full_no_device}
 use Rattle.im_journal.proofs.Fitting.{full_no_ok}
-use Rattle.im_journal.proofs.Chaining.{chain_of, gate_inside, inside, chained_state, gate_leaves_put, bodies_leave_put, group_puts}
+use Rattle.im_journal.proofs.Chaining.{chain_of, gate_inside, inside, chained_state, gate_leaves_put}
+use Rattle.im_journal.proofs.Chaining.{bodies_leave_put, group_puts}
 use Rattle.im_journal.proofs.journal.Journal.put_ahead.Goals as goal
 
 pub returns-in-Err-clause-runs : goal.returns-in-Err-clause-runs
@@ -10,7 +11,7 @@ returns-in-Err-clause-runs g c = record {
   honest = search rules;
   leaves = λ h.
       let h0 = c.write_gate.ensures.runs.honest h in
-      gate_leaves_put g.D.Disk.now g.D.Disk.past c.args.disk.now c.write_gate.new.disk c.self.view_is
+      gate_leaves_put g.D.Disk c.args.disk.now c.write_gate.new.disk c.self.view_is
       c.as_slice-slice.ensures.value
       (chain_of (journal_state c.self.inside.base c.self.inside.slots c.self.inside.first c.self.inside.count
       c.self.inside.room c.self.inside.laid) c.args.self.now c.as_slice-slice.result.now
@@ -27,7 +28,7 @@ returns-in-Err-lay_bodies-clause-runs g c = record {
   leaves = λ h2.
       let h = c.lay_bodies.ensures.runs.honest h2 in
       let h0 = c.write_gate.ensures.runs.honest h in
-      bodies_leave_put g.D.Disk.now g.D.Disk.past c.args.disk.now c.write_gate.new.disk c.self.view_is
+      bodies_leave_put g.D.Disk c.args.disk.now c.write_gate.new.disk c.self.view_is
       c.as_slice-slice.ensures.value
       (chain_of (journal_state c.self.inside.base c.self.inside.slots c.self.inside.first c.self.inside.count
       c.self.inside.room c.self.inside.laid) c.args.self.now c.as_slice-slice.result.now
@@ -46,7 +47,7 @@ returns-clause-runs g c = record {
   leaves = λ h2.
       let h = c.lay_bodies.ensures.runs.honest h2 in
       let h0 = c.write_gate.ensures.runs.honest h in
-      bodies_leave_put g.D.Disk.now g.D.Disk.past c.args.disk.now c.write_gate.new.disk c.self.view_is
+      bodies_leave_put g.D.Disk c.args.disk.now c.write_gate.new.disk c.self.view_is
       c.as_slice-slice.ensures.value
       (chain_of (journal_state c.self.inside.base c.self.inside.slots c.self.inside.first c.self.inside.count
       c.self.inside.room c.self.inside.laid) c.args.self.now c.as_slice-slice.result.now
@@ -63,7 +64,7 @@ pub returns-clause-added : goal.returns-clause-added
 returns-clause-added g c = λ h2.
     let h = c.lay_bodies.ensures.runs.honest h2 in
     let h0 = c.write_gate.ensures.runs.honest h in
-    group_puts g.D.Disk.now g.D.Disk.past c.args.disk.now c.write_gate.new.disk c.self.view_is
+    group_puts g.D.Disk c.args.disk.now c.write_gate.new.disk c.self.view_is
     c.as_slice-slice.ensures.value
     (chain_of (journal_state c.self.inside.base c.self.inside.slots c.self.inside.first c.self.inside.count
     c.self.inside.room c.self.inside.laid) c.args.self.now c.as_slice-slice.result.now
@@ -74,13 +75,15 @@ returns-clause-added g c = λ h2.
     (c.in_default.ensures.opened h) (c.in_default-lay_bodies.ensures.laid h2) _
     (chained_state c.self.inside.base c.self.inside.slots c.self.inside.first c.self.inside.count c.self.inside.room _
     c.room_after-room.result c.self.inside.laid c.as_slice-slice.result.now c.of.result
-    (ap (λ n. c.self.inside.count + n) c.many-laid.ensures) (c.room_after-room.ensures ∙ ap (λ n. room_after c.self.inside.count n c.self.inside.room) c.many-laid.ensures)
+    (ap (λ n. c.self.inside.count + n) c.many-laid.ensures) (c.room_after-room.ensures
+    ∙ ap (λ n. room_after c.self.inside.count n c.self.inside.room) c.many-laid.ensures)
     (c.of.ensures ∙ sym c.as_slice-slice.ensures.value))
 
 pub returns-clause-state : goal.returns-clause-state
 returns-clause-state g c = chained_state c.self.inside.base c.self.inside.slots c.self.inside.first
     c.self.inside.count c.self.inside.room _ c.room_after-room.result c.self.inside.laid c.args.next.now.items
-    c.of.result (ap (λ n. c.self.inside.count + n) c.many-laid.ensures) (c.room_after-room.ensures ∙ ap (λ n. room_after c.self.inside.count n c.self.inside.room) c.many-laid.ensures) c.of.ensures
+    c.of.result (ap (λ n. c.self.inside.count + n) c.many-laid.ensures) (c.room_after-room.ensures
+    ∙ ap (λ n. room_after c.self.inside.count n c.self.inside.room) c.many-laid.ensures) c.of.ensures
     ∙ ap (λ (j : JournalState). with_ahead c.args.next.now.items (longer (length j.ahead) j)) c.self.view_is
 
 pub invariant_of-self : goal.invariant_of-self

@@ -40,7 +40,8 @@ pub returns-clause-swept : goal.returns-clause-swept
 returns-clause-swept g c = λ h.
     let h0 = c.close_gates.ensures.runs.honest h in
     sweeps
-    (turn_of (journal_state c.self.inside.base c.self.inside.slots c.self.inside.first c.self.inside.count c.self.inside.room c.self.inside.laid) c.args.self.now c.at_once-swept.result (g.D.Disk.now c.args.disk.now)
+    (turn_of (journal_state c.self.inside.base c.self.inside.slots c.self.inside.first c.self.inside.count
+    c.self.inside.room c.self.inside.laid) c.args.self.now c.at_once-swept.result (g.D.Disk.now c.args.disk.now)
     c.self.view_is c.self.invariant c.requires.some (c.requires.holds h0)
     (no_more c.at_once-swept.result c.args.most c.to_sweep.result
     (to_sweep c.args.self.now) c.at_once-swept.ensures c.to_sweep.ensures))

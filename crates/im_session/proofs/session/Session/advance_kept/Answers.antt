@@ -17,7 +17,7 @@ invariant_of-self g c =
     let long = advanced_long c.self.inside.engine c.args.next.now.items c.advance-result.result
     c.advance-result.new.served.items c.advance-result.new.self c.advance-result.ensures.answered in
     let all = take_all (length c.advance-result.new.served.items) c.self.inside.engine.ahead (omega (arith, long)) in
-    rw (c.note_all.ensures, memory, places, before, them, all, c.failed-failed-2.ensures.failed) (kept_on g.D.Disk
+    rw (c.note_all.ensures, memory, places, before, them, all, c.failed-has_failed.ensures.failed) (kept_on g.D.Disk
     c.self.inside.start c.self.inside.calls.sure c.self.inside.calls.doubt c.self.inside.engine
     c.advance-result.new.self c.self.invariant _ _
     (advance_goes g.D.Disk c.self.inside.engine c.advance-result.new.self c.args.next.now.items c.advance-result.result
@@ -32,7 +32,7 @@ returns-clause-put g c =
     let long = advanced_long c.self.inside.engine c.args.next.now.items c.advance-result.result
     c.advance-result.new.served.items c.advance-result.new.self c.advance-result.ensures.answered in
     let all = take_all (length c.advance-result.new.served.items) c.self.inside.engine.ahead (omega (arith, long)) in
-    rw (c.note_all.ensures, memory, places, before, them, all, c.failed-failed-2.ensures.failed, ← c.self.view_is)
+    rw (c.note_all.ensures, memory, places, before, them, all, c.failed-has_failed.ensures.failed, ← c.self.view_is)
     refl
 
 pub returns-clause-answered : goal.returns-clause-answered
@@ -50,7 +50,7 @@ returns-clause-keeps g c =
     let long = advanced_long c.self.inside.engine c.args.next.now.items c.advance-result.result
     c.advance-result.new.served.items c.advance-result.new.self c.advance-result.ensures.answered in
     let all = take_all (length c.advance-result.new.served.items) c.self.inside.engine.ahead (omega (arith, long)) in
-    rw (c.note_all.ensures, memory, places, before, them, all, c.failed-failed-2.ensures.failed, ← c.self.view_is)
+    rw (c.note_all.ensures, memory, places, before, them, all, c.failed-has_failed.ensures.failed, ← c.self.view_is)
     (keeps_on g.D.Disk c.self.inside.start c.self.inside.calls.sure c.self.inside.calls.doubt c.self.inside.engine
     c.advance-result.new.self c.self.invariant _ _
     (advance_goes g.D.Disk c.self.inside.engine c.advance-result.new.self c.args.next.now.items c.advance-result.result
