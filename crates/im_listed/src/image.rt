@@ -10,7 +10,7 @@ ghost use Rattle.im_engine.specs.Answered.{Answered, SweepAnswered, TurnAnswered
 ghost use Rattle.im_listed.specs.Listing.{Accounts, Settles, task_of, carried};
 ghost use Rattle.im_listed.specs.History.{given};
 ghost use Rattle.im_listed.specs.Image.{ImageState, Carries, IsFaultOf, IsWant, begun_in, steps_of, tells_device};
-ghost use Rattle.im_listed.specs.Image.{ServesFirst, PutsAhead};
+ghost use Rattle.im_listed.specs.Image.{ServesFirst};
 
 use crate::listed::Listed;
 use crate::settling::{is_one_sync, settled};
@@ -30,8 +30,8 @@ use std::marker::Model;
 /// list begins where the last call's ended. A caller that can't carry out a step calls [`Image::lose`].
 #[derive(Drop)]
 pub struct Image {
-    engine: Engine<Listed>,
-    lost: bool,
+    pub(crate) engine: Engine<Listed>,
+    pub(crate) lost: bool,
 }
 
 impl Model for Image {
@@ -53,7 +53,7 @@ fn tells_device<T>(answer: &Result<T, Refusal>) -> bool
 }
 
 // What is known of an engine over a list.
-fn known(engine: &Engine<Listed>) -> bool
+pub(crate) fn known(engine: &Engine<Listed>) -> bool
     ensures failed { result ≡ engine.now.failed }
     ensures account { Accounts engine.now.disk }
     ensures means { engine.now.failed ≡ false → LeavesNow engine.now.disk.now (MeansState engine.now) }
@@ -194,31 +194,6 @@ impl Image {
         self.engine.empty_list();
         self.engine.serve_commands(members, served);
         self.lost = known(&self.engine); // A step of the group couldn't be listed.
-    }
-
-    /// Lets the group ahead act and puts the next one ahead of it, like [`Engine::advance`]. Returns `Device` if a step
-    /// couldn't be listed, and then refuses each member of the group ahead so. If a step was lost, nobody is answered.
-    pub fn advance(
-        &mut self,
-        next: &ArrayVec<Command, MAX_GROUP>,
-        served: &mut ArrayVec<Served, MAX_GROUP>,
-    ) -> Result<usize, Refusal>
-        requires empty { served.old.items ≡ [] }
-        ensures lost { self.old.lost ≡ true
-            → (result ≡ Err Refusal.Device) × (served.new.items ≡ []) × (self.new ≡ self.old) }
-        ensures works { self.old.lost ≡ false → self.old.engine.failed ≡ false }
-        // The answers, how many of the next members are ahead, and what the file means on the way.
-        ensures ahead { self.old.lost ≡ false
-            → PutsAhead self.old next.now.items result served.new.items self.new }
-    {
-        if self.lost {
-            return Err(Refusal::Device);
-        }
-        let _ = known(&self.engine);
-        self.engine.empty_list();
-        let answer = self.engine.advance(next, served);
-        self.lost = known(&self.engine);
-        answer
     }
 
     /// Makes one checkpoint turn, like [`Engine::turn`]. Returns `Device` if a step couldn't be listed or was lost.
