@@ -26,13 +26,12 @@ struct Trial<'s, 'c> {
     crash: Option<Crash>,
     next: Option<Crash>,
     known: KnownEngine,
-    ahead: ArrayVec<Command, MAX_GROUP>,
 }
 
 // Returns the requests of a group as commands.
-fn commands_of(group: &Group, many: usize) -> ArrayVec<Command, MAX_GROUP> {
+fn commands_of(group: &Group) -> ArrayVec<Command, MAX_GROUP> {
     let mut commands = ArrayVec::new();
-    for request in group.requests().as_slice().iter().take(many) {
+    for request in group.requests().as_slice() {
         let _pushed = commands.try_push(Command::Request(*request));
     }
     commands
@@ -58,7 +57,6 @@ impl Trial<'_, '_> {
             Some(known) => self.known = known,
             None => said.fail("there is no image"),
         }
-        self.ahead = ArrayVec::new();
     }
 
     // Checks that the plain memory answers the script as it was told, and that the engine of the story has that memory.
@@ -109,12 +107,11 @@ impl Trial<'_, '_> {
                     .hears(&[*command], &[served(*answer)], usize::MAX, said);
             }
             (Event::Ahead(group), Answer::Advanced(were, result, answers)) => {
-                let ahead = self.ahead.take();
-                said.check(were.as_slice() == ahead.as_slice());
-                self.ahead = commands_of(group, result.unwrap_or(0));
+                said.check(were.as_slice() == self.known.ahead.as_slice());
+                let next = commands_of(group);
                 return self
                     .known
-                    .hears_ahead(ahead.as_slice(), *result, answers, said);
+                    .hears_advanced(next.as_slice(), *result, answers, said);
             }
             (Event::Group(_), Answer::Grouped(room, answers)) => {
                 let commands = self.script.commands.as_slice();
@@ -287,7 +284,6 @@ pub fn tell(engines: &Engines, call: &Phrase, said: &mut Saying) {
         crash,
         next,
         known,
-        ahead: ArrayVec::new(),
     };
     trial.agrees_with(&engines.file, said);
     match act {
