@@ -114,7 +114,7 @@ module _ (known : Known) where
   }
 
   -- an event of an engine that has failed
-  record IsPast {D : Type 0} (old : EngineState D) (mid : EngineState D) (e : Event) (a : Answer) : Type 0 where
+  record IsPast {D : Type 0} (mid : EngineState D) (e : Event) (a : Answer) : Type 0 where
     pub sure : is_doubt a ≡ false
     pub none : (m : Contents) (n : ℕ) → in_doubt_by m n e a ≡ []
     pub failed : IsFailed e a
@@ -122,8 +122,8 @@ module _ (known : Known) where
     pub same : mid ≡ old
 
   past : {D : Type 0} (old mid : EngineState D) (e : Event) (a : Answer) → old.failed ≡ true → EventAnswered old e a mid
-      → IsPast old mid e a
-  past {D} old mid e a dead it = by_event old mid (IsPast old mid)
+      → IsPast mid e a
+  past {D} old mid e a dead it = by_event old mid (IsPast mid)
       (λ c x one. let is = one.dead dead in
       let sure = ap (λ (y : Result Outcome Refusal). is_doubt (Told y)) is.0 in record {
         sure = sure;

@@ -85,7 +85,8 @@ module _ {D : Type 0} (disk : Ghosts D) (limits : Limits) (text : List ℕ) (s :
   }
 
 module _ {D : Type 0} (disk : Ghosts D) (limits : Limits) (text : List ℕ) (old new : D) (was is : Option (List ℕ))
-    (status : ℕ) (before : LeavesNow (disk.now old) (LedBy (HasComeTo limits (wanted_of text)))) (h : disk.honest new) where
+    (status : ℕ) (before : LeavesNow (disk.now old) (LedBy (HasComeTo limits (wanted_of text))))
+    (h : disk.honest new) where
   pub keeps_on : SerialOnceOn disk text old new was is status
       → KeepsBegun disk.now disk.past limits (wanted_of text) old new status
   keeps_on (inl it) = record {

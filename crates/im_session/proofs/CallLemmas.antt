@@ -7,7 +7,6 @@ use Rattle.im_types.specs.declared.commands.Outcome.{Outcome}
 use Rattle.im_types.specs.declared.groups.Served.{Served}
 use Rattle.im_types.specs.declared.refusals.Refusal.{Refusal}
 use Rattle.im_types.specs.declared.refusals.Refusal.TheVariants.{Failed, JournalFull}
-use Rattle.im_types.specs.Contents.{Contents}
 use Rattle.im_types.specs.Step.{step, is_accepted}
 use Rattle.im_types.specs.Run.{after}
 use Rattle.im_laws.proofs.Tests.{true_or_false}
@@ -24,8 +23,7 @@ use Rattle.im_engine.specs.Commands.{CommandsAnswered, ServesCommands, after_com
 use Rattle.im_engine.proofs.Accepting.{accepted_answers}
 use Rattle.im_session.specs.Put.{sure_by, doubted_by, sure_of, doubted_of}
 use Rattle.im_session.proofs.AcceptedLemmas.{accepted_each, one_accepted}
-use Rattle.im_session.proofs.KeptLemmas.{Accepted, CallLeaves, GoesOn, Puts, Stays, all_of, none_of, puts_all}
-use Rattle.im_session.proofs.KeptLemmas.{puts_none}
+use Rattle.im_session.proofs.KeptLemmas.{Accepted, CallLeaves, GoesOn, all_of, none_of, puts_all, puts_none}
 use Rattle.im_session.proofs.KeptLemmas.{MeansWithOrWithout, puts_nothing, rose_by, steady_by}
 use Rattle.im_session.proofs.ServedLemmas.{not_device, undoubted, unsure}
 

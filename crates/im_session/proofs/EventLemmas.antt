@@ -1,9 +1,9 @@
 -- A run of events, one after another.
-use Rattle.std.proofs.Common.{◌≡◌, ⊎_elim, ℕ, ◌+◌, ◌<◌, Bool, true, false, ◌&&◌, ◌||◌, List, [], ◌∷◌, ◌++◌, length, map}
-use Rattle.std.proofs.Common.{take, get_or, Result, Ok, Err, append_assoc, refl, sym, ◌∙◌, ap, ap₂, subst, arith}
-use Rattle.std.proofs.Common.{length-append}
+use Rattle.std.proofs.Common.{◌≡◌, ◌⊎◌, ⊎_elim, ℕ, ◌+◌, ◌<◌, Bool, true, false, ◌&&◌, ◌||◌, List, [], ◌∷◌, ◌++◌, map}
+use Rattle.std.proofs.Common.{length, take, get_or, Result, Ok, Err, append_assoc, refl, sym, ◌∙◌, ap, ap₂, subst}
+use Rattle.std.proofs.Common.{arith, length-append}
 use Rattle.std.specs.Prelude.{not, IfOk}
-use Rattle.std.proofs.lemmas.List.{append-nil, take_more, length-take-le}
+use Rattle.std.proofs.lemmas.List.{append-nil, take_all, take-append-le, take_more, length-take-le}
 use Rattle.im_types.specs.declared.commands.Request.{Request}
 use Rattle.im_types.specs.declared.commands.Command.{Command}
 use Rattle.im_types.specs.declared.commands.Command.TheVariants.{Request as Asks}
@@ -17,6 +17,8 @@ use Rattle.im_laws.specs.Groups.{IsCounted}
 use Rattle.im_laws.proofs.RunLemmas.{after-append}
 use Rattle.im_laws.proofs.Tests.{true_false, true_or_false}
 use Rattle.im_disk.specs.declared.disk.Disk.{Ghosts}
+use Rattle.im_disk.specs.Since.{LeavesWithin}
+use Rattle.im_disk.proofs.SinceLemmas.{leaves_start, leaves_then}
 use Rattle.im_groups.specs.Ahead.{ServesPrefix}
 use Rattle.im_checkpoint.specs.declared.checkpoint.TurnDone.{TurnDone}
 use Rattle.im_checkpoint.proofs.Fitting.{none_or_some}
@@ -34,10 +36,11 @@ use Rattle.im_session.specs.declared.events.Answer.{Answer}
 use Rattle.im_session.specs.declared.events.Answer.TheVariants.{Served as Told, Grouped, Turned as TookTurn}
 use Rattle.im_session.specs.declared.events.Answer.TheVariants.{Advanced, Swept as DidSweep}
 use Rattle.im_session.specs.Put.{sure_of, doubted_of}
-use Rattle.im_session.specs.Kept.{Kept, SessionState, session_of}
+use Rattle.im_session.specs.Kept.{Kept, MeansPut, SessionState, session_of}
+use Rattle.im_session.specs.Keeping.{LeavesWhole}
 use Rattle.im_session.specs.Serving.{Rests, served_together}
-use Rattle.im_session.specs.Events.{EventAnswered, AnsweredInTurn, acknowledged, acknowledged_by, after_event, after_events}
-use Rattle.im_session.specs.Events.{has_fault, in_doubt, in_doubt_by, is_fault}
+use Rattle.im_session.specs.Events.{EventAnswered, AnsweredInTurn, acknowledged, acknowledged_by, after_event}
+use Rattle.im_session.specs.Events.{after_events, has_fault, in_doubt, in_doubt_by, is_fault, MeansEvents}
 use Rattle.im_session.proofs.GroupLemmas.{FailsBy, ahead_puts, group_puts, lost_fails, same_fails}
 
 -- what holds of each event that can be answered so
@@ -123,7 +126,8 @@ module _ {D : Type 0} (old new : EngineState D) where
       (λ dead. same (took_as a _ (it.dead dead).0) (failed_as new old (it.dead dead).1))
       (λ f. ⊎_elim
       (λ done. same (took_as a _ done.1) (done.2.alive ∙ sym f))
-      (λ fault. lost_fails (is_fault (TookTurn a)) old.failed new.failed (took_as a _ fault.0) f (failed_as new _ fault.1))
+      (λ fault. lost_fails (is_fault (TookTurn a)) old.failed new.failed (took_as a _ fault.0) f
+      (failed_as new _ fault.1))
       (it.alive f))
       (true_or_false old.failed)
 
@@ -135,7 +139,8 @@ module _ {D : Type 0} (old new : EngineState D) where
       (λ dead. same (swept_as a _ (it.dead dead).0) (failed_as new old (it.dead dead).1))
       (λ f. ⊎_elim
       (λ done. same (swept_as a _ done.0) (failed_as new _ done.1))
-      (λ fault. lost_fails (is_fault (DidSweep a)) old.failed new.failed (swept_as a _ fault.0) f (failed_as new _ fault.1))
+      (λ fault. lost_fails (is_fault (DidSweep a)) old.failed new.failed (swept_as a _ fault.0) f
+      (failed_as new _ fault.1))
       (it.alive f))
       (true_or_false old.failed)
 
@@ -198,7 +203,8 @@ module _ {D : Type 0} (old new : SessionState D) (rs : List Request) (cs : List 
       ∙ ap (λ (l : List Command). served_together old l new.engine) all
       ∙ ap (λ (l : List Command). session_of old.start (old.put ++ sure_of new.engine.failed l)
       (old.doubt ++ doubted_of old.engine.failed new.engine.failed l) new.engine) (put_is old.engine rs counted)
-      ∙ ap₂ (λ (p d : List Command). session_of old.start (old.put ++ p) (old.doubt ++ d) new.engine) puts.sure puts.doubt
+      ∙ ap₂ (λ (p d : List Command). session_of old.start (old.put ++ p) (old.doubt ++ d) new.engine) puts.sure
+      puts.doubt
 
 module _ {D : Type 0} (old new : SessionState D) (rs : List Request) (cs : List Command) (were : ArrayVec Command)
     (result : Result ℕ Refusal) (served : ArrayVec Served) (is : cs ≡ map Asks rs) (are : were.items ≡ old.engine.ahead)
@@ -215,7 +221,8 @@ module _ {D : Type 0} (old new : SessionState D) (rs : List Request) (cs : List 
       → new ≡ after_event old (Ahead rs) (Advanced were result served) new.engine
   ahead_event put =
       let puts = ahead_puts old.engine new.engine cs were result served are answered in
-      put ∙ ap₂ (λ (p d : List Command). session_of old.start (old.put ++ p) (old.doubt ++ d) new.engine) puts.sure puts.doubt
+      put ∙ ap₂ (λ (p d : List Command). session_of old.start (old.put ++ p) (old.doubt ++ d) new.engine) puts.sure
+      puts.doubt
 
 -- ---- one event more at the end of a list
 
@@ -283,14 +290,35 @@ in_doubt-push m n (d ∷ events) (b ∷ answers) e a same =
 
 -- ---- the same over the events so far
 
-pub events_none : {D : Type 0} (s : SessionState D) → s ≡ after_events s [] [] s.engine
-events_none s = ap₂ (λ (put doubt : List Command). session_of s.start put doubt s.engine)
-    (sym (append-nil s.put)) (sym (append-nil s.doubt))
+-- the file means all that the session put, and all that is in doubt
+abbrev AllPut : {D : Type 0} → SessionState D → List ℕ → Type 0
+AllPut s file = MeansPut s.start (s.put ++ s.doubt) file
+
+-- a session has run the first of these events, as many as this number
+pub record HasRun {D : Type 0} (disk : Ghosts D) (first new : SessionState D) (events : List Event)
+    (answers : List Answer) (i : ℕ) : Type 0 where
+  pub answered : AnsweredInTurn first.engine (take i events) answers new.engine
+  pub put : new ≡ after_events first (take i events) answers new.engine
+  pub honest : disk.honest new.engine.disk → disk.honest first.engine.disk
+  pub leaves : disk.honest new.engine.disk → LeavesWithin disk.now disk.past first.engine.disk new.engine.disk
+      (MeansEvents first events answers)
+
+pub run_none : {D : Type 0} (disk : Ghosts D) (s : SessionState D) (events : List Event) (answers : List Answer)
+    → answers ≡ [] → HasRun disk s s events answers 0
+run_none disk s events answers none = record {
+  answered = subst (λ (l : List Answer). AnsweredInTurn s.engine [] l s.engine) (sym none) refl;
+  put = ap₂ (λ (put doubt : List Command). session_of s.start put doubt s.engine) (sym (append-nil s.put))
+      (sym (append-nil s.doubt));
+  honest = λ h. h;
+  leaves = λ h. leaves_start (disk.now s.engine.disk) (disk.past s.engine.disk) (MeansEvents s events answers);
+}
 
 module _ {D : Type 0} (disk : Ghosts D) (first mid new : SessionState D) (events : List Event)
     (answers longer : List Answer) (i : ℕ) (d event : Event) (a : Answer)
     (lt : i < length events) (is : event ≡ get_or events i d) (size : length answers ≡ i)
-    (items : longer ≡ answers ++ a ∷ []) where
+    (items : longer ≡ answers ++ a ∷ []) (kept : Kept disk first) (now : Kept disk mid)
+    (so_far : HasRun disk first mid events answers i) (it : EventAnswered mid.engine event a new.engine)
+    (put : new ≡ after_event mid event a new.engine) where
   abbrev sure_far : List Command
   sure_far = acknowledged first.engine.memory (take i events) answers
 
@@ -303,45 +331,86 @@ module _ {D : Type 0} (disk : Ghosts D) (first mid new : SessionState D) (events
   same_length : length (take i events) ≡ length answers
   same_length = let n : length (take i events) ≡ i = length-take-le i events (omega arith) in omega (arith, n, size)
 
-  pub answers_more : AnsweredInTurn first.engine (take i events) answers mid.engine
-      → EventAnswered mid.engine event a new.engine
-      → AnsweredInTurn first.engine (take (i + 1) events) longer new.engine
-  answers_more so_far it = subst (λ (l : List Event). AnsweredInTurn first.engine l longer new.engine) (sym stepped)
+  answers_more : AnsweredInTurn first.engine (take (i + 1) events) longer new.engine
+  answers_more = subst (λ (l : List Event). AnsweredInTurn first.engine l longer new.engine) (sym stepped)
       (subst (λ (l : List Answer). AnsweredInTurn first.engine (take i events ++ event ∷ []) l new.engine) (sym items)
-      (in_turn_more first.engine mid.engine new.engine (take i events) answers event a so_far it))
+      (in_turn_more first.engine mid.engine new.engine (take i events) answers event a so_far.answered it))
 
-  module _ (kept : Kept disk first) (now : Kept disk mid)
-      (so_far : mid ≡ after_events first (take i events) answers mid.engine)
-      (put : new ≡ after_event mid event a new.engine) where
-    memory_is : mid.engine.memory ≡ after first.engine.memory sure_far
-    memory_is = now.memory ∙ ap (λ (s : SessionState D). after s.start.memory s.put) so_far
-        ∙ after-append first.start.memory first.put sure_far
-        ∙ ap (λ (m : Contents). after m sure_far) (sym kept.memory)
+  -- ---- what is put
 
-    count_is : mid.engine.count ≡ first.engine.count + length sure_far
-    count_is =
-        let here : mid.engine.count ≡ mid.start.count + length mid.put = now.count in
-        let there : first.engine.count ≡ first.start.count + length first.put = kept.count in
-        let same : mid.start.count + length mid.put ≡ first.start.count + length (first.put ++ sure_far)
-        = ap (λ (s : SessionState D). s.start.count + length s.put) so_far in
-        omega (arith, here, there, same, length-append first.put sure_far)
+  memory_is : mid.engine.memory ≡ after first.engine.memory sure_far
+  memory_is = now.memory ∙ ap (λ (s : SessionState D). after s.start.memory s.put) so_far.put
+      ∙ after-append first.start.memory first.put sure_far
+      ∙ ap (λ (m : Contents). after m sure_far) (sym kept.memory)
 
-    sure_is : acknowledged first.engine.memory (take (i + 1) events) longer
-        ≡ sure_far ++ acknowledged_by (after first.engine.memory sure_far) event a
-    sure_is = (λ k. acknowledged first.engine.memory (stepped k) (items k))
-        ∙ acknowledged-push first.engine.memory (take i events) answers event a same_length
+  count_is : mid.engine.count ≡ first.engine.count + length sure_far
+  count_is =
+      let here : mid.engine.count ≡ mid.start.count + length mid.put = now.count in
+      let there : first.engine.count ≡ first.start.count + length first.put = kept.count in
+      let same : mid.start.count + length mid.put ≡ first.start.count + length (first.put ++ sure_far)
+      = ap (λ (s : SessionState D). s.start.count + length s.put) so_far.put in
+      omega (arith, here, there, same, length-append first.put sure_far)
 
-    doubt_is : in_doubt first.engine.memory first.engine.count (take (i + 1) events) longer
-        ≡ doubt_far ++ in_doubt_by (after first.engine.memory sure_far) (first.engine.count + length sure_far) event a
-    doubt_is = (λ k. in_doubt first.engine.memory first.engine.count (stepped k) (items k))
-        ∙ in_doubt-push first.engine.memory first.engine.count (take i events) answers event a same_length
+  sure_is : acknowledged first.engine.memory (take (i + 1) events) longer
+      ≡ sure_far ++ acknowledged_by (after first.engine.memory sure_far) event a
+  sure_is = (λ k. acknowledged first.engine.memory (stepped k) (items k))
+      ∙ acknowledged-push first.engine.memory (take i events) answers event a same_length
 
-    pub put_more : new ≡ after_events first (take (i + 1) events) longer new.engine
-    put_more = put
-        ∙ ap (λ (s : SessionState D). session_of s.start (s.put ++ acknowledged_by mid.engine.memory event a)
-        (s.doubt ++ in_doubt_by mid.engine.memory mid.engine.count event a) new.engine) so_far
-        ∙ ap₂ (λ (m : Contents) (n : ℕ). session_of first.start ((first.put ++ sure_far) ++ acknowledged_by m event a)
-        ((first.doubt ++ doubt_far) ++ in_doubt_by m n event a) new.engine) memory_is count_is
-        ∙ ap₂ (λ (p q : List Command). session_of first.start p q new.engine)
-        (append_assoc first.put sure_far _ ∙ ap (λ (l : List Command). first.put ++ l) (sym sure_is))
-        (append_assoc first.doubt doubt_far _ ∙ ap (λ (l : List Command). first.doubt ++ l) (sym doubt_is))
+  doubt_is : in_doubt first.engine.memory first.engine.count (take (i + 1) events) longer
+      ≡ doubt_far ++ in_doubt_by (after first.engine.memory sure_far) (first.engine.count + length sure_far) event a
+  doubt_is = (λ k. in_doubt first.engine.memory first.engine.count (stepped k) (items k))
+      ∙ in_doubt-push first.engine.memory first.engine.count (take i events) answers event a same_length
+
+  put_more : new ≡ after_events first (take (i + 1) events) longer new.engine
+  put_more = put
+      ∙ ap (λ (s : SessionState D). session_of s.start (s.put ++ acknowledged_by mid.engine.memory event a)
+      (s.doubt ++ in_doubt_by mid.engine.memory mid.engine.count event a) new.engine) so_far.put
+      ∙ ap₂ (λ (m : Contents) (n : ℕ). session_of first.start ((first.put ++ sure_far) ++ acknowledged_by m event a)
+      ((first.doubt ++ doubt_far) ++ in_doubt_by m n event a) new.engine) memory_is count_is
+      ∙ ap₂ (λ (p q : List Command). session_of first.start p q new.engine)
+      (append_assoc first.put sure_far _ ∙ ap (λ (l : List Command). first.put ++ l) (sym sure_is))
+      (append_assoc first.doubt doubt_far _ ∙ ap (λ (l : List Command). first.doubt ++ l) (sym doubt_is))
+
+  -- ---- what is left
+
+  -- a prefix of the events so far is one of the events with this one
+  before_it : (file : List ℕ) → MeansEvents first events answers file → MeansEvents first events longer file
+  before_it file (many, few, means) = (
+    many,
+    omega (arith, few, ap length items, length-append answers (a ∷ [])),
+    subst (λ (l : List Answer). AllPut (after_events first (take many events) l first.engine) file)
+        (sym (ap (λ (l : List Answer). take many l) items ∙ take-append-le many answers (a ∷ []) few)) means,
+  )
+
+  without_it : (file : List ℕ) → AllPut mid file → MeansEvents first events longer file
+  without_it file means =
+      let told : take i longer ≡ answers = ap (λ (l : List Answer). take i l) items
+      ∙ take-append-le i answers (a ∷ []) (omega (arith, size)) ∙ take_all i answers (omega (arith, size)) in (
+        i,
+        omega (arith, ap length items, length-append answers (a ∷ []), size),
+        subst (λ (l : List Answer). AllPut (after_events first (take i events) l first.engine) file) (sym told)
+            (subst (λ (s : SessionState D). AllPut s file) so_far.put means),
+      )
+
+  with_it : (file : List ℕ) → AllPut new file → MeansEvents first events longer file
+  with_it file means =
+      let all : length longer ≡ i + 1 = omega (arith, ap length items, length-append answers (a ∷ []), size) in (
+        i + 1,
+        omega (arith, all),
+        subst (λ (l : List Answer). AllPut (after_events first (take (i + 1) events) l first.engine) file)
+            (sym (take_all (i + 1) longer (omega (arith, all))))
+            (subst (λ (s : SessionState D). AllPut s file) put_more means),
+      )
+
+  pub run_more : (disk.honest new.engine.disk → disk.honest mid.engine.disk) → LeavesWhole disk mid new
+      → HasRun disk first new events longer (i + 1)
+  run_more honest call = record {
+    answered = answers_more;
+    put = put_more;
+    honest = λ h. so_far.honest (honest h);
+    leaves = λ h. leaves_then (disk.now first.engine.disk) (disk.now mid.engine.disk) (disk.now new.engine.disk)
+        (disk.past first.engine.disk) (disk.past mid.engine.disk) (disk.past new.engine.disk)
+        (MeansEvents first events answers) (λ (file : List ℕ). AllPut mid file ⊎ AllPut new file)
+        (MeansEvents first events longer) (so_far.leaves (honest h)) (call h) before_it
+        (λ file means. ⊎_elim (without_it file) (with_it file) means);
+  }

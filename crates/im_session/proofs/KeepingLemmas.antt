@@ -1,5 +1,5 @@
 -- What a session keeps as it goes on.
-use Rattle.std.proofs.Common.{◌≡◌, ◌∙◌, ⊎_elim, ℕ, ◌+◌, ◌≤◌, List, [], ◌++◌, length, take, refl, sym, subst, arith}
+use Rattle.std.proofs.Common.{⊎_elim, ℕ, ◌+◌, ◌≤◌, List, [], ◌++◌, length, refl, sym, subst, arith}
 use Rattle.std.proofs.Common.{length-append}
 use Rattle.std.proofs.Math.Seq.{take-append_seam}
 use Rattle.std.proofs.lemmas.List.{append-nil, take-append-le}
@@ -7,7 +7,6 @@ use Rattle.im_types.specs.declared.commands.Command.{Command}
 use Rattle.im_types.specs.Meaning.{Means}
 use Rattle.im_types.specs.Run.{after}
 use Rattle.im_disk.specs.declared.disk.Disk.{Ghosts}
-use Rattle.im_disk.specs.Moment.{LeftSince}
 use Rattle.im_disk.proofs.SinceLemmas.{leaves_start, only_now}
 use Rattle.im_session.specs.Kept.{Kept, MeansPut, SessionStart, SessionState}
 use Rattle.im_session.specs.Keeping.{KeepsPut, KeptFrom, MeansFrom}

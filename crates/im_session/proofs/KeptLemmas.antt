@@ -1,5 +1,5 @@
 -- What a call of its engine comes to for a session.
-use Rattle.std.proofs.Common.{◌≡◌, ◌⊎◌, inl, inr, ⊎_elim, ℕ, ◌+◌, ◌<◌, ◌≤◌, true, false, List, [], ◌∷◌, ◌++◌, length, take}
+use Rattle.std.proofs.Common.{◌≡◌, ◌⊎◌, inl, inr, ⊎_elim, ℕ, ◌+◌, true, false, List, [], ◌++◌, length, take}
 use Rattle.std.proofs.Common.{refl, sym, ◌∙◌, ap, ap₂, subst, arith, length-append, append_assoc}
 use Rattle.std.specs.Prelude.{Result, Ok, Err}
 use Rattle.std.proofs.lemmas.List.{append-nil, take_all, take-append-le}
@@ -18,7 +18,7 @@ use Rattle.im_disk.proofs.SinceLemmas.{leaves_now, leaves_start, leaves_then, le
 use Rattle.im_engine.specs.State.{EngineState, MeansState}
 use Rattle.im_engine.specs.Leaving.{LeavesSince, LeavesAfter, LeavesState}
 use Rattle.im_session.specs.Kept.{Kept, MeansPrefix, MeansPut, SessionStart, session_of, start_at}
-use Rattle.im_session.specs.Keeping.{KeepsPut, MeansFrom}
+use Rattle.im_session.specs.Keeping.{KeepsPut, LeavesWhole, MeansFrom}
 use Rattle.im_session.specs.Opening.{CanBegin}
 use Rattle.im_session.proofs.KeepingLemmas.{from_all}
 
@@ -174,6 +174,10 @@ module _ {D : Type 0} (disk : Ghosts D) (start : SessionStart D) (put doubt : Li
   abbrev Keeps : Type 0
   Keeps = KeepsPut disk (session_of start put doubt mid) (session_of start (put ++ sure) (doubt ++ more) new)
 
+  -- and leaves all of it, or nothing
+  abbrev Whole : Type 0
+  Whole = LeavesWhole disk (session_of start put doubt mid) (session_of start (put ++ sure) (doubt ++ more) new)
+
   keeps_same : Stays mid new sure more → Keeps
   keeps_same it = rw (it.same, it.none_sure, it.none_doubted, append-nil put, append-nil doubt) (record {
     start = refl;
@@ -183,6 +187,12 @@ module _ {D : Type 0} (disk : Ghosts D) (start : SessionStart D) (put doubt : Li
     leaves = λ h. leaves_start (disk.now mid.disk) (disk.past mid.disk)
         (MeansFrom start (put ++ doubt) (length put));
   })
+
+  whole_same : Stays mid new sure more → Whole
+  whole_same it = subst (λ (e : EngineState D). LeavesWhole disk (session_of start put doubt mid)
+      (session_of start (put ++ sure) (doubt ++ more) e)) (sym it.same)
+      (λ h. leaves_start (disk.now mid.disk) (disk.past mid.disk)
+      (λ (file : List ℕ). MeansPut start (put ++ doubt) file ⊎ MeansPut start ((put ++ sure) ++ (doubt ++ more)) file))
 
   kept_same : Stays mid new sure more → Next
   kept_same it = rw (it.same, it.none_sure, it.none_doubted, append-nil put, append-nil doubt) so_far
@@ -210,6 +220,14 @@ module _ {D : Type 0} (disk : Ghosts D) (start : SessionStart D) (put doubt : Li
     from_start l file means = subst (λ (m : Contents). Means m (start.count + length (put ++ l)) 0 file) (memory_is l)
         (subst (λ (n : ℕ). Means (after mid.memory l) n 0 file) (count_is l) means)
 
+    -- within the call: what was put before, or all of it
+    whole : (file : List ℕ) → MeansWithOrWithout mid [] both file
+        → MeansPut start put file ⊎ MeansPut start (put ++ both) file
+    whole file means = ⊎_elim
+        (λ old. inl (subst (λ (l : List Command). MeansPut start l file) (append-nil put) (from_start [] file old)))
+        (λ all. inr (from_start both file all))
+        means
+
     since : disk.honest new.disk
         → LeavesWithin disk.now disk.past start.disk new.disk (MeansPrefix start (put ++ both))
     since h = leaves_then (disk.now start.disk) (disk.now mid.disk) (disk.now new.disk)
@@ -219,10 +237,9 @@ module _ {D : Type 0} (disk : Ghosts D) (start : SessionStart D) (put doubt : Li
         (λ file means. beginning start put both file
         (subst (λ (l : List Command). MeansPrefix start l file) put_is means))
         (λ file means. ⊎_elim
-        (λ old. beginning start put both file (all_begins start put file
-        (subst (λ (l : List Command). MeansPut start l file) (append-nil put) (from_start [] file old))))
-        (λ all. all_begins start (put ++ both) file (from_start both file all))
-        means)
+        (λ old. beginning start put both file (all_begins start put file old))
+        (λ all. all_begins start (put ++ both) file all)
+        (whole file means))
 
     kept_put : Next
     kept_put = record {
@@ -248,12 +265,20 @@ module _ {D : Type 0} (disk : Ghosts D) (start : SessionStart D) (put doubt : Li
 
     from_put : (file : List ℕ) → MeansWithOrWithout mid [] both file → MeansFrom start (put ++ both) (length put) file
     from_put file means = ⊎_elim
-        (λ old. from_all start put both (length put) file (omega arith)
-        (subst (λ (l : List Command). MeansPut start l file) (append-nil put) (from_start [] file old)))
+        (λ old. from_all start put both (length put) file (omega arith) old)
         (λ all. subst (λ (l : List Command). MeansFrom start l (length put) file) (append-nil (put ++ both))
-        (from_all start (put ++ both) [] (length put) file (omega (arith, length-append put both))
-        (from_start both file all)))
-        means
+        (from_all start (put ++ both) [] (length put) file (omega (arith, length-append put both)) all))
+        (whole file means)
+
+    whole_put : Whole
+    whole_put = λ h. leaves_weaker (disk.now mid.disk) (disk.now new.disk) (disk.past mid.disk) (disk.past new.disk)
+        (MeansWithOrWithout mid [] both)
+        (λ (file : List ℕ). MeansPut start (put ++ doubt) file ⊎ MeansPut start ((put ++ sure) ++ (doubt ++ more)) file)
+        (it.since h)
+        (λ file means. ⊎_elim
+        (λ old. inl (subst (λ (l : List Command). MeansPut start l file) (sym put_is) old))
+        (λ all. inr (subst (λ (l : List Command). MeansPut start l file) (sym all_is) all))
+        (whole file means))
 
     keeps_put : Keeps
     keeps_put = record {
@@ -273,23 +298,30 @@ module _ {D : Type 0} (disk : Ghosts D) (start : SessionStart D) (put doubt : Li
   pub keeps_on : GoesOn disk mid new sure more → Keeps
   keeps_on it = ⊎_elim keeps_same keeps_put it
 
--- the same of a call that puts nothing
-pub kept_still : {D : Type 0} (disk : Ghosts D) (start : SessionStart D) (put doubt : List Command)
-    (mid new : EngineState D) → Kept disk (session_of start put doubt mid) → GoesOn disk mid new [] []
-    → Kept disk (session_of start put doubt new)
-kept_still disk start put doubt mid new so_far it =
-    subst (λ (l : List Command). Kept disk (session_of start l doubt new)) (append-nil put)
-    (subst (λ (l : List Command). Kept disk (session_of start (put ++ []) l new)) (append-nil doubt)
-    (kept_on disk start put doubt mid new so_far [] [] it))
+  pub whole_on : GoesOn disk mid new sure more → Whole
+  whole_on it = ⊎_elim whole_same whole_put it
 
-pub keeps_still : {D : Type 0} (disk : Ghosts D) (start : SessionStart D) (put doubt : List Command)
-    (mid new : EngineState D) → Kept disk (session_of start put doubt mid) → GoesOn disk mid new [] []
-    → KeepsPut disk (session_of start put doubt mid) (session_of start put doubt new)
-keeps_still disk start put doubt mid new so_far it =
-    let from = session_of start put doubt mid in
-    subst (λ (l : List Command). KeepsPut disk from (session_of start l doubt new)) (append-nil put)
-    (subst (λ (l : List Command). KeepsPut disk from (session_of start (put ++ []) l new)) (append-nil doubt)
-    (keeps_on disk start put doubt mid new so_far [] [] it))
+-- the same of a call that puts nothing
+still : (put doubt : List Command) (P : List Command → List Command → Type 0) → P (put ++ []) (doubt ++ [])
+    → P put doubt
+still put doubt P it = subst (λ (l : List Command). P l doubt) (append-nil put)
+    (subst (λ (l : List Command). P (put ++ []) l) (append-nil doubt) it)
+
+module _ {D : Type 0} (disk : Ghosts D) (start : SessionStart D) (put doubt : List Command) (mid new : EngineState D)
+    (so_far : Kept disk (session_of start put doubt mid)) (it : GoesOn disk mid new [] []) where
+  pub kept_still : Kept disk (session_of start put doubt new)
+  kept_still = still put doubt (λ (p d : List Command). Kept disk (session_of start p d new))
+      (kept_on disk start put doubt mid new so_far [] [] it)
+
+  pub keeps_still : KeepsPut disk (session_of start put doubt mid) (session_of start put doubt new)
+  keeps_still = still put doubt
+      (λ (p d : List Command). KeepsPut disk (session_of start put doubt mid) (session_of start p d new))
+      (keeps_on disk start put doubt mid new so_far [] [] it)
+
+  pub whole_still : LeavesWhole disk (session_of start put doubt mid) (session_of start put doubt new)
+  whole_still = still put doubt
+      (λ (p d : List Command). LeavesWhole disk (session_of start put doubt mid) (session_of start p d new))
+      (whole_on disk start put doubt mid new so_far [] [] it)
 
 -- ---- a session that begins
 

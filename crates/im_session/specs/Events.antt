@@ -1,6 +1,6 @@
 -- Events of a session: how they are answered, what is acknowledged of them, and what is in doubt.
-use Rattle.std.specs.Prelude.{◌≡◌, ℕ, ◌+◌, Bool, false, ◌||◌, List, [], ◌∷◌, ◌++◌, length, map, Ok, Err, IfOk}
-use Rattle.std.specs.Prelude.{if◌then◌else◌}
+use Rattle.std.specs.Prelude.{◌≡◌, ℕ, ◌+◌, ◌≤◌, Bool, false, ◌||◌, List, [], ◌∷◌, ◌++◌, length, map, take, Ok, Err}
+use Rattle.std.specs.Prelude.{IfOk, if◌then◌else◌}
 use Rattle.im_types.specs.declared.commands.Command.{Command}
 use Rattle.im_types.specs.declared.commands.Command.TheVariants.{Request as Asks}
 use Rattle.im_types.specs.declared.groups.Served.{Served}
@@ -20,7 +20,7 @@ use Rattle.im_session.specs.declared.events.Answer.{Answer}
 use Rattle.im_session.specs.declared.events.Answer.TheVariants.{Served as Told, Grouped, Turned as TookTurn}
 use Rattle.im_session.specs.declared.events.Answer.TheVariants.{Advanced, Swept as DidSweep}
 use Rattle.im_session.specs.Put.{sure_by, doubted_by}
-use Rattle.im_session.specs.Kept.{SessionState, session_of}
+use Rattle.im_session.specs.Kept.{MeansPut, SessionState, session_of}
 use Rattle.im_session.specs.Serving.{served_answer}
 
 -- An engine's answer to one event. The answer to a group has the room that it found, and that to a group that is put
@@ -134,3 +134,9 @@ after_event s event answer engine = session_of s.start (s.put ++ acknowledged_by
 abbrev pub after_events : {D : Type 0} → SessionState D → List Event → List Answer → EngineState D → SessionState D
 after_events s events answers engine = session_of s.start (s.put ++ acknowledged s.engine.memory events answers)
     (s.doubt ++ in_doubt s.engine.memory s.engine.count events answers) engine
+
+-- the file means what the session has after a prefix of these events: of each event all commands, or none
+abbrev pub MeansEvents : {D : Type 0} → SessionState D → List Event → List Answer → List ℕ → Type 0
+MeansEvents s events answers file = (many : ℕ) × (many ≤ length answers)
+    × (let far = after_events s (take many events) (take many answers) s.engine
+    in MeansPut far.start (far.put ++ far.doubt) file)

@@ -1,5 +1,5 @@
 -- What a session keeps as it goes on.
-use Rattle.std.specs.Prelude.{◌≡◌, ◌+◌, ◌≤◌, ℕ, List, ◌∷◌, ◌++◌, length, take}
+use Rattle.std.specs.Prelude.{◌≡◌, ◌⊎◌, ◌+◌, ◌≤◌, ℕ, List, ◌∷◌, ◌++◌, length, take}
 use Rattle.im_types.specs.declared.commands.Command.{Command}
 use Rattle.im_types.specs.Meaning.{Means}
 use Rattle.im_types.specs.Run.{after}
@@ -8,7 +8,7 @@ use Rattle.im_disk.specs.Moment.{LeftSince}
 use Rattle.im_disk.specs.Since.{CallsAtMost, LeavesWithin}
 use Rattle.im_engine.specs.Commands.{commands_put}
 use Rattle.im_engine.specs.Groups.{calls_for_group}
-use Rattle.im_session.specs.Kept.{SessionStart, SessionState}
+use Rattle.im_session.specs.Kept.{MeansPut, SessionStart, SessionState}
 
 -- the file means the memory after a prefix of these commands that has at least so many of them
 abbrev pub MeansFrom : {D : Type 0} → SessionStart D → List Command → ℕ → List ℕ → Type 0
@@ -30,6 +30,11 @@ pub record KeepsPut {D : Type 0} (disk : Ghosts D) (old new : SessionState D) : 
   pub honest : disk.honest new.engine.disk → disk.honest old.engine.disk
   pub leaves : disk.honest new.engine.disk → LeavesWithin disk.now disk.past old.engine.disk new.engine.disk
       (MeansFrom new.start (new.put ++ new.doubt) (length old.put))
+
+-- Each file left within this one call means what was put before it, or all that is put or in doubt after it.
+abbrev pub LeavesWhole : {D : Type 0} → Ghosts D → SessionState D → SessionState D → Type 0
+LeavesWhole disk old new = disk.honest new.engine.disk → LeavesWithin disk.now disk.past old.engine.disk new.engine.disk
+    (λ file. MeansPut old.start (old.put ++ old.doubt) file ⊎ MeansPut new.start (new.put ++ new.doubt) file)
 
 -- it makes at most so many calls of the disk
 abbrev pub MakesAtMost : {D : Type 0} → Ghosts D → SessionState D → ℕ → SessionState D → Type 0

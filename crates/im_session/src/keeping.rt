@@ -7,7 +7,7 @@ ghost use Rattle.im_groups.specs.Ahead.{ServesPrefix};
 ghost use Rattle.im_engine.specs.Chain.{Advances, TakesNext};
 ghost use Rattle.im_engine.specs.Commands.{CommandsAnswered, commands_put};
 ghost use Rattle.im_engine.specs.Answered.{Answered, SweepAnswered, TurnAnswered, calls_for};
-ghost use Rattle.im_session.specs.Keeping.{KeepsPut, MakesAtMost, MakesFewCalls};
+ghost use Rattle.im_session.specs.Keeping.{KeepsPut, LeavesWhole, MakesAtMost, MakesFewCalls};
 ghost use Rattle.im_session.specs.Serving.{Rests, served_one, served_together};
 
 use crate::calls::GroupFound;
@@ -24,6 +24,7 @@ impl<D: Disk> Session<D> {
         ensures answered { Answered self.old.engine command.now result self.new.engine }
         ensures put { self.new ≡ served_one self.old command.now result self.new.engine }
         ensures keeps { KeepsPut D.Disk self.old self.new }
+        ensures leaves { LeavesWhole D.Disk self.old self.new }
         ensures calls { D.honest self.new.engine.disk → CallsBy D.past self.old.engine.disk self.new.engine.disk
             (calls_for self.old.engine.memory command.now) result }
     {
@@ -49,6 +50,7 @@ impl<D: Disk> Session<D> {
         ensures put { self.new ≡ served_together self.old (take (length served.new.items) members.now.items)
             self.new.engine }
         ensures keeps { KeepsPut D.Disk self.old self.new }
+        ensures leaves { LeavesWhole D.Disk self.old self.new }
         ensures few { MakesFewCalls D.Disk self.old (take (length served.new.items) members.now.items) self.new }
     {
         let failed = self.engine.failed();
@@ -76,6 +78,7 @@ impl<D: Disk> Session<D> {
         ensures takes { IfOk result (λ many. TakesNext self.old.engine next.now.items self.new.engine many) }
         ensures put { self.new ≡ served_together self.old self.old.engine.ahead self.new.engine }
         ensures keeps { KeepsPut D.Disk self.old self.new }
+        ensures leaves { LeavesWhole D.Disk self.old self.new }
         ensures few { MakesAtMost D.Disk self.old (length next.now.items + 2) self.new }
     {
         let failed = self.engine.failed();
@@ -97,6 +100,7 @@ impl<D: Disk> Session<D> {
         ensures answered { TurnAnswered self.old.engine result self.new.engine }
         ensures same { Rests self.old self.new }
         ensures keeps { KeepsPut D.Disk self.old self.new }
+        ensures leaves { LeavesWhole D.Disk self.old self.new }
         ensures calls { D.honest self.new.engine.disk
             → CallsAtMost D.past self.old.engine.disk self.new.engine.disk (most_calls result) }
     {
@@ -108,6 +112,7 @@ impl<D: Disk> Session<D> {
         ensures answered { SweepAnswered self.old.engine most result self.new.engine }
         ensures same { Rests self.old self.new }
         ensures keeps { KeepsPut D.Disk self.old self.new }
+        ensures leaves { LeavesWhole D.Disk self.old self.new }
     {
         self.engine.sweep(most)
     }

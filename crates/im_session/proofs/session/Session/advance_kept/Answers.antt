@@ -5,7 +5,7 @@ use Rattle.im_types.specs.declared.commands.Command.{Command}
 use Rattle.im_memory.specs.State.{MemoryState}
 use Rattle.im_engine.proofs.Advancing.{advanced_long}
 use Rattle.im_session.proofs.CallLemmas.{advance_goes}
-use Rattle.im_session.proofs.KeptLemmas.{keeps_on, kept_on}
+use Rattle.im_session.proofs.KeptLemmas.{keeps_on, kept_on, whole_on}
 use Rattle.im_session.proofs.session.Session.advance_kept.Goals as goal
 
 pub invariant_of-self : goal.invariant_of-self
@@ -52,6 +52,21 @@ returns-clause-keeps g c =
     let all = take_all (length c.advance-result.new.served.items) c.self.inside.engine.ahead (omega (arith, long)) in
     rw (c.note_all.ensures, memory, places, before, them, all, c.failed-has_failed.ensures.failed, ← c.self.view_is)
     (keeps_on g.D.Disk c.self.inside.start c.self.inside.calls.sure c.self.inside.calls.doubt c.self.inside.engine
+    c.advance-result.new.self c.self.invariant _ _
+    (advance_goes g.D.Disk c.self.inside.engine c.advance-result.new.self c.args.next.now.items c.advance-result.result
+    c.advance-result.new.served.items _ c.advance-result.ensures.answered c.advance-result.ensures.runs))
+
+pub returns-clause-leaves : goal.returns-clause-leaves
+returns-clause-leaves g c =
+    let memory = ap (λ (m : MemoryState). m.contents) c.of.ensures ∙ c.memory.ensures in
+    let places = c.of-2.ensures ∙ c.places-places.ensures.places in
+    let before = c.of-3.ensures ∙ c.failed-failed.ensures.failed in
+    let them = ap (λ (v : ArrayVec Command). v.items) c.of-4.ensures ∙ c.ahead.ensures in
+    let long = advanced_long c.self.inside.engine c.args.next.now.items c.advance-result.result
+    c.advance-result.new.served.items c.advance-result.new.self c.advance-result.ensures.answered in
+    let all = take_all (length c.advance-result.new.served.items) c.self.inside.engine.ahead (omega (arith, long)) in
+    rw (c.note_all.ensures, memory, places, before, them, all, c.failed-has_failed.ensures.failed, ← c.self.view_is)
+    (whole_on g.D.Disk c.self.inside.start c.self.inside.calls.sure c.self.inside.calls.doubt c.self.inside.engine
     c.advance-result.new.self c.self.invariant _ _
     (advance_goes g.D.Disk c.self.inside.engine c.advance-result.new.self c.args.next.now.items c.advance-result.result
     c.advance-result.new.served.items _ c.advance-result.ensures.answered c.advance-result.ensures.runs))

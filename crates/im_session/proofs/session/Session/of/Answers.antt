@@ -1,4 +1,4 @@
-use Rattle.std.proofs.Common.{◌∙◌, refl}
+use Rattle.std.proofs.Common.{refl}
 use Rattle.im_session.proofs.session.Session.of.Goals as goal
 
 pub returns : goal.returns

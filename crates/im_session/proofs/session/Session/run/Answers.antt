@@ -1,22 +1,17 @@
-use Rattle.std.proofs.Common.{◌≡◌, [], List, take, refl, sym, subst, arith, rules}
+use Rattle.std.proofs.Common.{◌≡◌, List, take, subst, arith, rules}
 use Rattle.std.proofs.lemmas.List.{take_all}
 use Rattle.im_session.specs.declared.events.Event.{Event}
-use Rattle.im_session.specs.declared.events.Answer.{Answer}
 use Rattle.im_session.specs.Events.{AnsweredInTurn, after_events}
-use Rattle.im_session.proofs.EventLemmas.{answers_more, events_none, in_turn_fails, put_more}
+use Rattle.im_session.proofs.EventLemmas.{in_turn_fails, run_more, run_none}
 use Rattle.im_session.proofs.session.Session.run.Goals as goal
 
 pub loop-event-init : goal.loop-event-init
-loop-event-init g c =
-    let none : c.in-Ok.answers.items ≡ [] = c.in-Ok.ensures.items in
-    let s = c.args.self.now in
-    record {
-      kept = c.engine.ensures.kept;
-      size = search rules;
-      room = search rules;
-      answers = subst (λ (l : List Answer). AnsweredInTurn s.engine [] l s.engine) (sym none) refl;
-      put = subst (λ (l : List Answer). s ≡ after_events s [] l s.engine) (sym none) (events_none s);
-    }
+loop-event-init g c = record {
+  kept = c.engine.ensures.kept;
+  size = search rules;
+  room = search rules;
+  run = run_none g.D.Disk c.args.self.now c.args.events.now c.in-Ok.answers.items c.in-Ok.ensures.items;
+}
 
 pub loop-event-preserved : goal.loop-event-preserved
 loop-event-preserved g c =
@@ -26,29 +21,31 @@ loop-event-preserved g c =
       kept = inv.kept;
       size = search rules;
       room = search rules;
-      answers = answers_more g.D.Disk c.args.self.now c.loop-event.self c.take-answer.new.self c.args.events.now
-          c.loop-event.answers.items c.push.new.self.items c.loop-event.event-index _ c.event-item.result
-          c.take-answer.result c.loop-event-test.true c.event-item.is inv.size c.in_default-push.ensures.items inv.answers
-          e.answered;
-      put = put_more g.D.Disk c.args.self.now c.loop-event.self c.take-answer.new.self c.args.events.now
+      run = run_more g.D.Disk c.args.self.now c.loop-event.self c.take-answer.new.self c.args.events.now
           c.loop-event.answers.items c.push.new.self.items c.loop-event.event-index _ c.event-item.result
           c.take-answer.result c.loop-event-test.true c.event-item.is inv.size c.in_default-push.ensures.items inv.kept
-          c.engine-in-loop-event.ensures.kept inv.put e.put;
+          c.engine-in-loop-event.ensures.kept inv.run e.answered e.put e.honest e.leaves;
     }
 
 pub returns-clause-answers : goal.returns-clause-answers
 returns-clause-answers g c = subst (λ (l : List Event). AnsweredInTurn c.args.self.now.engine l
     c.loop-event.answers.items c.loop-event.self.engine)
     (take_all c.loop-event.event-index c.args.events.now (omega (arith, c.loop-event-test.false)))
-    c.loop-event.invariant.answers
+    c.loop-event.invariant.run.answered
 
 pub returns-clause-put : goal.returns-clause-put
 returns-clause-put g c = subst (λ (l : List Event). c.loop-event.self
     ≡ after_events c.args.self.now l c.loop-event.answers.items c.loop-event.self.engine)
     (take_all c.loop-event.event-index c.args.events.now (omega (arith, c.loop-event-test.false)))
-    c.loop-event.invariant.put
+    c.loop-event.invariant.run.put
+
+pub returns-clause-leaves : goal.returns-clause-leaves
+returns-clause-leaves g c = λ h f. c.loop-event.invariant.run.leaves h
+
+pub returns-clause-honest : goal.returns-clause-honest
+returns-clause-honest g c = c.loop-event.invariant.run.honest
 
 pub returns-clause-faults : goal.returns-clause-faults
 returns-clause-faults g c =
     (in_turn_fails c.args.self.now.engine c.loop-event.self.engine (take c.loop-event.event-index c.args.events.now)
-    c.loop-event.answers.items c.loop-event.invariant.answers).0
+    c.loop-event.answers.items c.loop-event.invariant.run.answered).0

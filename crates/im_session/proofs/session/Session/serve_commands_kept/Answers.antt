@@ -3,7 +3,7 @@ use Rattle.arrayvec.specs.ArrayVec.{ArrayVec}
 use Rattle.im_types.specs.declared.commands.Command.{Command}
 use Rattle.im_memory.specs.State.{MemoryState}
 use Rattle.im_session.proofs.CallLemmas.{commands_go}
-use Rattle.im_session.proofs.KeptLemmas.{keeps_on, kept_on}
+use Rattle.im_session.proofs.KeptLemmas.{keeps_on, kept_on, whole_on}
 use Rattle.im_session.proofs.session.Session.serve_commands_kept.Goals as goal
 
 pub invariant_of-self : goal.invariant_of-self
@@ -40,6 +40,18 @@ returns-clause-keeps g c =
     let them = ap (λ (v : ArrayVec Command). v.items) c.of-4.ensures in
     rw (c.note_all.ensures, memory, places, before, them, c.failed-failed-2.ensures.failed, ← c.self.view_is)
     (keeps_on g.D.Disk c.self.inside.start c.self.inside.calls.sure c.self.inside.calls.doubt c.self.inside.engine
+    c.serve_commands.new.self c.self.invariant _ _
+    (commands_go g.D.Disk c.self.inside.engine c.serve_commands.new.self _ c.serve_commands.new.served.items
+    c.serve_commands.ensures.answered c.serve_commands.ensures.runs))
+
+pub returns-clause-leaves : goal.returns-clause-leaves
+returns-clause-leaves g c =
+    let memory = ap (λ (m : MemoryState). m.contents) c.of.ensures ∙ c.memory.ensures in
+    let places = c.of-2.ensures ∙ c.places-places.ensures.places in
+    let before = c.of-3.ensures ∙ c.failed-failed.ensures.failed in
+    let them = ap (λ (v : ArrayVec Command). v.items) c.of-4.ensures in
+    rw (c.note_all.ensures, memory, places, before, them, c.failed-failed-2.ensures.failed, ← c.self.view_is)
+    (whole_on g.D.Disk c.self.inside.start c.self.inside.calls.sure c.self.inside.calls.doubt c.self.inside.engine
     c.serve_commands.new.self c.self.invariant _ _
     (commands_go g.D.Disk c.self.inside.engine c.serve_commands.new.self _ c.serve_commands.new.served.items
     c.serve_commands.ensures.answered c.serve_commands.ensures.runs))
