@@ -12,7 +12,7 @@ use Rattle.im_c.specs.Group.{all_meant, outcomes_of}
 use Rattle.im_c.specs.Image.{idle_after}
 
 -- There are at most 16, each means a command, and there are 16 places for the outcomes of those that are ahead.
-pub record MayFollow (commands : List LtCommand) (places : ℕ) : Type 0 where
+pub record CanFollow (commands : List LtCommand) (places : ℕ) : Type 0 where
   pub few : length commands ≤ 16
   pub each : length (all_meant commands) ≡ length commands
   pub told : places ≡ 16
@@ -29,12 +29,12 @@ advanced_by (Err refusal) answered = advanced (number_of refusal) 0 answered
 -- what was done, the outcomes of the commands that were ahead, and what the caller's file holds on the way
 pub record AdvancesBy (old : ImageState) (commands : List LtCommand) (before : List LtOutcome) (done : LtAdvanced)
     (after : List LtOutcome) (new : ImageState) : Type 0 where
-  pub unknown : (MayFollow commands (length before) → ⊥)
+  pub unknown : (CanFollow commands (length before) → ⊥)
       → (done ≡ advanced 255 0 0) × (after ≡ before) × (new ≡ idle_after old)
-  pub lost : MayFollow commands (length before) → old.lost ≡ true
+  pub lost : CanFollow commands (length before) → old.lost ≡ true
       → (done ≡ advanced (number_of Device) 0 0) × (after ≡ before) × (new ≡ old)
   -- so no answer is `Failed`
-  pub works : MayFollow commands (length before) → old.lost ≡ false → old.engine.failed ≡ false
-  pub known : MayFollow commands (length before) → old.lost ≡ false
+  pub works : CanFollow commands (length before) → old.lost ≡ false → old.engine.failed ≡ false
+  pub known : CanFollow commands (length before) → old.lost ≡ false
       → (result : Result ℕ Refusal) × (answers : List Served) × (done ≡ advanced_by result (length answers))
       × (after ≡ outcomes_of (length before) answers) × PutsAhead old (all_meant commands) result answers new

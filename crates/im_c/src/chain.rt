@@ -3,7 +3,7 @@ ghost use Rattle.std.specs.Prelude.{◌≡◌, ◌↔◌, ◌≤◌, [], IsSome,
 ghost use Rattle.im_types.specs.declared.TheConstants.{MAX_GROUP};
 ghost use Rattle.im_c.specs.Handing.{Becomes};
 ghost use Rattle.im_c.specs.Group.{all_meant};
-ghost use Rattle.im_c.specs.Chain.{MayFollow, AdvancesBy, advanced, advanced_by};
+ghost use Rattle.im_c.specs.Chain.{CanFollow, AdvancesBy, advanced, advanced_by};
 
 use crate::group::{gather, tell_all};
 use crate::image::LtImage;
@@ -19,7 +19,7 @@ fn gathered(
     members: &mut ArrayVec<Command, MAX_GROUP>,
 ) -> bool
     requires empty { members.old.items ≡ [] }
-    ensures next { IsTrue result ↔ MayFollow commands.now places }
+    ensures next { IsTrue result ↔ CanFollow commands.now places }
     ensures members { IsTrue result → members.new.items ≡ all_meant commands.now }
 {
     if commands.len() > MAX_GROUP {

@@ -22,6 +22,7 @@ use Rattle.im_groups.proofs.CommandLemmas.{at-after}
 use Rattle.im_engine.specs.Commands.{commands_put, after_commands, each_refused, answers_in_turn, CommandsAnswered}
 use Rattle.im_trace.specs.Lines.{leaves_line, memory_after}
 use Rattle.im_session.specs.Serving.{served_answer}
+use Rattle.im_session.proofs.GroupLemmas.{served_back}
 use Rattle.im_controller.specs.Groups.{IsAnswerTo, AreAnswersTo, memory_after_all, lines_left}
 use Rattle.im_controller.specs.Groups.{MembersAnswered}
 use Rattle.im_controller.proofs.LendLemmas.{ok-leaves, same_by}
@@ -116,13 +117,9 @@ members-after m left (r ∷ rs) =
     (sym (member-after m left r))
     ∙ members-after (contents_with m left r) (places_behind m left r) rs
 
-answer_served : (a : Result Outcome Refusal) → served_answer (as_served a) ≡ a
-answer_served (Ok outcome) = refl
-answer_served (Err refusal) = refl
-
 pub answers_served : (xs : List (Result Outcome Refusal)) → map served_answer (map as_served xs) ≡ xs
 answers_served [] = refl
-answers_served (x ∷ xs) = ap (λ y. y ∷ map served_answer (map as_served xs)) (answer_served x)
+answers_served (x ∷ xs) = ap (λ y. y ∷ map served_answer (map as_served xs)) (served_back x)
     ∙ ap (λ ys. x ∷ ys) (answers_served xs)
 
 whole_served : (xs : List (Result Outcome Refusal)) → length (map as_served xs) ≡ length xs

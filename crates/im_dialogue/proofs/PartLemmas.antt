@@ -38,7 +38,8 @@ use Rattle.im_dialogue.specs.Together.{disturbs, LeavesShown, IsKnownBehind, IsG
 use Rattle.im_dialogue.specs.Together.{MayStandNext, line_answer, answers_behind, part_question, question_of}
 use Rattle.im_dialogue.specs.Watching.{told_with}
 use Rattle.im_dialogue.specs.Telling.{SaysAll, WasServed}
-use Rattle.im_dialogue.proofs.GroupTalk.{left_and_put, put_few, told_none, told_member, told_shown}
+use Rattle.im_groups.proofs.EnoughLemmas.{at_most_members}
+use Rattle.im_dialogue.proofs.GroupTalk.{left_and_put, told_none, told_member, told_shown}
 use Rattle.im_dialogue.proofs.HearingLemmas.{heard_some}
 use Rattle.im_dialogue.proofs.TalkLemmas.{Left}
 use Rattle.im_dialogue.proofs.LookLemmas.{ask_recalls, entry_of, may_change_there, recall_with}
@@ -233,7 +234,7 @@ module _ (watch : Bool) (b : GroupStart) where
   -- a place is left for one more member than those ahead
   some_left : (ahead : List Command) → length ahead < b.places → (places_between b ahead == 0) ≡ false
   some_left ahead few =
-      let put = put_few b.memory b.places ahead in
+      let put = at_most_members b.memory b.places ahead in
       let all = left_and_put b.memory b.places ahead in
       let some : 0 < places_between b ahead = omega (arith, put, all, few) in
       grind (arith, nat_tests, some)

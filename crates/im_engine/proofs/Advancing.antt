@@ -34,7 +34,7 @@ use Rattle.im_engine.specs.Commands.{AreWhole, AreParted, each_refused}
 use Rattle.im_engine.specs.Chain.{WereJudged, IsAhead, Advances, IsComing, FitsBehind, put_ahead, places_left}
 use Rattle.im_engine.specs.Chain.{calls_to_advance}
 use Rattle.im_engine.proofs.Members.{longer_none, length_refused, length_answers}
-use Rattle.im_laws.proofs.Tests.{true_or_false}
+use Rattle.im_laws.proofs.Tests.{eq_by_test, true_or_false}
 
 -- ---- places
 
@@ -273,9 +273,6 @@ same_ahead j next known none nothing =
     ahead = none ∙ sym nothing
 
 -- members that were judged, as they act: all of them take places, or each as it was told
-same_number : (a b : ℕ) → (a == b) ≡ true → a ≡ b
-same_number a b is = grind (arith, nat_tests)
-
 other_than_none : (n : ℕ) → (n == 0) ≡ false → 0 < n
 other_than_none n no = grind (arith, nat_tests)
 
@@ -283,7 +280,7 @@ other_than_none n no = grind (arith, nat_tests)
 pub none_in : {X : Type 0} (items slice : List X) (test : Bool) → slice ≡ items → test ≡ (length slice == 0)
     → test ≡ true → items ≡ []
 none_in items slice test is tested yes = nil_from_length items
-    (omega (arith, ap length is, same_number (length slice) 0 (sym tested ∙ yes)))
+    (omega (arith, ap length is, eq_by_test (length slice) 0 (sym tested ∙ yes)))
 
 pub some_in : {X : Type 0} (items slice : List X) (test : Bool) → slice ≡ items → test ≡ (length slice == 0)
     → test ≡ false → 0 < length items
@@ -293,7 +290,7 @@ some_in items slice test is tested no =
 -- what is ahead behind commands that may be none
 pub ahead_still : {X : Type 0} (n : ℕ) (test : Bool) (xs : List X) → test ≡ (n == 0) → test ≡ true
     → xs ≡ ahead_after n xs
-ahead_still n test xs tested yes = ap (λ (m : ℕ). ahead_after m xs) (sym (same_number n 0 (sym tested ∙ yes)))
+ahead_still n test xs tested yes = ap (λ (m : ℕ). ahead_after m xs) (sym (eq_by_test n 0 (sym tested ∙ yes)))
 
 pub ahead_gone : {X : Type 0} (n : ℕ) (test : Bool) (xs ys : List X) → test ≡ (n == 0) → test ≡ false → ys ≡ []
     → ys ≡ ahead_after n xs
@@ -326,7 +323,7 @@ whole_of m left members slice commands taken same enough few told all = record {
   few = few;
   accepted = subst (λ (l : List Command). AreAccepted m l) (sym same)
       (whole-accepted m (length members) members
-      (sym (ap length told.commands) ∙ same_number (length commands) (length members) all));
+      (sym (ap length told.commands) ∙ eq_by_test (length commands) (length members) all));
   enough = omega (arith, enough);
 }
 

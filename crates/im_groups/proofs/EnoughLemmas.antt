@@ -16,9 +16,7 @@ use Rattle.im_memory.specs.Covering.{most_pages}
 use Rattle.im_groups.specs.Commands.{takes_place, answer_with, contents_with, places_behind, command_at, answers_with}
 use Rattle.im_groups.specs.Commands.{contents_after_all, commands_at, takes_at, most_pages_at, most_pages_with}
 use Rattle.im_groups.specs.Ahead.{AreAccepted}
-
-some_place : (l : ℕ) → 0 < l → nat_lt 0 l ≡ true
-some_place l some = grind (arith, nat_tests)
+use Rattle.im_groups.proofs.WholeLemmas.{place_for}
 
 no_end : (l : ℕ) → 0 < l → (l == 0) ≡ false
 no_end l some = grind (arith, nat_tests)
@@ -26,7 +24,7 @@ no_end l some = grind (arith, nat_tests)
 -- the same of both numbers of places
 same_takes : (m : Contents) (k l : ℕ) (c : Command) → 0 < k → 0 < l → takes_place m k c ≡ takes_place m l c
 same_takes m k l c some_k some_l = ap (λ (b : Bool). is_accepted m c && b)
-    (some_place k some_k ∙ sym (some_place l some_l))
+    (place_for k some_k ∙ sym (place_for l some_l))
 
 same_answer : (m : Contents) (k l : ℕ) (c : Command) → 0 < k → 0 < l → answer_with m k c ≡ answer_with m l c
 same_answer m k l c some_k some_l = ap

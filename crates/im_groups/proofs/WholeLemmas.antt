@@ -48,7 +48,7 @@ refused-next m (c ∷ cs) (suc i) d b within it found is =
 
 -- ---- with places for all of them
 
-place_for : (left : ℕ) → 0 < left → nat_lt 0 left ≡ true
+pub place_for : (left : ℕ) → 0 < left → nat_lt 0 left ≡ true
 place_for left some = grind (arith, nat_tests)
 
 pub whole-takes : (m : Contents) (left : ℕ) (c : Command) → is_accepted m c ≡ true → 0 < left

@@ -34,7 +34,7 @@ use Rattle.im_session.specs.declared.events.Answer.TheVariants.{Advanced}
 use Rattle.im_session.specs.Events.{says_device, has_device, is_fault, acknowledged_members, reached_at}
 use Rattle.im_session.proofs.ServedLemmas.{unsure}
 
-one_command : (m : Contents) (left : ℕ) (c : Command) → sure_by m c (answer_with m left c) ≡ command_at m left c
+pub one_command : (m : Contents) (left : ℕ) (c : Command) → sure_by m c (answer_with m left c) ≡ command_at m left c
 one_command m left c = by_new (is_accepted m c) refl
   where
     by_room : (none some : Bool) → (left == 0) ≡ none → nat_lt 0 left ≡ some → none
@@ -72,7 +72,7 @@ after_command m left c = by_test (takes_place m left c)
     by_test true = refl
     by_test false = refl
 
-served_back : (a : Result Outcome Refusal) → served_answer (as_served a) ≡ a
+pub served_back : (a : Result Outcome Refusal) → served_answer (as_served a) ≡ a
 served_back (Ok outcome) = refl
 served_back (Err refusal) = refl
 

@@ -5,7 +5,7 @@ ghost use Rattle.im_session.specs.declared.events.Event.TheVariants.{Group as To
 ghost use Rattle.im_engine.specs.Leaving.{LeavesSince};
 ghost use Rattle.im_session.specs.Events.{EventAnswered, AnsweredInTurn, MeansEvents, after_event, after_events};
 ghost use Rattle.im_session.specs.Events.{has_fault};
-ghost use Rattle.im_session.specs.Keeping.{LeavesWhole};
+ghost use Rattle.im_session.specs.Keeping.{KeepsPut, LeavesWhole};
 
 use crate::events::{Answer, Event};
 use crate::session::Session;
@@ -21,7 +21,7 @@ impl<D: Disk> Session<D> {
         ensures answered { EventAnswered self.old.engine (Together group.now) result self.new.engine }
         ensures put { self.new ≡ after_event self.old (Together group.now) result self.new.engine }
         ensures leaves { LeavesWhole D.Disk self.old self.new }
-        ensures honest { D.honest self.new.engine.disk → D.honest self.old.engine.disk }
+        ensures keeps { KeepsPut D.Disk self.old self.new }
     {
         let room = self.engine().room();
         let _places = self.engine().places(); // So that it is known that the count isn't past the last one.
@@ -37,7 +37,7 @@ impl<D: Disk> Session<D> {
         ensures answered { EventAnswered self.old.engine (Follow group.now) result self.new.engine }
         ensures put { self.new ≡ after_event self.old (Follow group.now) result self.new.engine }
         ensures leaves { LeavesWhole D.Disk self.old self.new }
-        ensures honest { D.honest self.new.engine.disk → D.honest self.old.engine.disk }
+        ensures keeps { KeepsPut D.Disk self.old self.new }
     {
         let mut ahead = ArrayVec::new();
         copy_members(self.engine().ahead().as_slice(), &mut ahead);
@@ -53,7 +53,7 @@ impl<D: Disk> Session<D> {
         ensures answered { EventAnswered self.old.engine event.now result self.new.engine }
         ensures put { self.new ≡ after_event self.old event.now result self.new.engine }
         ensures leaves { LeavesWhole D.Disk self.old self.new }
-        ensures honest { D.honest self.new.engine.disk → D.honest self.old.engine.disk }
+        ensures keeps { KeepsPut D.Disk self.old self.new }
     {
         match event {
             Event::Command(command) => Answer::Served(self.serve_kept(command)),

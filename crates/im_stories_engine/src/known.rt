@@ -128,8 +128,8 @@ impl KnownEngine {
     }
 
     /// Takes in the answers to a group that found this room. They have to be those of the plain memory one after
-    /// another. A group ends behind its last member, or behind another and before a confirmation. Nothing is ahead behind
-    /// one that is put on the disk. Returns whether the disk still works.
+    /// another. A group ends behind its last member, or behind another and before a confirmation. What was ahead is no
+    /// more behind one that is put on the disk. Returns whether the disk still works.
     pub fn hears(
         &mut self,
         members: &[Command],

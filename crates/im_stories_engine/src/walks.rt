@@ -41,8 +41,8 @@ fn numbers_of(element: u16, commands: &[Command]) -> u64 {
 }
 
 // Returns a command of an element of a memory, or of one element more, behind commands that haven't acted yet: those
-// that are ahead, and those before it. One in five confirms. Element 0 asks for nothing that may wait, so that one element
-// always continues. One in two requests under a number that is kept asks for what was asked for before.
+// that are ahead, and those before it. One in five confirms. Element 0 asks for nothing that may wait, so that one
+// element always continues. One in two requests under a number that is kept asks for what was asked for before.
 fn command(dice: &mut Dice, plain: &PlainMemory, ahead: &[Command], before: &[Command]) -> Command {
     let element = dice.below(plain.elements() as u32 + 1) as u16;
     let (base, known) = plain.window(element).unwrap_or((1, 1));
