@@ -37,6 +37,25 @@ count = 3
 collect 2.1 = refused 1 Gap
 2.1 store 1 7 = stored
 
+# A checkpoint keeps what is ahead, and so does a sweep
+format 1 1 16 = formatted
+0.1 alloc i 1 = base 0
+behind 0.2 fetch 0 = 1 ahead []
+turn = began
+turn = page 0
+turn = page 1
+turn = page 2
+turn = synced
+turn = in force
+turn = swept
+sweep 64 = swept 0; room 16
+none behind = 0 ahead [waiting]
+count = 2
+room = 15
+close = closed
+open = opened
+collect 0.2 = waiting
+
 # A group ahead is on the disk behind no gate: an opening doesn't find it
 format 4096 16 256 = formatted
 behind 0.1 alloc i 2 with 1.1 fetch 0 = 2 ahead []
