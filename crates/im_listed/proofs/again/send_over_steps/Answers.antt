@@ -1,4 +1,4 @@
-use Rattle.std.proofs.Common.{◌≡◌, ◌⊎◌, inl, inr, ⊎_elim, List, ℕ, [], false, refl, sym, subst}
+use Rattle.std.proofs.Common.{◌≡◌, ◌⊎◌, inl, inr, ⊎_elim, List, ℕ, [], refl, subst}
 use Rattle.im_types.specs.declared.commands.Command.TheVariants.{Request as Asks}
 use Rattle.im_types.specs.Step.{step}
 use Rattle.im_disk.specs.Moment.{Left}
