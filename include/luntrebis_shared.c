@@ -8,7 +8,15 @@
 #include <sys/eventfd.h>
 #include <unistd.h>
 
-enum { ELEMENTS = 64, KEPT = 64, MEMBERS = 16, CONFIRM_AT = 48, WORTH_WAITING = 8 };
+#if !defined LTS_FUTEX && defined __linux__ && defined __LP64__
+#define LTS_FUTEX 1
+#endif
+#if LTS_FUTEX
+#include <linux/futex.h>
+#include <sys/syscall.h>
+#endif
+
+enum { ELEMENTS = 64, KEPT = 64, MEMBERS = 16, CONFIRM_AT = 48, WORTH_WAITING = 8, SLEEPERS = 64 };
 
 enum kind { ASKS, AWAITS, SHOWS_WINDOW, LEASES };
 enum state { QUEUED, TAKEN, WAITS, TOLD };
@@ -24,12 +32,11 @@ struct parcel {
 struct ticket {
     struct ticket *next, **link; /* in the list that it is in */
     enum kind kind;
-    enum state state;
+    int state; /* an enum state, on which its thread sleeps */
     int leased; /* its number was given here */
     struct lt_command command;
     struct lt_outcome outcome;
     struct lt_bounds window;
-    pthread_cond_t *told; /* of a thread that waits */
     lts_done *done;
     struct lts_queue *queue;
     void *mark;
@@ -63,6 +70,12 @@ struct lts {
     pthread_t owner;
     pthread_mutex_t lock; /* of all that follows */
     pthread_cond_t come;
+#if LTS_FUTEX
+    int *due[SLEEPERS]; /* states on which a thread sleeps that is to be woken */
+#else
+    pthread_cond_t told;
+#endif
+    size_t due_count;
     struct list asked;
     struct ticket *waiting[ELEMENTS][KEPT]; /* by the element and the place in its window */
     struct lane lanes[ELEMENTS];
@@ -118,6 +131,64 @@ static struct ticket **waiting_for(struct lts *shared, uint16_t element, uint64_
     return &shared->waiting[element % ELEMENTS][number % KEPT];
 }
 
+/* ---- A thread sleeps on its ticket's state. The owner wakes it once it has given up the lock: else all whom a group
+ * answers would wake, and sleep again for the lock. A ticket may be gone when its thread is woken. Then nobody is, or
+ * somebody who looks, and sleeps again. */
+
+static int is_of_thread(const struct ticket *ticket) {
+    return !ticket->done && !ticket->queue;
+}
+
+#if LTS_FUTEX
+
+/* Wakes those who are due. It gives up the lock meanwhile. */
+static void wake_due(struct lts *shared) {
+    int *due[SLEEPERS];
+    size_t count = shared->due_count;
+    if (count == 0) return;
+    memcpy(due, shared->due, count * sizeof *due);
+    shared->due_count = 0;
+    pthread_mutex_unlock(&shared->lock);
+    for (size_t at = 0; at < count; at++) syscall(SYS_futex, due[at], FUTEX_WAKE_PRIVATE, 1, NULL, NULL, 0);
+    pthread_mutex_lock(&shared->lock);
+}
+
+/* The thread of a ticket is due, as its state has changed. */
+static void call(struct lts *shared, struct ticket *ticket) {
+    shared->due[shared->due_count++] = &ticket->state;
+    if (shared->due_count == SLEEPERS) wake_due(shared);
+}
+
+/* Sleeps until a ticket's state changes, or that time. Returns whether the time is over. */
+static int sleep_on(struct lts *shared, struct ticket *ticket, const struct timespec *end) {
+    int state = ticket->state, over;
+    pthread_mutex_unlock(&shared->lock);
+    over = syscall(SYS_futex, &ticket->state, FUTEX_WAIT_BITSET_PRIVATE, state, end, NULL, FUTEX_BITSET_MATCH_ANY) != 0
+        && errno == ETIMEDOUT;
+    pthread_mutex_lock(&shared->lock);
+    return over;
+}
+
+#else
+
+static void wake_due(struct lts *shared) {
+    if (shared->due_count > 0) pthread_cond_broadcast(&shared->told);
+    shared->due_count = 0;
+}
+
+static void call(struct lts *shared, struct ticket *ticket) {
+    (void)ticket;
+    shared->due_count++;
+}
+
+static int sleep_on(struct lts *shared, struct ticket *ticket, const struct timespec *end) {
+    (void)ticket;
+    if (end) return pthread_cond_timedwait(&shared->told, &shared->lock, end) == ETIMEDOUT;
+    return pthread_cond_wait(&shared->told, &shared->lock) != 0;
+}
+
+#endif
+
 static void wait_for_it(struct lts *shared, struct ticket *ticket) {
     struct ticket **first = waiting_for(shared, ticket->command.element, ticket->command.number);
     ticket->next = *first;
@@ -125,7 +196,7 @@ static void wait_for_it(struct lts *shared, struct ticket *ticket) {
     if (*first) (*first)->link = &ticket->next;
     *first = ticket;
     ticket->state = WAITS;
-    if (ticket->told) pthread_cond_signal(ticket->told); /* Its time may be over. */
+    if (is_of_thread(ticket)) call(shared, ticket); /* Its time may be over. */
 }
 
 /* ---- Answers. Under the lock, but for the calls of lts_done. */
@@ -165,7 +236,7 @@ static void tell(struct lts *shared, struct ticket *ticket, int later) {
         pthread_mutex_lock(&shared->lock);
     } else {
         ticket->state = TOLD;
-        pthread_cond_signal(ticket->told);
+        call(shared, ticket);
     }
 }
 
@@ -329,9 +400,9 @@ static void gather(struct lts *shared, struct group *group) {
 /* Gives a member its answer. One that is answered later waits from then on. That of a thread doesn't: the thread asks
  * again. */
 static void answer(struct lts *shared, struct ticket *ticket) {
-    int waits = !is_last(&ticket->outcome);
-    if (waits && !ticket->done && !ticket->queue) waits = ticket->leased;
-    if (!waits || !ticket->told) tell(shared, ticket, 0);
+    int waits = !is_last(&ticket->outcome), of_thread = is_of_thread(ticket);
+    if (waits && of_thread) waits = ticket->leased;
+    if (!waits || !of_thread) tell(shared, ticket, 0);
     if (waits) look(shared, ticket);
 }
 
@@ -381,6 +452,7 @@ static void answer_all(struct lts *shared, const struct group *group, int refusa
 static void serve_at_once(struct lts *shared, struct group *group) {
     size_t served;
     int refusal;
+    wake_due(shared);
     pthread_mutex_unlock(&shared->lock);
     refusal = ltf_serve_group(shared->file, group->commands, group->count, group->outcomes, &served);
     pthread_mutex_lock(&shared->lock);
@@ -394,6 +466,7 @@ static void serve(struct lts *shared, struct group *group) {
     size_t ahead, answered;
     int refusal, was_none = acts->count == 0;
     if (group->count == 0 && was_none) return;
+    wake_due(shared);
     pthread_mutex_unlock(&shared->lock);
     refusal = ltf_advance(shared->file, group->commands, group->count, &ahead, acts->outcomes, &answered);
     pthread_mutex_lock(&shared->lock);
@@ -476,8 +549,10 @@ static void *own(void *given) {
             shared->idle = 0;
         }
         note_work(shared);
+        wake_due(shared);
     }
     refuse_all(shared, LT_NO_CALL);
+    wake_due(shared);
     pthread_mutex_unlock(&shared->lock);
     return NULL;
 }
@@ -495,8 +570,8 @@ static int enter(struct lts *shared, struct ticket *ticket) {
 }
 
 /* Takes back a ticket whose time is over. Returns whether its answer came first. */
-static int take_back(struct lts *shared, struct ticket *ticket, pthread_cond_t *told) {
-    while (ticket->state == TAKEN) pthread_cond_wait(told, &shared->lock);
+static int take_back(struct lts *shared, struct ticket *ticket) {
+    while (ticket->state == TAKEN) sleep_on(shared, ticket, NULL);
     if (ticket->state == TOLD) return 1;
     if (ticket->state == QUEUED) shared->queued--;
     take_out(ticket->state == QUEUED ? &shared->asked : NULL, ticket);
@@ -505,26 +580,16 @@ static int take_back(struct lts *shared, struct ticket *ticket, pthread_cond_t *
 
 /* Asks with a thread's ticket, and waits until it is answered or the time is over. */
 static void ask_and_wait(struct lts *shared, struct ticket *ticket, const struct timespec *end) {
-    pthread_condattr_t how;
-    pthread_cond_t told;
     int over = 0;
-    pthread_condattr_init(&how);
-    pthread_condattr_setclock(&how, CLOCK_MONOTONIC);
-    pthread_cond_init(&told, &how);
-    ticket->told = &told;
     pthread_mutex_lock(&shared->lock);
     if (enter(shared, ticket)) {
-        while (ticket->state != TOLD && !over)
-            over = end ? pthread_cond_timedwait(&told, &shared->lock, end) == ETIMEDOUT
-                       : pthread_cond_wait(&told, &shared->lock) != 0;
-        if (over && !take_back(shared, ticket, &told)) ticket->outcome = (struct lt_outcome){0, LT_WAITING, 0};
+        while (ticket->state != TOLD && !over) over = sleep_on(shared, ticket, end);
+        if (over && !take_back(shared, ticket)) ticket->outcome = (struct lt_outcome){0, LT_WAITING, 0};
     } else {
         ticket->outcome = shared->dead ? no_file : (struct lt_outcome){LT_NO_CALL, 0, 0};
         ticket->window = (struct lt_bounds){ticket->outcome.refusal, 0, 0};
     }
     pthread_mutex_unlock(&shared->lock);
-    pthread_cond_destroy(&told);
-    pthread_condattr_destroy(&how);
 }
 
 struct lt_outcome lts_ask(struct lts *shared, const struct lt_command *command) {
@@ -668,6 +733,9 @@ static int share(struct ltf *file, struct lts **made) {
         pthread_condattr_init(&how);
         pthread_condattr_setclock(&how, CLOCK_MONOTONIC);
         pthread_cond_init(&shared->come, &how);
+#if !LTS_FUTEX
+        pthread_cond_init(&shared->told, &how);
+#endif
         pthread_condattr_destroy(&how);
         answer = pthread_create(&shared->owner, NULL, own, shared);
     }
@@ -723,5 +791,8 @@ void lts_close(struct lts *shared) {
     ltf_close(shared->file);
     pthread_mutex_destroy(&shared->lock);
     pthread_cond_destroy(&shared->come);
+#if !LTS_FUTEX
+    pthread_cond_destroy(&shared->told);
+#endif
     free(shared);
 }

@@ -7,11 +7,13 @@ import os
 import re
 import shutil
 import subprocess
+import sys
 import tempfile
 import time
 from pathlib import Path
 
 import sources
+import toolchain
 
 RUN = ("stdin", "stdout", "args", "status", "data")  # What the gate runs a program on.
 ROOM_FOR_A_JOB = 5 << 30  # Bytes of memory: the largest crates take some four gigabytes.
@@ -29,8 +31,8 @@ def prove(room, crate):
     crates, start, done, said = sources.below([crate]), time.time(), 0, []
     sources.copied(room, crates, RUN)
     (room / ".git").mkdir()  # It is the top of a repository.
-    words = {"cwd": room, "env": {"RT_JOBS": str(jobs()), **os.environ}, "stdin": subprocess.DEVNULL}
-    with subprocess.Popen(["rt", "ci"], stdout=subprocess.PIPE, stderr=subprocess.STDOUT, text=True, errors="replace", **words) as ran:
+    words = {"cwd": room, "stdin": subprocess.DEVNULL}
+    with subprocess.Popen([sys.executable, toolchain.__file__], stdout=subprocess.PIPE, stderr=subprocess.STDOUT, text=True, errors="replace", **words) as ran:
         for line in ran.stdout:
             said.append(line)
             if found := SAID.match(line):

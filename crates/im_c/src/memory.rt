@@ -1,6 +1,7 @@
 //! A memory with no disk, for C.
 ghost use Rattle.std.specs.Prelude.{◌≡◌, ◌≢◌, ◌⊎◌, Some, IsSome, IfSome, IfOk, IfErr};
 ghost use Rattle.std.specs.declared.option.Option.{Option};
+ghost use Rattle.im_types.specs.declared.operations.Op.TheVariants.{Fetch, Store, Take, Put};
 ghost use Rattle.im_types.specs.Contents.{empty_contents};
 ghost use Rattle.im_types.specs.Window.{ask};
 ghost use Rattle.im_types.specs.Sizes.{AreLimits};
@@ -89,7 +90,6 @@ fn made(alloc: Global, limits: Limits) -> Result<Box<Memory>, Refusal>
 }
 
 // Serves one command, and writes its outcome for C. Two tests find the tag of an access, in place of a table of tags.
-// Then its request is put together as that of its operation, field by field from C's command.
 fn step(memory: &mut Memory, command: &LtCommand, outcome: &mut LtOutcome)
     ensures { Steps memory.old command.now outcome.new memory.new }
 {
@@ -106,8 +106,8 @@ fn step_even(memory: &mut Memory, command: &LtCommand, outcome: &mut LtOutcome)
     ensures { Steps memory.old command.now outcome.new memory.new }
 {
     match command.tag {
-        4 => access(memory, command, Op::Fetch(command.address), true, outcome),
-        6 => access(memory, command, Op::Take(command.address), true, outcome),
+        4 => fetch(memory, command, outcome),
+        6 => take(memory, command, outcome),
         8 => step_rest(memory, command, outcome),
         _ => step_any(memory, command, outcome),
     }
@@ -118,27 +118,52 @@ fn step_even(memory: &mut Memory, command: &LtCommand, outcome: &mut LtOutcome)
 fn step_odd(memory: &mut Memory, command: &LtCommand, outcome: &mut LtOutcome)
     ensures { Steps memory.old command.now outcome.new memory.new }
 {
-    let (a, value) = (command.address, command.value);
     match command.tag {
-        5 => access(memory, command, Op::Store(a, value), false, outcome),
-        7 => access(memory, command, Op::Put(a, value), false, outcome),
+        5 => store(memory, command, outcome),
+        7 => put(memory, command, outcome),
         _ => step_any(memory, command, outcome),
     }
 }
 
-// Serves a request of this operation, a read or a write of a cell.
-#[inline(always)]
-fn access(memory: &mut Memory, command: &LtCommand, op: Op, reads: bool, outcome: &mut LtOutcome)
-    requires { op_of command.now.tag command.now.address command.now.value ≡ Some op }
+// Serves a fetch. It is a call of its own, as are the three below, so that the memory's step in it is laid out for a
+// fetch alone.
+#[inline(never)]
+fn fetch(memory: &mut Memory, command: &LtCommand, outcome: &mut LtOutcome)
+    requires { op_of command.now.tag command.now.address command.now.value ≡ Some (Fetch command.now.address) }
     ensures { Steps memory.old command.now outcome.new memory.new }
 {
-    let asked = request_of(command, op);
-    let answer = memory.step(&asked);
-    if reads {
-        tell_read(answer, outcome);
-    } else {
-        tell_write(answer, outcome);
-    }
+    let asked = request_of(command, Op::Fetch(command.address));
+    tell_read(memory.step(&asked), outcome);
+}
+
+// Serves a take.
+#[inline(never)]
+fn take(memory: &mut Memory, command: &LtCommand, outcome: &mut LtOutcome)
+    requires { op_of command.now.tag command.now.address command.now.value ≡ Some (Take command.now.address) }
+    ensures { Steps memory.old command.now outcome.new memory.new }
+{
+    let asked = request_of(command, Op::Take(command.address));
+    tell_read(memory.step(&asked), outcome);
+}
+
+// Serves a store.
+#[inline(never)]
+fn store(memory: &mut Memory, command: &LtCommand, outcome: &mut LtOutcome)
+    requires { op_of command.now.tag command.now.address command.now.value ≡ Some (Store command.now.address command.now.value) }
+    ensures { Steps memory.old command.now outcome.new memory.new }
+{
+    let asked = request_of(command, Op::Store(command.address, command.value));
+    tell_write(memory.step(&asked), outcome);
+}
+
+// Serves a put.
+#[inline(never)]
+fn put(memory: &mut Memory, command: &LtCommand, outcome: &mut LtOutcome)
+    requires { op_of command.now.tag command.now.address command.now.value ≡ Some (Put command.now.address command.now.value) }
+    ensures { Steps memory.old command.now outcome.new memory.new }
+{
+    let asked = request_of(command, Op::Put(command.address, command.value));
+    tell_write(memory.step(&asked), outcome);
 }
 
 // Serves any command, or tells that it is none. It is a call of its own, so that an access isn't laid out with it.
