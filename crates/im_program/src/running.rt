@@ -26,7 +26,7 @@ use std::sync::Wait;
 use std::thread::Threads;
 
 // How a script is run by threads.
-fn mode_of(running: &ScriptRun) -> RunMode
+fn mode_of(running: &ScriptRun<&str>) -> RunMode
     ensures planned { result.planned ≡ running.now.planned }
     ensures recorded { result.recorded ≡ is_some running.now.trace }
 {
@@ -65,7 +65,7 @@ pub fn run_file<
     N: Observer<News>,
 >(
     hand: AtHand<'_, R, I, N>,
-    running: &ScriptRun,
+    running: &ScriptRun<&str>,
     watcher: V,
     out: &mut W,
     start: S,
@@ -104,7 +104,7 @@ fn run_at_once<
     N: Observer<News>,
 >(
     hand: AtHand<'_, R, I, N>,
-    running: &ScriptRun,
+    running: &ScriptRun<&str>,
     watcher: V,
     out: &mut W,
     start: S,
@@ -133,7 +133,7 @@ pub(crate) fn act_at_once<
     W: Write,
 >(
     hand: AtHand<'_, R, I, Console<'_, R>>,
-    running: &ScriptRun,
+    running: &ScriptRun<&str>,
     objects: bool,
     out: &mut W,
     start: S,

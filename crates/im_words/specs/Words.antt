@@ -17,12 +17,10 @@ use Rattle.clap.specs.Words.{
   with_rule,
   with_subcommand,
 }
+use Rattle.std.specs.Borrow.{Bor}
 use Rattle.im_words.specs.declared.words.Work.{Work}
-use Rattle.im_words.specs.declared.words.Work.TheVariants.{Demonstration, Alone, Run, Transfer as Transfers}
-use Rattle.im_words.specs.declared.words.Job.{Job}
-use Rattle.im_words.specs.declared.words.Job.TheVariants.{Format, Serial, Serve, Inspect, Dump, Load}
-use Rattle.im_words.specs.declared.words.Transfer.{Transfer}
-use Rattle.im_words.specs.declared.words.Transfer.TheVariants.{Migrate, Copy}
+use Rattle.im_words.specs.declared.words.Work.TheVariants.{Demonstration, Format, Serial, Run, Serve, Inspect, Dump}
+use Rattle.im_words.specs.declared.words.Work.TheVariants.{Load, Migrate, Copy}
 use Rattle.im_filters.specs.declared.telling.Telling.{Telling}
 use Rattle.im_filters.specs.declared.telling.Telling.TheVariants.{Plain, Quiet, Json}
 use Rattle.im_migration.specs.declared.asked.Asked.{Asked}
@@ -137,39 +135,34 @@ imem_app = with_subcommand (with_subcommand (with_subcommand (with_subcommand (w
 
 -- ---- what is asked for
 
--- a Work without the places of its texts in memory
-pub data Task : Type 0 where
-  demonstration : Task
-  format : (image : List ℕ) (cells elements slots : ℕ) (is_new : Bool) → Task
-  serial : (image script : List ℕ) (once : Bool) → Task
-  run : (image script : List ℕ) (planned once : Bool) (trace : Option (List ℕ)) → Task
-  serve : (image : List ℕ) (watch : Bool) (backups : Option (List ℕ)) → Task
-  inspect : (image : List ℕ) (look : View) → Task
-  migrate : (old new : List ℕ) → Task
-  copy : (old new : List ℕ) (asked : Asked) → Task
-  dump : (image : List ℕ) → Task
-  load : (text new : List ℕ) (asked : Asked) → Task
-
--- the task that a Job is
-abbrev pub task_of_job : Job → Task
-task_of_job (Format it) = format it.image.now it.cells it.elements it.slots it.is_new
-task_of_job (Serial it) = serial it.image.now it.script.now it.once
-task_of_job (Serve it) = serve it.image.now it.watch (option_map (λ path. path.now) it.backups)
-task_of_job (Inspect image look) = inspect image.now look
-task_of_job (Dump image) = dump image.now
-task_of_job (Load it) = load it.text.now it.new.now it.asked
-
--- the task that a Transfer is
-abbrev pub task_of_transfer : Transfer → Task
-task_of_transfer (Migrate it) = migrate it.old.now it.new.now
-task_of_transfer (Copy it) = copy it.old.now it.new.now it.asked
-
--- the task that a Work is
-abbrev pub task_of_work : Work → Task
-task_of_work Demonstration = demonstration
-task_of_work (Alone job) = task_of_job job
-task_of_work (Run it) = run it.image.now it.script.now it.planned it.once (option_map (λ path. path.now) it.trace)
-task_of_work (Transfers it) = task_of_transfer it
+-- the same work, with the texts of its paths
+abbrev pub texts_in : Work (Bor Text) → Work Text
+texts_in Demonstration = Demonstration
+texts_in (Format it) = Format (record {
+  image = it.image.now;
+  cells = it.cells;
+  elements = it.elements;
+  slots = it.slots;
+  is_new = it.is_new;
+})
+texts_in (Serial it) = Serial (record { image = it.image.now; script = it.script.now; once = it.once })
+texts_in (Run it) = Run (record {
+  image = it.image.now;
+  script = it.script.now;
+  planned = it.planned;
+  once = it.once;
+  trace = option_map (λ path. path.now) it.trace;
+})
+texts_in (Serve it) = Serve (record {
+  image = it.image.now;
+  watch = it.watch;
+  backups = option_map (λ path. path.now) it.backups;
+})
+texts_in (Inspect it) = Inspect (record { image = it.image.now; look = it.look })
+texts_in (Dump image) = Dump image.now
+texts_in (Load it) = Load (record { from = it.from.now; new = it.new.now; asked = it.asked })
+texts_in (Migrate it) = Migrate (record { old = it.old.now; new = it.new.now })
+texts_in (Copy it) = Copy (record { from = it.from.now; new = it.new.now; asked = it.asked })
 
 -- an option's number, in decimal digits below 2^32, or `fallback` if the option isn't given
 abbrev pub number_in : List Row → Text → ℕ → Option ℕ
@@ -197,13 +190,15 @@ path_in rows id = unwrap_or (first_of id rows) []
 abbrev pub is_given : List Row → Text → Bool
 is_given rows id = bytes_eq (path_in rows id) (codes "true")
 
--- the task of format, if each number that is given is in decimal digits below 2^32
-abbrev pub format_task : List Row → Option Task
-format_task rows =
-    option_and_then (λ cells. option_and_then
-    (λ elements. option_map
-    (λ slots. format (path_in rows (codes "IMAGE")) cells elements slots (is_given rows (codes "new")))
-    (number_in rows (codes "slots") 256)) (number_in rows (codes "elements") 16)) (number_in rows (codes "cells") 4096)
+-- what format is asked for, if each number that is given is in decimal digits below 2^32
+abbrev pub format_work : List Row → Option (Work Text)
+format_work rows = option_and_then (λ cells. option_and_then (λ elements. option_map (λ slots. Format (record {
+  image = path_in rows (codes "IMAGE");
+  cells = cells;
+  elements = elements;
+  slots = slots;
+  is_new = is_given rows (codes "new");
+})) (number_in rows (codes "slots") 256)) (number_in rows (codes "elements") 16)) (number_in rows (codes "cells") 4096)
 
 -- how lines are told, by whether it is quiet and whether it is in JSON; it can't be both
 abbrev pub telling_with : Bool → Bool → Option Telling
@@ -216,24 +211,31 @@ telling_with true true = None
 abbrev pub telling_given : List Row → Option Telling
 telling_given rows = telling_with (is_given rows (codes "quiet")) (is_given rows (codes "json"))
 
--- the task of serial, by its two paths and whether it is done once, if it says how lines are told
-abbrev pub serial_task : List Row → Option Task
-serial_task rows =
-    option_map (λ _. serial (path_in rows (codes "IMAGE")) (path_in rows (codes "SCRIPT"))
-    (is_given rows (codes "once"))) (telling_given rows)
+-- what serial is asked for, if it says how lines are told
+abbrev pub serial_work : List Row → Option (Work Text)
+serial_work rows = option_map (λ _. Serial (record {
+  image = path_in rows (codes "IMAGE");
+  script = path_in rows (codes "SCRIPT");
+  once = is_given rows (codes "once");
+})) (telling_given rows)
 
--- the task of run, by its two paths, whether it is planned or done once, and the path of its trace, if it says how
--- lines are told
-abbrev pub run_task : List Row → Option Task
-run_task rows =
-    option_map (λ _. run (path_in rows (codes "IMAGE")) (path_in rows (codes "SCRIPT"))
-    (is_given rows (codes "planned")) (is_given rows (codes "once")) (first_of (codes "trace") rows))
-    (telling_given rows)
+-- what run is asked for, if it says how lines are told
+abbrev pub run_work : List Row → Option (Work Text)
+run_work rows = option_map (λ _. Run (record {
+  image = path_in rows (codes "IMAGE");
+  script = path_in rows (codes "SCRIPT");
+  planned = is_given rows (codes "planned");
+  once = is_given rows (codes "once");
+  trace = first_of (codes "trace") rows;
+})) (telling_given rows)
 
--- the task of serve, by its path, whether it is watched, and the folder of its backups
-abbrev pub serve_task : List Row → Task
-serve_task rows =
-    serve (path_in rows (codes "IMAGE")) (is_given rows (codes "watch")) (first_of (codes "backups") rows)
+-- what serve is asked for
+abbrev pub serve_work : List Row → Work Text
+serve_work rows = Serve (record {
+  image = path_in rows (codes "IMAGE");
+  watch = is_given rows (codes "watch");
+  backups = first_of (codes "backups") rows;
+})
 
 -- the addresses from one number to another, if both are in decimal digits below 2^32 and in order
 abbrev pub span_between : Text → Text → Option Span
@@ -270,52 +272,60 @@ filter_in rows = option_and_then (λ cells. option_map (λ element.
 abbrev pub inspect_look : Bool → Filter → View
 inspect_look json f = if json then ReportJson f else Report f
 
--- the task of inspect, by its path, its filter and its form
-abbrev pub inspect_task : List Row → Option Task
-inspect_task rows =
-    option_map (λ filter. inspect (path_in rows (codes "IMAGE")) (inspect_look (is_given rows (codes "json")) filter))
-    (filter_in rows)
+-- what inspect is asked for, if its filter is right
+abbrev pub inspect_work : List Row → Option (Work Text)
+inspect_work rows = option_map (λ filter. Inspect (record {
+  image = path_in rows (codes "IMAGE");
+  look = inspect_look (is_given rows (codes "json")) filter;
+})) (filter_in rows)
 
 -- what stat prints
 abbrev pub stat_look : Bool → View
 stat_look json = if json then StatJson else Stat
 
--- the task of stat, by its path and its form
-abbrev pub stat_task : List Row → Task
-stat_task rows = inspect (path_in rows (codes "IMAGE")) (stat_look (is_given rows (codes "json")))
+-- what stat is asked for
+abbrev pub stat_work : List Row → Work Text
+stat_work rows =
+    Inspect (record { image = path_in rows (codes "IMAGE"); look = stat_look (is_given rows (codes "json")) })
 
--- the task of migrate, by its two paths
-abbrev pub migrate_task : List Row → Task
-migrate_task rows = migrate (path_in rows (codes "OLD")) (path_in rows (codes "NEW"))
+-- what migrate is asked for
+abbrev pub migrate_work : List Row → Work Text
+migrate_work rows = Migrate (record { old = path_in rows (codes "OLD"); new = path_in rows (codes "NEW") })
 
--- the task of copy, by its two paths, if each size that is given is in decimal digits below 2^32
-abbrev pub copy_task : List Row → Option Task
-copy_task rows =
-    option_map (λ asked. copy (path_in rows (codes "OLD")) (path_in rows (codes "NEW")) asked) (sizes_given rows)
+-- what copy is asked for, if each size that is given is in decimal digits below 2^32
+abbrev pub copy_work : List Row → Option (Work Text)
+copy_work rows = option_map (λ asked. Copy (record {
+  from = path_in rows (codes "OLD");
+  new = path_in rows (codes "NEW");
+  asked = asked;
+})) (sizes_given rows)
 
 -- a dump, or one as objects of JSON
-abbrev pub dump_job : Bool → Text → Task
-dump_job json image = if json then inspect image DumpJson else dump image
+abbrev pub dump_as : Bool → Text → Work Text
+dump_as json image = if json then Inspect (record { image = image; look = DumpJson }) else Dump image
 
--- the task of dump, by its path and its form
-abbrev pub dump_task : List Row → Task
-dump_task rows = dump_job (is_given rows (codes "json")) (path_in rows (codes "IMAGE"))
+-- what dump is asked for
+abbrev pub dump_work : List Row → Work Text
+dump_work rows = dump_as (is_given rows (codes "json")) (path_in rows (codes "IMAGE"))
 
--- the task of load, by its two paths, if each size that is given is in decimal digits below 2^32
-abbrev pub load_task : List Row → Option Task
-load_task rows =
-    option_map (λ asked. load (path_in rows (codes "TEXT")) (path_in rows (codes "NEW")) asked) (sizes_given rows)
+-- what load is asked for, if each size that is given is in decimal digits below 2^32
+abbrev pub load_work : List Row → Option (Work Text)
+load_work rows = option_map (λ asked. Load (record {
+  from = path_in rows (codes "TEXT");
+  new = path_in rows (codes "NEW");
+  asked = asked;
+})) (sizes_given rows)
 
--- the subcommand that was found, with its arguments
-abbrev pub task_in : Option (Text × List Row) → Option Task
-task_in None = Some demonstration
-task_in (Some met) =
-    if bytes_eq met.0 (codes "format") then format_task met.1 else if bytes_eq met.0 (codes "serial")
-    then serial_task met.1 else if bytes_eq met.0 (codes "run") then run_task met.1
-    else if bytes_eq met.0 (codes "serve") then Some (serve_task met.1) else if bytes_eq met.0 (codes "migrate")
-    then Some (migrate_task met.1) else if bytes_eq met.0 (codes "copy") then copy_task met.1
-    else if bytes_eq met.0 (codes "dump") then Some (dump_task met.1) else if bytes_eq met.0 (codes "load")
-    then load_task met.1 else if bytes_eq met.0 (codes "stat") then Some (stat_task met.1) else inspect_task met.1
+-- what is asked for by the subcommand that was found, with its arguments
+abbrev pub work_in : Option (Text × List Row) → Option (Work Text)
+work_in None = Some Demonstration
+work_in (Some met) =
+    if bytes_eq met.0 (codes "format") then format_work met.1 else if bytes_eq met.0 (codes "serial")
+    then serial_work met.1 else if bytes_eq met.0 (codes "run") then run_work met.1
+    else if bytes_eq met.0 (codes "serve") then Some (serve_work met.1) else if bytes_eq met.0 (codes "migrate")
+    then Some (migrate_work met.1) else if bytes_eq met.0 (codes "copy") then copy_work met.1
+    else if bytes_eq met.0 (codes "dump") then Some (dump_work met.1) else if bytes_eq met.0 (codes "load")
+    then load_work met.1 else if bytes_eq met.0 (codes "stat") then Some (stat_work met.1) else inspect_work met.1
 
 -- whether the exit status of the subcommand that was found tells refusals apart
 abbrev pub has_statuses : Option (Text × List Row) → Bool
@@ -358,5 +368,5 @@ abbrev pub asks_statuses : List Text → Bool
 asks_statuses words = has_statuses (subcommand_of imem_app words)
 
 -- what the words ask for, as clap walks them
-abbrev pub asks_task : List Text → Option Task
-asks_task words = task_in (subcommand_of imem_app words)
+abbrev pub asks_work : List Text → Option (Work Text)
+asks_work words = work_in (subcommand_of imem_app words)

@@ -3,12 +3,12 @@ ghost use Rattle.std.specs.Prelude.{◌≡◌, false, IfOk, codes};
 ghost use Rattle.std.specs.Option.{option_map};
 ghost use Rattle.clap.specs.Words.{app_of, found_of, rows_of};
 ghost use Rattle.clap.specs.declared.builder.command.Command.TheViews.{out-Command};
-ghost use Rattle.im_words.specs.Words.{copy_task, dump_app, dump_job, dump_task, given_in, given_number};
-ghost use Rattle.im_words.specs.Words.{load_task, making_app, sized_app, sizes_given, task_of_work, task_of_job};
+ghost use Rattle.im_words.specs.Words.{copy_work, dump_app, dump_as, dump_work, given_in, given_number};
+ghost use Rattle.im_words.specs.Words.{load_work, making_app, sized_app, sizes_given, texts_in};
 
 use crate::look_words::json_command;
 use crate::parts::{Help, file_command, is_given, number_option, path_argument, path_of};
-use crate::words::{Copying, Job, Loading, Transfer, Work};
+use crate::words::{Inspection, Making, Work};
 use clap::{ArgMatches, Command};
 use im_migration::Asked;
 use im_report::View;
@@ -177,41 +177,41 @@ fn sizes_given(found: &ArgMatches) -> Option<Asked>
 }
 
 /// What `copy` is asked for. Returns `None` if a number is not the decimal number of a u32.
-pub(crate) fn copy_work<'a>(found: &ArgMatches<'a>) -> Option<Work<'a>>
-    ensures { option_map task_of_work result ≡ copy_task (rows_of (found_of found.now)) }
+pub(crate) fn copy_work<'a>(found: &ArgMatches<'a>) -> Option<Work<&'a str>>
+    ensures { option_map texts_in result ≡ copy_work (rows_of (found_of found.now)) }
 {
     let asked = sizes_given(found)?;
-    let old = path_of(found, "OLD");
+    let from = path_of(found, "OLD");
     let new = path_of(found, "NEW");
-    Some(Work::Transfer(Transfer::Copy(Copying { old, new, asked })))
+    Some(Work::Copy(Making { from, new, asked }))
 }
 
-// The job of a dump, in words or as objects of JSON.
-fn dump_job<'a>(json: bool, image: &'a str) -> Job<'a>
-    ensures { task_of_job result ≡ dump_job json image.now }
+// A dump, in words or as objects of JSON.
+fn dump_as<'a>(json: bool, image: &'a str) -> Work<&'a str>
+    ensures { texts_in result ≡ dump_as json image.now }
 {
     if json {
         let look = View::DumpJson;
-        Job::Inspect { image, look }
+        Work::Inspect(Inspection { image, look })
     } else {
-        Job::Dump { image }
+        Work::Dump(image)
     }
 }
 
 /// What `dump` is asked for.
-pub(crate) fn dump_work<'a>(found: &ArgMatches<'a>) -> Work<'a>
-    ensures { task_of_work result ≡ dump_task (rows_of (found_of found.now)) }
+pub(crate) fn dump_work<'a>(found: &ArgMatches<'a>) -> Work<&'a str>
+    ensures { texts_in result ≡ dump_work (rows_of (found_of found.now)) }
 {
     let image = path_of(found, "IMAGE");
-    Work::Alone(dump_job(is_given(found, "json"), image))
+    dump_as(is_given(found, "json"), image)
 }
 
 /// What `load` is asked for. Returns `None` if a number is not the decimal number of a u32.
-pub(crate) fn load_work<'a>(found: &ArgMatches<'a>) -> Option<Work<'a>>
-    ensures { option_map task_of_work result ≡ load_task (rows_of (found_of found.now)) }
+pub(crate) fn load_work<'a>(found: &ArgMatches<'a>) -> Option<Work<&'a str>>
+    ensures { option_map texts_in result ≡ load_work (rows_of (found_of found.now)) }
 {
     let asked = sizes_given(found)?;
-    let text = path_of(found, "TEXT");
+    let from = path_of(found, "TEXT");
     let new = path_of(found, "NEW");
-    Some(Work::Alone(Job::Load(Loading { text, new, asked })))
+    Some(Work::Load(Making { from, new, asked }))
 }

@@ -3,10 +3,10 @@ ghost use Rattle.std.specs.Prelude.{◌≡◌, false, IfOk, codes};
 ghost use Rattle.std.specs.Option.{option_map};
 ghost use Rattle.clap.specs.Words.{app_of, found_of, rows_of};
 ghost use Rattle.clap.specs.declared.builder.command.Command.TheViews.{out-Command};
-ghost use Rattle.im_words.specs.Words.{format_app, format_task, number_in, task_of_work};
+ghost use Rattle.im_words.specs.Words.{format_app, format_work, number_in, texts_in};
 
 use crate::parts::{Help, file_command, flag_option, is_given, number_option, path_of};
-use crate::words::{Formatting, Job, Work};
+use crate::words::{Formatting, Work};
 use clap::{ArgMatches, Command};
 use im_script::read_u32;
 use std::alloc::{AllocError, Global};
@@ -83,21 +83,21 @@ fn number_or(found: &ArgMatches, id: &str, fallback: u32) -> Option<u32>
 }
 
 /// What `format` is asked for. Returns `None` if a number is not the decimal number of a u32.
-pub(crate) fn format_work<'a>(found: &ArgMatches<'a>) -> Option<Work<'a>>
-    ensures { option_map task_of_work result ≡ format_task (rows_of (found_of found.now)) }
+pub(crate) fn format_work<'a>(found: &ArgMatches<'a>) -> Option<Work<&'a str>>
+    ensures { option_map texts_in result ≡ format_work (rows_of (found_of found.now)) }
 {
     let image = path_of(found, "IMAGE");
     let cells = number_or(found, "cells", DEFAULT_CELLS)?;
     let elements = number_or(found, "elements", DEFAULT_ELEMENTS)?;
     let slots = number_or(found, "slots", DEFAULT_SLOTS)?;
     let is_new = is_given(found, "new");
-    Some(Work::Alone(Job::Format(Formatting {
+    Some(Work::Format(Formatting {
         image,
         cells,
         elements,
         slots,
         is_new,
-    })))
+    }))
 }
 
 /// Returns the first option for a size whose text is not the decimal number of a u32, with its text.

@@ -16,6 +16,6 @@ mod words;
 pub use format_words::{DEFAULT_CELLS, DEFAULT_ELEMENTS, DEFAULT_SLOTS};
 pub use reading::read_words;
 pub use words::{
-    CommandLine, Copying, Formatting, Job, Loading, Paths, ScriptRun, Serving, Talking, Transfer,
-    WordFault, Work,
+    CommandLine, Formatting, Inspection, Making, Moving, ScriptRun, Serving, Talking, WordFault,
+    Work,
 };

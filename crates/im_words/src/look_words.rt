@@ -3,12 +3,12 @@ ghost use Rattle.std.specs.Prelude.{◌≡◌, false, IfOk, codes};
 ghost use Rattle.std.specs.Option.{option_map};
 ghost use Rattle.clap.specs.Words.{app_of, found_of, rows_of};
 ghost use Rattle.clap.specs.declared.builder.command.Command.TheViews.{out-Command};
-ghost use Rattle.im_words.specs.Words.{filter_in, given_cells, inspect_app, inspect_look, inspect_task, json_app};
-ghost use Rattle.im_words.specs.Words.{span_between, span_given, span_in, stat_app, stat_look, stat_task, task_of_work};
+ghost use Rattle.im_words.specs.Words.{filter_in, given_cells, inspect_app, inspect_look, inspect_work, json_app};
+ghost use Rattle.im_words.specs.Words.{span_between, span_given, span_in, stat_app, stat_look, stat_work, texts_in};
 
 use crate::copy_words::number_given;
 use crate::parts::{flag_option, image_command, is_given, number_option, path_of, value_option};
-use crate::words::{Job, Work};
+use crate::words::{Inspection, Work};
 use clap::error::ErrorKind;
 use clap::{ArgMatches, Command, Error};
 use im_report::{Filter, Span, View};
@@ -196,13 +196,13 @@ fn inspect_look(json: bool, filter: Filter) -> View
 }
 
 /// What `inspect` is asked for. Returns `None` if a text is no number, or no addresses.
-pub(crate) fn inspect_work<'a>(found: &ArgMatches<'a>) -> Option<Work<'a>>
-    ensures { option_map task_of_work result ≡ inspect_task (rows_of (found_of found.now)) }
+pub(crate) fn inspect_work<'a>(found: &ArgMatches<'a>) -> Option<Work<&'a str>>
+    ensures { option_map texts_in result ≡ inspect_work (rows_of (found_of found.now)) }
 {
     let filter = filter_of(found)?;
     let image = path_of(found, "IMAGE");
     let look = inspect_look(is_given(found, "json"), filter);
-    Some(Work::Alone(Job::Inspect { image, look }))
+    Some(Work::Inspect(Inspection { image, look }))
 }
 
 // What `stat` prints.
@@ -213,12 +213,12 @@ fn stat_look(json: bool) -> View
 }
 
 /// What `stat` is asked for.
-pub(crate) fn stat_work<'a>(found: &ArgMatches<'a>) -> Work<'a>
-    ensures { task_of_work result ≡ stat_task (rows_of (found_of found.now)) }
+pub(crate) fn stat_work<'a>(found: &ArgMatches<'a>) -> Work<&'a str>
+    ensures { texts_in result ≡ stat_work (rows_of (found_of found.now)) }
 {
     let image = path_of(found, "IMAGE");
     let look = stat_look(is_given(found, "json"));
-    Work::Alone(Job::Inspect { image, look })
+    Work::Inspect(Inspection { image, look })
 }
 
 /// The error for a filter of `inspect` whose text is bad, with the usage.

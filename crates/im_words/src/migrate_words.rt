@@ -2,10 +2,10 @@
 ghost use Rattle.std.specs.Prelude.{◌≡◌, false, IfOk, codes};
 ghost use Rattle.clap.specs.Words.{app_of, found_of, rows_of};
 ghost use Rattle.clap.specs.declared.builder.command.Command.TheViews.{out-Command};
-ghost use Rattle.im_words.specs.Words.{migrate_app, migrate_task, task_of_work};
+ghost use Rattle.im_words.specs.Words.{migrate_app, migrate_work, texts_in};
 
 use crate::parts::{Help, file_command, path_argument, path_of};
-use crate::words::{Paths, Transfer, Work};
+use crate::words::{Moving, Work};
 use clap::{ArgMatches, Command};
 use std::alloc::{AllocError, Global};
 
@@ -43,10 +43,10 @@ pub(crate) fn migrate_command<'a>(alloc: Global) -> Result<Command<'a>, AllocErr
 }
 
 /// What `migrate` is asked for.
-pub(crate) fn migrate_work<'a>(found: &ArgMatches<'a>) -> Work<'a>
-    ensures { task_of_work result ≡ migrate_task (rows_of (found_of found.now)) }
+pub(crate) fn migrate_work<'a>(found: &ArgMatches<'a>) -> Work<&'a str>
+    ensures { texts_in result ≡ migrate_work (rows_of (found_of found.now)) }
 {
     let old = path_of(found, "OLD");
     let new = path_of(found, "NEW");
-    Work::Transfer(Transfer::Migrate(Paths { old, new }))
+    Work::Migrate(Moving { old, new })
 }

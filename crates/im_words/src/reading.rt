@@ -2,8 +2,8 @@
 ghost use Rattle.std.specs.Prelude.{◌≡◌, [], true, Some, IfOk, IfErr, IsOk, IsSome};
 ghost use Rattle.clap.specs.Words.{app_of, fault_of, kind_of, takes};
 ghost use Rattle.im_script.specs.Grammar.{texts};
-ghost use Rattle.im_words.specs.Words.{asks_statuses, asks_task, asks_telling, asks_wait, imem_app};
-ghost use Rattle.im_words.specs.Words.{task_of_work, top_app};
+ghost use Rattle.im_words.specs.Words.{asks_statuses, asks_telling, asks_wait, asks_work, imem_app};
+ghost use Rattle.im_words.specs.Words.{texts_in, top_app};
 
 use crate::copy_words::{COPY_HELP, LOAD_HELP, dump_command, making_command};
 use crate::format_words::{bad_option, format_command};
@@ -201,13 +201,13 @@ fn number_fault(alloc: Global, matches: &ArgMatches<'_>) -> WordFault {
 /// that clap found, or says which number is not written in decimal digits and below 2^32, a time to wait up to 86,400.
 /// `--help` and `--version` are such faults too, with status 0.
 pub fn read_words<'a>(alloc: Global, words: &'a [&'a str]) -> Result<CommandLine<'a>, WordFault>
-    ensures work { IfOk result (λ line. asks_task (texts words.entry.now) ≡ Some (task_of_work line.work)) }
+    ensures work { IfOk result (λ line. asks_work (texts words.entry.now) ≡ Some (texts_in line.work)) }
     ensures statuses { IfOk result (λ line. line.statuses ≡ asks_statuses (texts words.entry.now)) }
     ensures wait { IfOk result (λ line. asks_wait (texts words.entry.now) ≡ Some line.wait) }
     ensures telling { IfOk result (λ line. line.telling ≡ asks_telling (texts words.entry.now)) }
     ensures sound { IsOk result → fault_of imem_app (texts words.entry.now) ≡ [] }
     ensures taken { IfErr result (λ fault. takes imem_app (texts words.entry.now) ≡ true →
-        IsSome (asks_task (texts words.entry.now)) → IsSome (asks_wait (texts words.entry.now))
+        IsSome (asks_work (texts words.entry.now)) → IsSome (asks_wait (texts words.entry.now))
         → fault ≡ WordFault.NoMemory) }
 {
     let command = match imem_command(alloc) {

@@ -3,13 +3,13 @@ ghost use Rattle.std.specs.Prelude.{◌≡◌, false, IfOk, codes};
 ghost use Rattle.std.specs.Option.{option_map};
 ghost use Rattle.clap.specs.Words.{app_of, found_of, rows_of};
 ghost use Rattle.clap.specs.declared.builder.command.Command.TheViews.{out-Command};
-ghost use Rattle.im_words.specs.Words.{path_in, run_app, run_task, script_app, serial_app, serial_task, task_of_work};
-ghost use Rattle.im_words.specs.Words.{telling_given, telling_with};
+ghost use Rattle.im_words.specs.Words.{path_in, run_app, run_work, script_app, serial_app, serial_work};
+ghost use Rattle.im_words.specs.Words.{telling_given, telling_with, texts_in};
 
 use crate::parts::{
     flag_option, image_command, is_given, path_argument, path_if, path_of, value_option,
 };
-use crate::words::{Job, ScriptRun, Serving, Work};
+use crate::words::{ScriptRun, Serving, Work};
 use clap::error::ErrorKind;
 use clap::{ArgMatches, Command, Error};
 use im_filters::Telling;
@@ -194,22 +194,22 @@ pub(crate) fn telling_given(found: &ArgMatches) -> Option<Telling>
 }
 
 /// What `serial` is asked for. Returns `None` if lines are to be told in two ways.
-pub(crate) fn serial_work<'a>(found: &ArgMatches<'a>) -> Option<Work<'a>>
-    ensures { option_map task_of_work result ≡ serial_task (rows_of (found_of found.now)) }
+pub(crate) fn serial_work<'a>(found: &ArgMatches<'a>) -> Option<Work<&'a str>>
+    ensures { option_map texts_in result ≡ serial_work (rows_of (found_of found.now)) }
 {
     let _telling = telling_given(found)?;
     let (image, script) = two_paths(found);
     let once = is_given(found, "once");
-    Some(Work::Alone(Job::Serial(Serving {
+    Some(Work::Serial(Serving {
         image,
         script,
         once,
-    })))
+    }))
 }
 
 /// What `run` is asked for. Returns `None` if lines are to be told in two ways.
-pub(crate) fn run_work<'a>(found: &ArgMatches<'a>) -> Option<Work<'a>>
-    ensures { option_map task_of_work result ≡ run_task (rows_of (found_of found.now)) }
+pub(crate) fn run_work<'a>(found: &ArgMatches<'a>) -> Option<Work<&'a str>>
+    ensures { option_map texts_in result ≡ run_work (rows_of (found_of found.now)) }
 {
     let _telling = telling_given(found)?;
     let (image, script) = two_paths(found);

@@ -2,10 +2,10 @@
 ghost use Rattle.std.specs.Prelude.{◌≡◌, false, IfOk, codes};
 ghost use Rattle.clap.specs.Words.{app_of, found_of, rows_of};
 ghost use Rattle.clap.specs.declared.builder.command.Command.TheViews.{out-Command};
-ghost use Rattle.im_words.specs.Words.{serve_app, serve_task, task_of_work};
+ghost use Rattle.im_words.specs.Words.{serve_app, serve_work, texts_in};
 
 use crate::parts::{flag_option, image_command, is_given, path_if, path_of, value_option};
-use crate::words::{Job, Talking, Work};
+use crate::words::{Talking, Work};
 use clap::{ArgMatches, Command};
 use std::alloc::{AllocError, Global};
 
@@ -62,15 +62,15 @@ pub(crate) fn serve_command<'a>(alloc: Global) -> Result<Command<'a>, AllocError
 }
 
 /// What `serve` is asked for.
-pub(crate) fn serve_work<'a>(found: &ArgMatches<'a>) -> Work<'a>
-    ensures { task_of_work result ≡ serve_task (rows_of (found_of found.now)) }
+pub(crate) fn serve_work<'a>(found: &ArgMatches<'a>) -> Work<&'a str>
+    ensures { texts_in result ≡ serve_work (rows_of (found_of found.now)) }
 {
     let image = path_of(found, "IMAGE");
     let watch = is_given(found, "watch");
     let backups = path_if(found, "backups");
-    Work::Alone(Job::Serve(Talking {
+    Work::Serve(Talking {
         image,
         watch,
         backups,
-    }))
+    })
 }
