@@ -18,6 +18,7 @@ use Rattle.clap.specs.Words.{
   with_subcommand,
 }
 use Rattle.std.specs.Borrow.{Bor}
+use Rattle.im_words.specs.declared.table.TheConstants.{COMMON, SUBCOMMANDS}
 use Rattle.im_words.specs.declared.words.Work.{Work}
 use Rattle.im_words.specs.declared.words.Work.TheVariants.{Demonstration, Format, Serial, Run, Serve, Inspect, Dump}
 use Rattle.im_words.specs.declared.words.Work.TheVariants.{Load, Migrate, Copy}
@@ -44,79 +45,41 @@ flag_rule id = record (new_rule id) { long = Some id; action = Some SetTrue }
 abbrev pub path_rule : Text → Rule
 path_rule id = record (new_rule id) { required = true }
 
--- the option for the time that an opening waits
-abbrev pub wait_rule : Rule
-wait_rule = option_rule (codes "wait")
+-- an option by its name: with a value, if that has a name
+abbrev pub option_by : Text → Option (Bor Text) → Rule
+option_by id None = flag_rule id
+option_by id (Some value) = option_rule id
 
--- a subcommand that takes a path, with [--statuses] and [--wait SECONDS]
-abbrev pub file_app : Text → Text → App
-file_app name path =
-    with_rule (with_rule (with_rule (new_app name) (flag_rule (codes "statuses"))) wait_rule) (path_rule path)
+-- a path of the table
+abbrev pub PathRow : Type 0
+PathRow = Bor Text × Bor Text
 
--- format IMAGE [--cells N] [--elements N] [--slots N] [--new] [--statuses] [--wait SECONDS]
-abbrev pub format_app : App
-format_app =
-    with_rule (with_rule (with_rule
-    (with_rule (file_app (codes "format") (codes "IMAGE")) (option_rule (codes "cells")))
-    (option_rule (codes "elements"))) (option_rule (codes "slots"))) (flag_rule (codes "new"))
+-- an option of the table
+abbrev pub OptionRow : Type 0
+OptionRow = Bor Text × Option (Bor Text) × Bor Text
 
--- NAME IMAGE SCRIPT [--quiet] [--json] [--statuses] [--wait SECONDS]
-abbrev pub script_app : Text → App
-script_app name = with_rule (with_rule (with_rule (file_app name (codes "IMAGE")) (path_rule (codes "SCRIPT")))
-    (flag_rule (codes "quiet"))) (flag_rule (codes "json"))
+-- a subcommand of the table
+abbrev pub SubcommandRow : Type 0
+SubcommandRow = Bor Text × Bor Text × Bor (List PathRow) × Bor (List OptionRow)
 
--- serial IMAGE SCRIPT [--quiet] [--json] [--once] [--statuses] [--wait SECONDS]
-abbrev pub serial_app : App
-serial_app = with_rule (script_app (codes "serial")) (flag_rule (codes "once"))
+-- a command that takes these paths too
+unfoldable pub with_paths : App → List PathRow → App
+with_paths app [] = app
+with_paths app (path ∷ paths) = with_paths (with_rule app (path_rule path.0.now)) paths
 
--- run IMAGE SCRIPT [--quiet] [--json] [--planned] [--trace FILE] [--once] [--statuses] [--wait SECONDS]
-abbrev pub run_app : App
-run_app = with_rule (with_rule (with_rule (script_app (codes "run")) (flag_rule (codes "planned")))
-    (option_rule (codes "trace"))) (flag_rule (codes "once"))
+-- a command that takes these options too
+unfoldable pub with_options : App → List OptionRow → App
+with_options app [] = app
+with_options app (word ∷ words) = with_options (with_rule app (option_by word.0.now word.1)) words
 
--- serve IMAGE [--watch] [--backups FOLDER] [--statuses] [--wait SECONDS]
-abbrev pub serve_app : App
-serve_app = with_rule (with_rule (file_app (codes "serve") (codes "IMAGE")) (flag_rule (codes "watch")))
-    (option_rule (codes "backups"))
+-- a subcommand: it takes the options of each, its paths, and its own options
+abbrev pub app_in : SubcommandRow → App
+app_in row = with_options (with_paths (with_options (new_app row.0.now) COMMON) row.2.now) row.3.now
 
--- inspect IMAGE [--cells FROM-TO] [--element K] [--waiting] [--json] [--statuses] [--wait SECONDS]
-abbrev pub inspect_app : App
-inspect_app = with_rule (with_rule (with_rule (with_rule (file_app (codes "inspect") (codes "IMAGE"))
-    (option_rule (codes "cells"))) (option_rule (codes "element"))) (flag_rule (codes "waiting")))
-    (flag_rule (codes "json"))
-
--- NAME IMAGE [--json] [--statuses] [--wait SECONDS]
-abbrev pub json_app : Text → App
-json_app name = with_rule (file_app name (codes "IMAGE")) (flag_rule (codes "json"))
-
--- stat IMAGE [--json] [--statuses] [--wait SECONDS]
-abbrev pub stat_app : App
-stat_app = json_app (codes "stat")
-
--- migrate OLD NEW [--statuses] [--wait SECONDS]
-abbrev pub migrate_app : App
-migrate_app = with_rule (file_app (codes "migrate") (codes "OLD")) (path_rule (codes "NEW"))
-
--- a subcommand with the options for sizes
-abbrev pub sized_app : App → App
-sized_app app = with_rule (with_rule (with_rule app (option_rule (codes "cells"))) (option_rule (codes "elements")))
-    (option_rule (codes "slots"))
-
--- a subcommand that takes a path and that of a new file, with the options for sizes
-abbrev pub making_app : Text → Text → App
-making_app name path = sized_app (with_rule (file_app name path) (path_rule (codes "NEW")))
-
--- copy OLD NEW [--cells N] [--elements N] [--slots N] [--statuses] [--wait SECONDS]
-abbrev pub copy_app : App
-copy_app = making_app (codes "copy") (codes "OLD")
-
--- dump IMAGE [--json] [--statuses] [--wait SECONDS]
-abbrev pub dump_app : App
-dump_app = json_app (codes "dump")
-
--- load TEXT NEW [--cells N] [--elements N] [--slots N] [--statuses] [--wait SECONDS]
-abbrev pub load_app : App
-load_app = making_app (codes "load") (codes "TEXT")
+-- a command that takes these subcommands too
+unfoldable pub with_subcommands : App → List SubcommandRow → App
+with_subcommands app [] = app
+with_subcommands app (row ∷ rows) = with_subcommands (with_subcommand app (app_in row).top) rows
 
 -- a command with `--version`
 abbrev pub with_version : App → App
@@ -126,12 +89,9 @@ with_version app = record app { top = record app.top { has_version = true } }
 abbrev pub top_app : App
 top_app = with_version (new_app (codes "imem"))
 
--- imem, alone or with one of its subcommands
-abbrev pub imem_app : App
-imem_app = with_subcommand (with_subcommand (with_subcommand (with_subcommand (with_subcommand (with_subcommand
-    (with_subcommand (with_subcommand (with_subcommand (with_subcommand top_app format_app.top) serial_app.top)
-    run_app.top) serve_app.top) inspect_app.top) migrate_app.top) copy_app.top) dump_app.top) load_app.top)
-    stat_app.top
+-- imem, alone or with one of the table's subcommands
+unfoldable pub imem_app : App
+imem_app = with_subcommands top_app SUBCOMMANDS
 
 -- ---- what is asked for
 
@@ -164,10 +124,6 @@ texts_in (Load it) = Load (record { from = it.from.now; new = it.new.now; asked 
 texts_in (Migrate it) = Migrate (record { old = it.old.now; new = it.new.now })
 texts_in (Copy it) = Copy (record { from = it.from.now; new = it.new.now; asked = it.asked })
 
--- an option's number, in decimal digits below 2^32, or `fallback` if the option isn't given
-abbrev pub number_in : List Row → Text → ℕ → Option ℕ
-number_in rows id fallback = option_map_or (number_up_to 4294967295) (first_of id rows) (Some fallback)
-
 -- the number that a text gives, in decimal digits below 2^32
 abbrev pub given_number : Text → Option (Option ℕ)
 given_number text = option_map Some (number_up_to 4294967295 text)
@@ -190,15 +146,15 @@ path_in rows id = unwrap_or (first_of id rows) []
 abbrev pub is_given : List Row → Text → Bool
 is_given rows id = bytes_eq (path_in rows id) (codes "true")
 
--- what format is asked for, if each number that is given is in decimal digits below 2^32
+-- what format is asked for, if each size that is given is in decimal digits below 2^32
 abbrev pub format_work : List Row → Option (Work Text)
-format_work rows = option_and_then (λ cells. option_and_then (λ elements. option_map (λ slots. Format (record {
+format_work rows = option_map (λ asked. Format (record {
   image = path_in rows (codes "IMAGE");
-  cells = cells;
-  elements = elements;
-  slots = slots;
+  cells = unwrap_or asked.cells 4096;
+  elements = unwrap_or asked.elements 16;
+  slots = unwrap_or asked.slots 256;
   is_new = is_given rows (codes "new");
-})) (number_in rows (codes "slots") 256)) (number_in rows (codes "elements") 16)) (number_in rows (codes "cells") 4096)
+})) (sizes_given rows)
 
 -- how lines are told, by whether it is quiet and whether it is in JSON; it can't be both
 abbrev pub telling_with : Bool → Bool → Option Telling

@@ -4,14 +4,12 @@ ghost use Rattle.std.specs.Option.{option_map};
 ghost use Rattle.clap.specs.Words.{subcommand_rows_of};
 ghost use Rattle.im_words.specs.Words.{has_statuses, is_of_script, telling_in, texts_in, wait_in, work_in};
 
-use crate::copy_words::{copy_work, dump_work, load_work};
-use crate::format_words::format_work;
-use crate::look_words::{inspect_work, stat_work};
-use crate::migrate_words::migrate_work;
-use crate::parts::{is_given, seconds_given};
-use crate::script_words::{run_work, serial_work, telling_given};
-use crate::serve_words::serve_work;
+use crate::given::{is_given, seconds_given, telling_given};
 use crate::words::{CommandLine, Work};
+use crate::works::{
+    copy_work, dump_work, format_work, inspect_work, load_work, migrate_work, run_work,
+    serial_work, serve_work, stat_work,
+};
 use clap::ArgMatches;
 use im_filters::Telling;
 

@@ -5,6 +5,15 @@ use im_filters::Telling;
 use im_migration::Asked;
 use im_report::View;
 
+/// The number of cells of an image, if the command line doesn't say it.
+pub const DEFAULT_CELLS: u32 = 4_096;
+
+/// The number of elements of an image, if the command line doesn't say it.
+pub const DEFAULT_ELEMENTS: u32 = 16;
+
+/// The number of journal slots of an image, if the command line doesn't say it.
+pub const DEFAULT_SLOTS: u32 = 256;
+
 /// What the program is asked to do. `P` stands for a path: of the program's own work it is a text of the command line.
 #[derive(Clone, Copy)]
 pub enum Work<P> {

@@ -1,0 +1,135 @@
+//! Makes the command line of the table.
+ghost use Rattle.std.specs.Prelude.{◌≡◌, false, IfOk, codes};
+ghost use Rattle.clap.specs.Words.{app_of, rule_of};
+ghost use Rattle.clap.specs.declared.builder.command.Command.TheViews.{out-Command};
+ghost use Rattle.im_words.specs.Words.{app_in, flag_rule, imem_app, option_in, option_rule, path_rule, top_app};
+ghost use Rattle.im_words.specs.Words.{with_options, with_paths, with_subcommands};
+
+use crate::help::{EXAMPLES, examples_of};
+use crate::table::{COMMON, OptionWord, PathWord, SUBCOMMANDS, Subcommand};
+use crate::words::version;
+use clap::{Arg, ArgAction, Command};
+use std::alloc::{AllocError, Global};
+
+// An option with a value, which the help names.
+fn value_option<'a>(alloc: Global, id: &'a str, value: &'a str, help: &'a str) -> Arg<'a>
+    ensures rule { rule_of result ≡ option_rule id.entry.now }
+    ensures local { result.global ≡ false }
+{
+    let option = Arg::new(alloc, id).long(id);
+    option.value_name(value).help(help)
+}
+
+// A flag: an option without a value.
+fn flag_option<'a>(alloc: Global, id: &'a str, help: &'a str) -> Arg<'a>
+    ensures rule { rule_of result ≡ flag_rule id.entry.now }
+    ensures local { result.global ≡ false }
+{
+    Arg::new(alloc, id)
+        .long(id)
+        .action(ArgAction::SetTrue)
+        .help(help)
+}
+
+// A required path.
+fn path_argument<'a>(alloc: Global, id: &'a str, help: &'a str) -> Arg<'a>
+    ensures rule { rule_of result ≡ path_rule id.entry.now }
+    ensures local { result.global ≡ false }
+{
+    Arg::new(alloc, id).required(true).help(help)
+}
+
+// An option as clap takes it.
+fn option_of<'a>(alloc: Global, word: OptionWord) -> Arg<'a>
+    ensures rule { rule_of result ≡ option_in word.entry }
+    ensures local { result.global ≡ false }
+{
+    let (id, value, help) = word;
+    match value {
+        Some(value) => value_option(alloc, id, value, help),
+        None => flag_option(alloc, id, help),
+    }
+}
+
+// Adds required paths to a command.
+fn with_paths<'a>(
+    alloc: Global,
+    command: Command<'a>,
+    paths: &[PathWord],
+) -> Result<Command<'a>, AllocError>
+    requires local { (out-Command command).has_globals ≡ false }
+    ensures app { IfOk result (λ c. app_of c ≡ with_paths (app_of command.entry) paths.now) }
+    ensures local { IfOk result (λ c. (out-Command c).has_globals ≡ false) }
+{
+    let mut made = command;
+    for path in paths {
+        made = made.arg(path_argument(alloc, path.0, path.1))?;
+    }
+    Ok(made)
+}
+
+// Adds options to a command.
+fn with_options<'a>(
+    alloc: Global,
+    command: Command<'a>,
+    options: &[OptionWord],
+) -> Result<Command<'a>, AllocError>
+    requires local { (out-Command command).has_globals ≡ false }
+    ensures app { IfOk result (λ c. app_of c ≡ with_options (app_of command.entry) options.now) }
+    ensures local { IfOk result (λ c. (out-Command c).has_globals ≡ false) }
+{
+    let mut made = command;
+    for option in options {
+        made = made.arg(option_of(alloc, *option))?;
+    }
+    Ok(made)
+}
+
+/// The subcommand of a row.
+pub(crate) fn command_of<'a>(alloc: Global, row: &Subcommand) -> Result<Command<'a>, AllocError>
+    ensures app { IfOk result (λ c. app_of c ≡ app_in row.now) }
+    ensures local { IfOk result (λ c. (out-Command c).has_globals ≡ false) }
+{
+    let (name, about, paths, options) = *row;
+    let empty = Command::new(alloc, name)
+        .about(about)
+        .after_help(examples_of(name));
+    let common = with_options(alloc, empty, &COMMON)?;
+    let pathed = with_paths(alloc, common, paths)?;
+    let command = with_options(alloc, pathed, options)?;
+    Ok(command)
+}
+
+// Adds subcommands to a command. Each is made just before it is added, so that no other one is owned meanwhile.
+fn with_subcommands<'a>(
+    alloc: Global,
+    command: Command<'a>,
+    rows: &[Subcommand],
+) -> Result<Command<'a>, AllocError>
+    ensures app { IfOk result (λ c. app_of c ≡ with_subcommands (app_of command.entry) rows.now) }
+{
+    let mut made = command;
+    for row in rows {
+        let subcommand = command_of(alloc, row)?;
+        made = made.subcommand(subcommand)?;
+    }
+    Ok(made)
+}
+
+/// The program with no subcommand.
+fn top_command<'a>(alloc: Global) -> Command<'a>
+    ensures app { app_of result ≡ top_app }
+{
+    Command::new(alloc, "imem")
+        .version(version())
+        .about("A durable memory of I-structure and M-structure cells, kept in an image file.")
+        .after_help(EXAMPLES)
+}
+
+/// The whole command line.
+pub(crate) fn imem_command<'a>(alloc: Global) -> Result<Command<'a>, AllocError>
+    ensures app { IfOk result (λ c. app_of c ≡ imem_app) }
+{
+    let command = with_subcommands(alloc, top_command(alloc), &SUBCOMMANDS)?;
+    Ok(command)
+}
