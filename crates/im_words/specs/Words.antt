@@ -58,6 +58,10 @@ PathRow = Bor Text × Bor Text
 abbrev pub OptionRow : Type 0
 OptionRow = Bor Text × Option (Bor Text) × Bor Text
 
+-- an option as the table has it
+abbrev pub option_in : OptionRow → Rule
+option_in word = option_by word.0.now word.1
+
 -- a subcommand of the table
 abbrev pub SubcommandRow : Type 0
 SubcommandRow = Bor Text × Bor Text × Bor (List PathRow) × Bor (List OptionRow)
@@ -70,7 +74,7 @@ with_paths app (path ∷ paths) = with_paths (with_rule app (path_rule path.0.no
 -- a command that takes these options too
 unfoldable pub with_options : App → List OptionRow → App
 with_options app [] = app
-with_options app (word ∷ words) = with_options (with_rule app (option_by word.0.now word.1)) words
+with_options app (word ∷ words) = with_options (with_rule app (option_in word)) words
 
 -- a subcommand: it takes the options of each, its paths, and its own options
 abbrev pub app_in : SubcommandRow → App
