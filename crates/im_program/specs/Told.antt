@@ -13,8 +13,8 @@ use Rattle.im_words.specs.Words.{texts_in}
 use Rattle.im_program.specs.Places.{IsOldOf, IsOpenAt, file_of}
 use Rattle.im_program.specs.Working.{DoneOn}
 
--- What was done of a work holds of its disk, if one was given back. The disks are that of the image or the new file, and
--- that of the old file. If no file was opened, the work needs none, or was refused.
+-- What was done of a work holds of its disk, if one was given back. The disks are that of the image or the new file,
+-- and that of the old file. If no file was opened, the work needs none, or was refused.
 pub record ComesTo {S T : Type 0} (start : Ghosts S) (other : Ghosts T) (d : DiskGhosts (FileDisk S start))
     (e : DiskGhosts (FileDisk T other)) (work : Work (List ℕ)) (done : FileDisk S start → Type 0) (status : ℕ)
     (disk : Option (FileDisk S start)) (old : Option (FileDisk T other)) : Type 0 where

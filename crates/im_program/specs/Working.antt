@@ -119,7 +119,8 @@ WasTalked d first watch input was is result = IfOk result (λ r. d.honest r.1
 
 -- this was printed of the bytes that a disk had, with status 0, and it was only read, if it is honest
 abbrev pub WasShown : {D : Type 0} → DiskGhosts D → Moment → Type 0 → ℕ → D → Type 0
-WasShown d first shown status disk = d.honest disk → (status ≡ 0 → shown) × ReadsOnly first (d.now disk) [] (d.past disk)
+WasShown d first shown status disk =
+    d.honest disk → (status ≡ 0 → shown) × ReadsOnly first (d.now disk) [] (d.past disk)
 
 -- ---- each kind of work
 

@@ -219,8 +219,8 @@ fn work_alone<
 /// returned, the status and the output are those of the function that was called. Else the status is 1, or that of
 /// [`demonstrate`].
 ///
-/// `starts` stand for what the image or the new file, and the old file, hold when they are opened. They are used up, and
-/// no code reads them.
+/// `starts` stand for what the image or the new file, and the old file, hold when they are opened. They are used up,
+/// and no code reads them.
 pub fn act_alone<
     R: Files<File = File> + AllocGlobal + Eprint,
     S: Start,

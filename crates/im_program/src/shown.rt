@@ -23,8 +23,8 @@ impl Display for EscapedName<'_> {
     }
 }
 
-/// The paths of the two files of a work, an empty one for none. The first is that of the image, or of what a new file is
-/// made of. The second is that of the script or the lines, or of the new file.
+/// The paths of the two files of a work, an empty one for none. The first is that of the image, or of what a new file
+/// is made of. The second is that of the script or the lines, or of the new file.
 pub(crate) fn paths_of<'a>(work: &Work<&'a str>) -> (&'a str, &'a str) {
     match *work {
         Work::Demonstration => ("", ""),

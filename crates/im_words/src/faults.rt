@@ -48,7 +48,8 @@ fn bad_value(
     error_of(alloc, name, ErrorKind::ValueValidation, message.as_str())
 }
 
-// The first option for a size whose text is not the decimal number of a u32, with its text and the sizes that there are.
+// The first option for a size whose text is not the decimal number of a u32, with its text and the sizes that there
+// are.
 fn bad_size<'a>(found: &ArgMatches<'a>) -> (&'static str, &'a str, &'static str) {
     for (id, range) in [
         ("cells", "a decimal number, 1 to 1048576, is expected"),

@@ -3,8 +3,8 @@ ghost use Rattle.std.specs.Prelude.{◌≡◌};
 ghost use Rattle.std.specs.Option.{option_map};
 ghost use Rattle.clap.specs.Words.{found_of, rows_of};
 ghost use Rattle.im_words.specs.Words.{copy_work, dump_as, dump_work, format_work, inspect_look, inspect_work};
-ghost use Rattle.im_words.specs.Words.{load_work, migrate_work, run_work, serial_work, serve_work, stat_look, stat_work};
-ghost use Rattle.im_words.specs.Words.{texts_in};
+ghost use Rattle.im_words.specs.Words.{load_work, migrate_work, run_work, serial_work, serve_work, stat_look};
+ghost use Rattle.im_words.specs.Words.{stat_work, texts_in};
 
 use crate::given::{filter_of, is_given, path_if, path_of, sizes_given, telling_given};
 use crate::words::{
