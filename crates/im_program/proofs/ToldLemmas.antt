@@ -9,7 +9,7 @@ use Rattle.im_text.specs.Printing.{Begins}
 use Rattle.im_filters.specs.declared.telling.Telling.{Telling}
 use Rattle.im_filters.specs.Tellings.{ToldIn, sifted}
 use Rattle.im_filters.proofs.ToldLemmas.{told_in}
-use Rattle.im_program.specs.Told.{ComesTo, WorkDone, WorkTold}
+use Rattle.im_program.specs.Told.{HasDone, WorkDone, WorkTold}
 use Rattle.im_program.specs.Working.{DoneOn}
 use Rattle.im_words.specs.declared.words.Work.{Work}
 use Rattle.im_words.specs.declared.words.Work.TheVariants.{Demonstration}
@@ -17,7 +17,7 @@ use Rattle.im_words.specs.declared.words.Work.TheVariants.{Demonstration}
 -- whatever was asked was refused, and no file was opened
 pub nothing_done : {S T : Type 0} (start : Ghosts S) (other : Ghosts T) (d : DiskGhosts (FileDisk S start))
     (e : DiskGhosts (FileDisk T other)) (work : Work (List ℕ)) (done : FileDisk S start → Type 0) (status : ℕ)
-    → status ≡ 1 → ComesTo start other d e work done status None None
+    → status ≡ 1 → HasDone start other d e work done status None None
 nothing_done start other d e work done status one = record {
   result = tt;
   named = tt;

@@ -15,7 +15,7 @@ use Rattle.im_program.specs.Working.{DoneOn}
 
 -- What was done of a work holds of its disk, if one was given back. The disks are that of the image or the new file,
 -- and that of the old file. If no file was opened, the work needs none, or was refused.
-pub record ComesTo {S T : Type 0} (start : Ghosts S) (other : Ghosts T) (d : DiskGhosts (FileDisk S start))
+pub record HasDone {S T : Type 0} (start : Ghosts S) (other : Ghosts T) (d : DiskGhosts (FileDisk S start))
     (e : DiskGhosts (FileDisk T other)) (work : Work (List ℕ)) (done : FileDisk S start → Type 0) (status : ℕ)
     (disk : Option (FileDisk S start)) (old : Option (FileDisk T other)) : Type 0 where
   pub result : IfSome disk done
@@ -28,13 +28,13 @@ module _ {S T : Type 0} (start : Ghosts S) (other : Ghosts T) (d : DiskGhosts (F
   -- a work was done with this status, with a writer
   abbrev pub WorkDone : Option (List ℕ) → Option (List ℕ) → ℕ → Option (FileDisk S start) → Option (FileDisk T other)
       → Type 0
-  WorkDone was is status disk old = ComesTo start other d e work
+  WorkDone was is status disk old = HasDone start other d e work
       (λ it. DoneOn start other d input work was is status it old) status disk old
 
   -- the same, told to a writer
   abbrev pub WorkTold : Telling → Option (List ℕ) → Option (List ℕ) → ℕ → Option (FileDisk S start)
       → Option (FileDisk T other) → Type 0
-  WorkTold telling was is status disk old = ComesTo start other d e work (λ it. ToldIn
+  WorkTold telling was is status disk old = HasDone start other d e work (λ it. ToldIn
       (λ before after came_to. DoneOn start other d input work before after came_to it old) telling was is status)
       status disk old
 

@@ -25,6 +25,7 @@ use Rattle.im_program.specs.Sources.{IsTextOf, bytes_at}
 use Rattle.im_migration.specs.declared.asked.Asked.{Asked}
 use Rattle.im_words.specs.declared.words.Formatting.{Formatting}
 use Rattle.im_words.specs.declared.words.ScriptRun.{ScriptRun}
+use Rattle.im_words.specs.declared.words.Talking.{Talking}
 use Rattle.im_words.specs.declared.words.Work.{Work}
 use Rattle.im_words.specs.declared.words.Work.TheVariants.{Demonstration, Format, Serial, Run, Serve, Inspect, Dump}
 use Rattle.im_words.specs.declared.words.Work.TheVariants.{Load, Migrate, Copy}
@@ -112,10 +113,10 @@ WasLoaded d first asked text input was is status disk = d.honest disk
     → LoadedFrom d.now d.past first asked (bytes_at text input) disk was is status
 
 -- a dialogue of this input was served on a disk that is given back, if the call succeeded and the disk is honest
-abbrev pub WasTalked : {D E : Type 0} → DiskGhosts D → Moment → Bool → Option (List ℕ) → Outputs → Outputs
-    → Result (ℕ × D) E → Type 0
-WasTalked d first watch input was is result = IfOk result (λ r. d.honest r.1
-    → TalkedFrom d watch first r.1 (with_input input was) is r.0)
+abbrev pub WasTalked : {D E : Type 0} → DiskGhosts D → Moment → Talking (Bor (List ℕ)) → Option (List ℕ) → Outputs
+    → Outputs → Result (ℕ × D) E → Type 0
+WasTalked d first talking input was is result = IfOk result (λ r. d.honest r.1
+    → TalkedFrom d talking.watch first r.1 (with_input input was) is r.0)
 
 -- this was printed of the bytes that a disk had, with status 0, and it was only read, if it is honest
 abbrev pub WasShown : {D : Type 0} → DiskGhosts D → Moment → Type 0 → ℕ → D → Type 0

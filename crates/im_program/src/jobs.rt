@@ -31,6 +31,23 @@ use std::fs::File;
 use std::io::{BufRead, Eprint, Write};
 use std::rt::Files;
 
+// Serves the demonstration's script. Returns the status.
+fn demonstrate_at<R: AllocGlobal, I, W: Write, N: Observer<News>>(
+    hand: AtHand<'_, R, I, N>,
+    out: &mut W,
+) -> u8
+    ensures { result ≤ 1 }
+{
+    let (rt, _held, _input, observer) = hand.parts();
+    demonstrate(rt.alloc(), out, observer)
+}
+
+// The refusal of a run, which needs more threads than one.
+fn no_threads<R, I, N>(hand: AtHand<'_, R, I, N>) -> Refusal {
+    let _unused = hand.parts();
+    Refusal::NoMemory
+}
+
 // Does the work. Returns the status, the disk of the image or of the new file, and that of the old file.
 fn do_work<
     R: Files<File = File> + AllocGlobal,
@@ -51,10 +68,7 @@ fn do_work<
 {
     let (start, other) = starts;
     match *work {
-        Work::Demonstration => {
-            let (rt, _held, _input, observer) = hand.parts();
-            Ok((demonstrate(rt.alloc(), out, observer), None, None))
-        }
+        Work::Demonstration => Ok((demonstrate_at(hand, out), None, None)),
         Work::Format(formatting) => {
             let (made, disk) = format_image(hand, &formatting, start)?;
             Ok((made, Some(disk), None))
@@ -63,10 +77,7 @@ fn do_work<
             let (served, disk) = serve_file(hand, &serving, out, start)?;
             Ok((served, Some(disk), None))
         }
-        Work::Run(_) => {
-            let _unused = hand.parts();
-            Err(Refusal::NoMemory) // It needs more threads than one.
-        }
+        Work::Run(_) => Err(no_threads(hand)),
         Work::Serve(talking) => {
             let mut folder = Folder::new(hand.rt, hand.held, talking.backups);
             let (talked, disk) = talk_file(hand, &talking, &mut folder, out, start)?;

@@ -45,7 +45,7 @@ pub fn talk_file<
     start: S,
 ) -> Result<(u8, FileDisk<S>), Refusal>
     ensures status { IfOk result (λ r. r.0 ≤ 1) }
-    ensures talked { WasTalked ⟦<FileDisk<S> as Disk>⟧ S.first talking.now.watch
+    ensures talked { WasTalked ⟦<FileDisk<S> as Disk>⟧ S.first talking.now
         (I.remaining hand.entry.input.now) (outputs (W.contents out.old) (B.kept backups.old))
         (outputs (W.contents out.new) (B.kept backups.new)) result }
     ensures named { IfOk result (λ r. IsOpenAt ⟦<FileDisk<S> as Disk>⟧ S.path talking.now.image.now r.1) }

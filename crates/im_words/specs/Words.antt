@@ -50,35 +50,27 @@ abbrev pub option_by : Text → Option (Bor Text) → Rule
 option_by id None = flag_rule id
 option_by id (Some value) = option_rule id
 
--- a path of the table
-abbrev pub PathRow : Type 0
-PathRow = Bor Text × Bor Text
+-- a path or an option of the table
+abbrev pub WordRow : Type 0
+WordRow = Bor Text × Option (Bor Text) × Bor Text
 
--- an option of the table
-abbrev pub OptionRow : Type 0
-OptionRow = Bor Text × Option (Bor Text) × Bor Text
-
--- an option as the table has it
-abbrev pub option_in : OptionRow → Rule
-option_in word = option_by word.0.now word.1
+-- the one or the other
+abbrev pub argument_in : Bool → WordRow → Rule
+argument_in is_path word = if is_path then path_rule word.0.now else option_by word.0.now word.1
 
 -- a subcommand of the table
 abbrev pub SubcommandRow : Type 0
-SubcommandRow = Bor Text × Bor Text × Bor (List PathRow) × Bor (List OptionRow)
+SubcommandRow = Bor Text × Bor Text × Bor (List WordRow) × Bor (List WordRow)
 
--- a command that takes these paths too
-unfoldable pub with_paths : App → List PathRow → App
-with_paths app [] = app
-with_paths app (path ∷ paths) = with_paths (with_rule app (path_rule path.0.now)) paths
-
--- a command that takes these options too
-unfoldable pub with_options : App → List OptionRow → App
-with_options app [] = app
-with_options app (word ∷ words) = with_options (with_rule app (option_in word)) words
+-- a command that takes these paths or options too
+unfoldable pub with_words : Bool → App → List WordRow → App
+with_words is_path app [] = app
+with_words is_path app (word ∷ words) = with_words is_path (with_rule app (argument_in is_path word)) words
 
 -- a subcommand: it takes the options of each, its paths, and its own options
 abbrev pub app_in : SubcommandRow → App
-app_in row = with_options (with_paths (with_options (new_app row.0.now) COMMON) row.2.now) row.3.now
+app_in row =
+    with_words false (with_words true (with_words false (new_app row.0.now) COMMON) row.2.now) row.3.now
 
 -- a command that takes these subcommands too
 unfoldable pub with_subcommands : App → List SubcommandRow → App

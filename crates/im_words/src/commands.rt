@@ -2,11 +2,11 @@
 ghost use Rattle.std.specs.Prelude.{◌≡◌, false, IfOk, codes};
 ghost use Rattle.clap.specs.Words.{app_of, rule_of};
 ghost use Rattle.clap.specs.declared.builder.command.Command.TheViews.{out-Command};
-ghost use Rattle.im_words.specs.Words.{app_in, flag_rule, imem_app, option_in, option_rule, path_rule, top_app};
-ghost use Rattle.im_words.specs.Words.{with_options, with_paths, with_subcommands};
+ghost use Rattle.im_words.specs.Words.{app_in, argument_in, flag_rule, imem_app, option_rule, path_rule, top_app};
+ghost use Rattle.im_words.specs.Words.{with_subcommands, with_words};
 
 use crate::help::{EXAMPLES, examples_of};
-use crate::table::{COMMON, OptionWord, PathWord, SUBCOMMANDS, Subcommand};
+use crate::table::{COMMON, SUBCOMMANDS, Subcommand, Word};
 use crate::words::version;
 use clap::{Arg, ArgAction, Command};
 use std::alloc::{AllocError, Global};
@@ -39,48 +39,35 @@ fn path_argument<'a>(alloc: Global, id: &'a str, help: &'a str) -> Arg<'a>
     Arg::new(alloc, id).required(true).help(help)
 }
 
-// An option as clap takes it.
-fn option_of<'a>(alloc: Global, word: OptionWord) -> Arg<'a>
-    ensures rule { rule_of result ≡ option_in word.entry }
+// A path that is required, or an option, as clap takes it.
+fn argument<'a>(alloc: Global, is_path: bool, word: Word) -> Arg<'a>
+    ensures rule { rule_of result ≡ argument_in is_path word.entry }
     ensures local { result.global ≡ false }
 {
     let (id, value, help) = word;
+    if is_path {
+        return path_argument(alloc, id, help);
+    }
     match value {
         Some(value) => value_option(alloc, id, value, help),
         None => flag_option(alloc, id, help),
     }
 }
 
-// Adds required paths to a command.
-fn with_paths<'a>(
+// Adds required paths, or options, to a command.
+fn with_words<'a>(
     alloc: Global,
     command: Command<'a>,
-    paths: &[PathWord],
+    is_path: bool,
+    words: &[Word],
 ) -> Result<Command<'a>, AllocError>
     requires local { (out-Command command).has_globals ≡ false }
-    ensures app { IfOk result (λ c. app_of c ≡ with_paths (app_of command.entry) paths.now) }
+    ensures app { IfOk result (λ c. app_of c ≡ with_words is_path (app_of command.entry) words.now) }
     ensures local { IfOk result (λ c. (out-Command c).has_globals ≡ false) }
 {
     let mut made = command;
-    for path in paths {
-        made = made.arg(path_argument(alloc, path.0, path.1))?;
-    }
-    Ok(made)
-}
-
-// Adds options to a command.
-fn with_options<'a>(
-    alloc: Global,
-    command: Command<'a>,
-    options: &[OptionWord],
-) -> Result<Command<'a>, AllocError>
-    requires local { (out-Command command).has_globals ≡ false }
-    ensures app { IfOk result (λ c. app_of c ≡ with_options (app_of command.entry) options.now) }
-    ensures local { IfOk result (λ c. (out-Command c).has_globals ≡ false) }
-{
-    let mut made = command;
-    for option in options {
-        made = made.arg(option_of(alloc, *option))?;
+    for word in words {
+        made = made.arg(argument(alloc, is_path, *word))?;
     }
     Ok(made)
 }
@@ -94,9 +81,9 @@ pub(crate) fn command_of<'a>(alloc: Global, row: &Subcommand) -> Result<Command<
     let empty = Command::new(alloc, name)
         .about(about)
         .after_help(examples_of(name));
-    let common = with_options(alloc, empty, &COMMON)?;
-    let pathed = with_paths(alloc, common, paths)?;
-    let command = with_options(alloc, pathed, options)?;
+    let common = with_words(alloc, empty, false, &COMMON)?;
+    let pathed = with_words(alloc, common, true, paths)?;
+    let command = with_words(alloc, pathed, false, options)?;
     Ok(command)
 }
 

@@ -2,22 +2,15 @@
 //!
 //! It is what the parser is made of, and what contracts say of it.
 
-/// A path that is required: its name, and what the help says of it.
-pub(crate) type PathWord = (&'static str, &'static str);
-
-/// An option: its name, the name of its value if it takes one, and what the help says of it.
-pub(crate) type OptionWord = (&'static str, Option<&'static str>, &'static str);
+/// A path that is required, or an option: its name, the name of its value if it is an option that takes one, and what
+/// the help says of it.
+pub(crate) type Word = (&'static str, Option<&'static str>, &'static str);
 
 /// A subcommand: its name, what it does, its paths, and its options beside those of each.
-pub(crate) type Subcommand = (
-    &'static str,
-    &'static str,
-    &'static [PathWord],
-    &'static [OptionWord],
-);
+pub(crate) type Subcommand = (&'static str, &'static str, &'static [Word], &'static [Word]);
 
 /// The options that each subcommand takes.
-pub(crate) const COMMON: [OptionWord; 2] = [
+pub(crate) const COMMON: [Word; 2] = [
     (
         "statuses",
         None,
@@ -35,7 +28,7 @@ pub(crate) const SUBCOMMANDS: [Subcommand; 10] = [
     (
         "format",
         "Make an image: an empty memory of the given size, in a new file or over an existing one",
-        &[("IMAGE", "The file to make")],
+        &[("IMAGE", None, "The file to make")],
         &[
             (
                 "cells",
@@ -59,8 +52,12 @@ pub(crate) const SUBCOMMANDS: [Subcommand; 10] = [
         "serial",
         "Serve the requests of a script, in their order, and print each reply",
         &[
-            ("IMAGE", "The image, made by 'imem format'"),
-            ("SCRIPT", "The file of requests, or - for standard input"),
+            ("IMAGE", None, "The image, made by 'imem format'"),
+            (
+                "SCRIPT",
+                None,
+                "The file of requests, or - for standard input",
+            ),
         ],
         &[
             ("quiet", None, "Print only the line of a refusal"),
@@ -76,8 +73,12 @@ pub(crate) const SUBCOMMANDS: [Subcommand; 10] = [
         "run",
         "Serve the requests of a script, those of each element by threads of its own, all at once",
         &[
-            ("IMAGE", "The image, made by 'imem format'"),
-            ("SCRIPT", "The file of requests, or - for standard input"),
+            ("IMAGE", None, "The image, made by 'imem format'"),
+            (
+                "SCRIPT",
+                None,
+                "The file of requests, or - for standard input",
+            ),
         ],
         &[
             ("quiet", None, "Print only the line of a refusal"),
@@ -102,7 +103,7 @@ pub(crate) const SUBCOMMANDS: [Subcommand; 10] = [
     (
         "serve",
         "Serve a dialogue: read a line, answer it with a line, until the input ends",
-        &[("IMAGE", "The image, made by 'imem format'")],
+        &[("IMAGE", None, "The image, made by 'imem format'")],
         &[
             (
                 "watch",
@@ -119,7 +120,7 @@ pub(crate) const SUBCOMMANDS: [Subcommand; 10] = [
     (
         "inspect",
         "Print what an image means, and change nothing",
-        &[("IMAGE", "The image, made by 'imem format'")],
+        &[("IMAGE", None, "The image, made by 'imem format'")],
         &[
             (
                 "cells",
@@ -139,15 +140,15 @@ pub(crate) const SUBCOMMANDS: [Subcommand; 10] = [
         "migrate",
         "Move an image of layout version 1 to a new file of the version in use",
         &[
-            ("OLD", "The image of layout version 1"),
-            ("NEW", "The new file"),
+            ("OLD", None, "The image of layout version 1"),
+            ("NEW", None, "The new file"),
         ],
         &[],
     ),
     (
         "copy",
         "Copy an image to a new file, in other sizes if they are given",
-        &[("OLD", "The image"), ("NEW", "The new file")],
+        &[("OLD", None, "The image"), ("NEW", None, "The new file")],
         &[
             (
                 "cells",
@@ -169,15 +170,15 @@ pub(crate) const SUBCOMMANDS: [Subcommand; 10] = [
     (
         "dump",
         "Print what an image means as a text, which 'imem load' reads back",
-        &[("IMAGE", "The image, made by 'imem format'")],
+        &[("IMAGE", None, "The image, made by 'imem format'")],
         &[("json", None, "Print JSON, an object on each line")],
     ),
     (
         "load",
         "Make an image of a text that 'imem dump' printed",
         &[
-            ("TEXT", "The text, or - for standard input"),
-            ("NEW", "The new file"),
+            ("TEXT", None, "The text, or - for standard input"),
+            ("NEW", None, "The new file"),
         ],
         &[
             (
@@ -200,7 +201,7 @@ pub(crate) const SUBCOMMANDS: [Subcommand; 10] = [
     (
         "stat",
         "Print some numbers of an image, and change nothing",
-        &[("IMAGE", "The image, made by 'imem format'")],
+        &[("IMAGE", None, "The image, made by 'imem format'")],
         &[("json", None, "Print JSON, an object on each line")],
     ),
 ];

@@ -3,12 +3,12 @@ use Rattle.std.specs.Prelude.{IsSome, Some}
 use Rattle.clap.specs.Simple.{is_simple, subcommand_of}
 use Rattle.clap.specs.Words.{App, app_of, fault_of, is_simple_and_free, takes}
 use Rattle.im_script.specs.Grammar.{texts}
-use Rattle.im_words.specs.Words.{asks_wait, asks_work, has_statuses, imem_app, telling_in, wait_in, with_options, with_paths}
-use Rattle.im_words.specs.Words.{with_subcommands, work_in}
+use Rattle.im_words.specs.Words.{asks_wait, asks_work, has_statuses, imem_app, telling_in, wait_in, with_subcommands}
+use Rattle.im_words.specs.Words.{with_words, work_in}
 use Rattle.im_words.proofs.reading.read_words.Goals as goal
 
 free : is_simple_and_free imem_app ≡ true
-unfolding imem_app with_subcommands with_paths with_options
+unfolding imem_app with_subcommands with_words
 free = refl
 
 pub returns-in-Some-clause-sound : goal.returns-in-Some-clause-sound
@@ -23,7 +23,7 @@ returns-in-Err-try_get_matches_from-clause-taken c = λ taken some waits.
     c.fault.ensures (c.in-Err-try_get_matches_from.ensures.passes same)
 
 simple : is_simple imem_app ≡ true
-unfolding imem_app with_subcommands with_paths with_options
+unfolding imem_app with_subcommands with_words
 simple = refl
 
 pub returns-in-Some-clause-work : goal.returns-in-Some-clause-work
