@@ -1,5 +1,5 @@
 //! Does the work of one thread.
-ghost use Rattle.std.specs.Prelude.{◌≡◌, ◌⊎◌, ◌≤◌, IfOk, IfSome};
+ghost use Rattle.std.specs.Prelude.{◌≡◌, ◌⊎◌, ◌≤◌, IfOk, IfSome, None, Some};
 ghost use Rattle.im_words.specs.Words.{texts_in};
 ghost use Rattle.im_program.specs.Places.{IsOpenAt, file_of};
 ghost use Rattle.im_program.specs.Told.{LineDone};
@@ -48,6 +48,26 @@ fn no_threads<R, I, N>(hand: AtHand<'_, R, I, N>) -> Refusal {
     Refusal::NoMemory
 }
 
+// What work on one file came to.
+fn of_one<S: Start, T: Start>(
+    done: (u8, FileDisk<S>),
+) -> (u8, Option<FileDisk<S>>, Option<FileDisk<T>>)
+    ensures { result ≡ (done.0, Some done.1, None) }
+{
+    let (status, disk) = done;
+    (status, Some(disk), None)
+}
+
+// What work on a new file and an old one came to.
+fn of_two<S: Start, T: Start>(
+    done: (u8, FileDisk<S>, FileDisk<T>),
+) -> (u8, Option<FileDisk<S>>, Option<FileDisk<T>>)
+    ensures { result ≡ (done.0, Some done.1, Some done.2) }
+{
+    let (status, new, old) = done;
+    (status, Some(new), Some(old))
+}
+
 // Does the work. Returns the status, the disk of the image or of the new file, and that of the old file.
 fn do_work<
     R: Files<File = File> + AllocGlobal,
@@ -69,40 +89,18 @@ fn do_work<
     let (start, other) = starts;
     match *work {
         Work::Demonstration => Ok((demonstrate_at(hand, out), None, None)),
-        Work::Format(formatting) => {
-            let (made, disk) = format_image(hand, &formatting, start)?;
-            Ok((made, Some(disk), None))
-        }
-        Work::Serial(serving) => {
-            let (served, disk) = serve_file(hand, &serving, out, start)?;
-            Ok((served, Some(disk), None))
-        }
+        Work::Format(it) => Ok(of_one(format_image(hand, &it, start)?)),
+        Work::Serial(it) => Ok(of_one(serve_file(hand, &it, out, start)?)),
         Work::Run(_) => Err(no_threads(hand)),
-        Work::Serve(talking) => {
-            let mut folder = Folder::new(hand.rt, hand.held, talking.backups);
-            let (talked, disk) = talk_file(hand, &talking, &mut folder, out, start)?;
-            Ok((talked, Some(disk), None))
+        Work::Serve(it) => {
+            let mut folder = Folder::new(hand.rt, hand.held, it.backups);
+            Ok(of_one(talk_file(hand, &it, &mut folder, out, start)?))
         }
-        Work::Inspect(it) => {
-            let (inspected, disk) = inspect_file(hand, it.image, &it.look, out, start)?;
-            Ok((inspected, Some(disk), None))
-        }
-        Work::Dump(image) => {
-            let (dumped, disk) = dump_file(hand, image, out, start)?;
-            Ok((dumped, Some(disk), None))
-        }
-        Work::Load(making) => {
-            let (loaded, disk) = load_file(hand, &making, out, start)?;
-            Ok((loaded, Some(disk), None))
-        }
-        Work::Migrate(moving) => {
-            let (moved, new, old) = migrate_file(hand, &moving, out, (start, other))?;
-            Ok((moved, Some(new), Some(old)))
-        }
-        Work::Copy(making) => {
-            let (copied, new, old) = copy_file(hand, &making, out, (start, other))?;
-            Ok((copied, Some(new), Some(old)))
-        }
+        Work::Inspect(it) => Ok(of_one(inspect_file(hand, it.image, &it.look, out, start)?)),
+        Work::Dump(image) => Ok(of_one(dump_file(hand, image, out, start)?)),
+        Work::Load(it) => Ok(of_one(load_file(hand, &it, out, start)?)),
+        Work::Migrate(it) => Ok(of_two(migrate_file(hand, &it, out, (start, other))?)),
+        Work::Copy(it) => Ok(of_two(copy_file(hand, &it, out, (start, other))?)),
     }
 }
 
