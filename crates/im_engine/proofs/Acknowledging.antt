@@ -1,31 +1,16 @@
 -- What the members of a group acknowledge.
-use Rattle.std.proofs.Common.{◌≡◌, ℕ, zero, suc, ◌<◌, ◌≤◌, Bool, true, false, ◌&&◌, ◌||◌, List, [], ◌∷◌, ◌++◌, length}
-use Rattle.std.proofs.Common.{map, Result, Ok, Err, refl, sym, ap, ◌∙◌, arith, if◌then◌else◌}
-use Rattle.std.specs.Prelude.{nat_lt, ◌==◌}
+use Rattle.std.proofs.Common.{◌≡◌, ℕ, zero, suc, ◌<◌, ◌≤◌, Bool, true, false, ◌&&◌, ◌||◌, List, [], ◌∷◌, ◌++◌, map}
+use Rattle.std.proofs.Common.{length, if◌then◌else◌, nat_lt, ◌==◌, Ok, Err, Result, sym, refl, ap, ◌∙◌, arith}
 use Rattle.std.proofs.lemmas.Bool.Decides.{nat_tests}
-use Rattle.im_types.specs.declared.commands.Request.{Request}
-use Rattle.im_types.specs.declared.commands.Command.{Command}
-use Rattle.im_types.specs.declared.commands.Command.TheVariants.{Request as Asks}
-use Rattle.im_types.specs.declared.commands.Outcome.{Outcome}
-use Rattle.im_types.specs.declared.groups.Served.{Served}
-use Rattle.im_types.specs.declared.groups.Served.TheVariants.{Done, Refused}
-use Rattle.im_types.specs.declared.refusals.Refusal.{Refusal}
-use Rattle.im_types.specs.declared.refusals.Refusal.TheVariants.{Gap, Forgotten, WindowFull, Mismatch, NoElement}
-use Rattle.im_types.specs.declared.refusals.Refusal.TheVariants.{NotAnswered, JournalFull, Device, Failed, NoMemory}
-use Rattle.im_types.specs.declared.refusals.Refusal.TheVariants.{TraceFull, WrongLength, NoHeader, BadHeader, BadPage}
-use Rattle.im_types.specs.declared.refusals.Refusal.TheVariants.{BadRecord, BadLimits, BadScript, Stalled, OffPlan}
-use Rattle.im_types.specs.declared.refusals.Refusal.TheVariants.{OldVersion, NotBlank, BadPlan, PaneGone}
-use Rattle.im_types.specs.Refusals.{number_of}
-use Rattle.im_types.specs.Contents.{Contents}
-use Rattle.im_types.specs.Step.{step, is_accepted}
-use Rattle.im_types.specs.Run.{after}
-use Rattle.im_types.specs.Meaning.{Reached}
-use Rattle.im_types.specs.Groups.{as_served, is_new, is_put, with_request, answer_of, reached_by_one, answers_of}
-use Rattle.im_types.specs.Groups.{puts_of}
+use Rattle.im_types.specs.Types.{Request, Command, Outcome, Asks, Served, Done, Refused, Refusal, Gap, Forgotten}
+use Rattle.im_types.specs.Types.{WindowFull, Mismatch, NoElement, NotAnswered, JournalFull, Device, Failed, NoMemory}
+use Rattle.im_types.specs.Types.{TraceFull, WrongLength, NoHeader, BadHeader, BadPage, BadRecord, BadLimits, BadScript}
+use Rattle.im_types.specs.Types.{Stalled, OffPlan, OldVersion, NotBlank, BadPlan, PaneGone, number_of, Contents, step}
+use Rattle.im_types.specs.Types.{is_accepted, after, as_served, is_new, is_put, with_request, answer_of, reached_by_one}
+use Rattle.im_types.specs.Types.{answers_of, puts_of, Reached}
 use Rattle.im_laws.proofs.RefusalLemmas.{step-refusals}
-use Rattle.im_engine.specs.Groups.{all_refused}
-use Rattle.im_engine.specs.Run.{is_device, says_device, has_device, acknowledged_member, acknowledged_members}
-use Rattle.im_engine.proofs.Accepting.{Answers, accepted_answers}
+use Rattle.im_engine.{proofs.Accepting.accepted_answers, proofs.Accepting.Answers, specs.Groups.all_refused}
+use Rattle.im_engine.specs.Run.{acknowledged_member, acknowledged_members, has_device, is_device, says_device}
 
 -- the command that a member puts on the disk
 abbrev put_by_one : Reached → Request → List Command

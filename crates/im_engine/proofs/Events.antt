@@ -1,42 +1,28 @@
 -- How far a run of commands, groups, turns and sweeps has come.
-use Rattle.std.proofs.Common.{◌≡◌, ◌⊎◌, inl, inr, ⊎_elim, ℕ, ◌+◌, ◌<◌, Bool, true, false, ◌&&◌, List, [], ◌∷◌}
-use Rattle.std.proofs.Common.{◌++◌, length, take, get_or, Result, Ok, Err, append_assoc, refl, sym, ◌∙◌, ap, subst}
-use Rattle.std.proofs.Common.{arith, length-append, if◌then◌else◌}
-use Rattle.std.proofs.lemmas.List.{append-nil, take_all, take-append-le, take_more, length-take-le}
-use Rattle.im_types.specs.declared.commands.Request.{Request}
-use Rattle.im_types.specs.declared.commands.Command.{Command}
-use Rattle.im_types.specs.declared.commands.Outcome.{Outcome}
-use Rattle.im_types.specs.declared.groups.Served.{Served as ServedMember}
-use Rattle.im_types.specs.declared.refusals.Refusal.{Refusal}
-use Rattle.im_types.specs.declared.refusals.Refusal.TheVariants.{Device, Failed}
-use Rattle.im_types.specs.Contents.{Contents}
-use Rattle.im_types.specs.Step.{step, is_accepted}
-use Rattle.im_types.specs.Run.{after}
-use Rattle.im_types.specs.Meaning.{Means}
-use Rattle.im_types.specs.Groups.{puts_of}
-use Rattle.im_laws.proofs.RunLemmas.{after-append}
-use Rattle.im_laws.proofs.GroupLemmas.{puts-after, puts-counted}
-use Rattle.im_laws.proofs.Tests.{true_or_false}
-use Rattle.im_checkpoint.proofs.Fitting.{none_or_some}
-use Rattle.im_disk.specs.Moment.{Moment}
-use Rattle.im_disk.specs.Since.{Leaves, LeavesNow}
-use Rattle.im_disk.proofs.SinceLemmas.{leaves_then, leaves_weaker}
-use Rattle.im_checkpoint.specs.declared.checkpoint.TurnDone.{TurnDone}
+use Rattle.std.proofs.Common.{◌≡◌, ℕ, ◌+◌, ◌<◌, Bool, true, false, ◌&&◌, ◌⊎◌, List, [], ◌∷◌, ◌++◌, length, get_or, take}
+use Rattle.std.proofs.Common.{if◌then◌else◌, Ok, Err, Result, sym, refl, ap, ◌∙◌, subst, inl, inr, ⊎_elim, append_assoc}
+use Rattle.std.proofs.Common.{append-nil, arith, length-append, length-take-le, take_all}
 use Rattle.arrayvec.specs.ArrayVec.{ArrayVec}
-use Rattle.im_engine.specs.declared.run.Event.{Event}
-use Rattle.im_engine.specs.declared.run.Event.TheVariants.{Command as Serve, Group as Together, Turn, Sweep}
-use Rattle.im_engine.specs.declared.run.Answer.{Answer}
-use Rattle.im_engine.specs.declared.run.Answer.TheVariants.{Served as Told, Grouped, Turned as TookTurn}
-use Rattle.im_engine.specs.declared.run.Answer.TheVariants.{Swept as DidSweep}
-use Rattle.im_engine.specs.State.{EngineState, MeansState, with_command}
-use Rattle.im_engine.specs.Groups.{reached_in, after_group, group_put, answers_in, all_refused, GroupAnswered}
-use Rattle.im_engine.specs.Run.{Answered, TurnAnswered, SweepAnswered, EventAnswered, AnsweredInTurn, has_device}
-use Rattle.im_engine.specs.Run.{acknowledged_members, acknowledged_by, acknowledged, is_doubt, reached_at}
-use Rattle.im_engine.specs.Run.{in_doubt_by, in_doubt, put_on_disk, HasRun, MeansBy, MeansAll, MeansBeginningOf}
-use Rattle.im_engine.specs.Run.{MeansWithOrWithout}
-use Rattle.im_engine.proofs.Accepting.{Answers, accepted_answers}
-use Rattle.im_engine.proofs.Acknowledging.{acknowledged-puts, answers-no_device, refused-none, some-device}
-use Rattle.im_engine.proofs.Acknowledging.{failed-no_device}
+use Rattle.std.proofs.lemmas.List.{take-append-le, take_more}
+use Rattle.im_types.specs.Types.{Request, Command, Outcome, Served as ServedMember, Refusal, Device, Failed, Contents}
+use Rattle.im_types.specs.Types.{step, is_accepted, after, puts_of, Means}
+use Rattle.im_laws.proofs.GroupLemmas.{puts-after, puts-counted}
+use Rattle.im_laws.proofs.{RunLemmas.after-append, Tests.true_or_false}
+use Rattle.im_disk.proofs.SinceLemmas.{leaves_then, leaves_weaker}
+use Rattle.im_disk.specs.{Moment.Moment, Since.Leaves, Since.LeavesNow}
+use Rattle.im_checkpoint.{proofs.Fitting.none_or_some, specs.declared.TurnDone.TurnDone}
+use Rattle.im_engine.proofs.Accepting.{accepted_answers, Answers}
+use Rattle.im_engine.proofs.Acknowledging.{acknowledged-puts, answers-no_device, failed-no_device, refused-none}
+use Rattle.im_engine.proofs.Acknowledging.{some-device}
+use Rattle.im_engine.specs.declared.run.Answer.{Answer, TheVariants.Grouped, TheVariants.Served as Told}
+use Rattle.im_engine.specs.declared.run.Answer.{TheVariants.Swept as DidSweep, TheVariants.Turned as TookTurn}
+use Rattle.im_engine.specs.{declared.run.Event.Event, State.EngineState, State.MeansState, State.with_command}
+use Rattle.im_engine.specs.declared.run.Event.TheVariants.{Command as Serve, Group as Together, Sweep, Turn}
+use Rattle.im_engine.specs.Groups.{after_group, all_refused, answers_in, group_put, GroupAnswered, reached_in}
+use Rattle.im_engine.specs.Run.{acknowledged, acknowledged_by, acknowledged_members, Answered, AnsweredInTurn}
+use Rattle.im_engine.specs.Run.{EventAnswered, has_device, HasRun, in_doubt, in_doubt_by, is_doubt, MeansAll}
+use Rattle.im_engine.specs.Run.{MeansBeginningOf, MeansBy, MeansWithOrWithout, put_on_disk, reached_at, SweepAnswered}
+use Rattle.im_engine.specs.Run.{TurnAnswered}
 
 -- ---- one event more at the end of a list
 

@@ -1,32 +1,18 @@
 -- How far a run has come.
-use Rattle.std.proofs.Common.{◌≡◌, ◌⊎◌, inl, inr, ⊎_elim, ℕ, ◌<◌, ◌≤◌, Bool, true, false, List, [], ◌∷◌}
-use Rattle.std.proofs.Common.{◌++◌, length, Result, Ok, Err, refl, sym, ◌∙◌, ap, subst, arith}
-use Rattle.std.proofs.Common.{IsErrOf}
-use Rattle.im_types.specs.declared.commands.Request.{Request}
-use Rattle.im_types.specs.declared.commands.Command.{Command}
-use Rattle.im_types.specs.declared.commands.Outcome.{Outcome}
-use Rattle.im_types.specs.declared.groups.Served.{Served as ServedMember}
-use Rattle.im_types.specs.declared.refusals.Refusal.{Refusal}
-use Rattle.im_types.specs.declared.refusals.Refusal.TheVariants.{Device, Failed}
-use Rattle.im_types.specs.Contents.{Contents}
-use Rattle.im_types.specs.Step.{step, is_accepted}
-use Rattle.im_laws.proofs.Tests.{true_or_false}
-use Rattle.im_checkpoint.proofs.Fitting.{none_or_some}
-use Rattle.im_laws.proofs.RefusalLemmas.{step-refusals}
-use Rattle.im_types.specs.Refusals.{number_of}
-use Rattle.im_types.specs.declared.refusals.Refusal.TheVariants.{JournalFull}
-use Rattle.im_disk.specs.Moment.{Rises, Faults}
-use Rattle.im_checkpoint.specs.declared.checkpoint.TurnDone.{TurnDone}
-use Rattle.im_engine.specs.declared.run.Event.{Event}
-use Rattle.im_engine.specs.declared.run.Event.TheVariants.{Command as Serve, Group as Together, Turn, Sweep}
-use Rattle.im_engine.specs.declared.run.Answer.{Answer}
-use Rattle.im_engine.specs.declared.run.Answer.TheVariants.{Served as Told, Grouped, Turned as TookTurn}
-use Rattle.im_engine.specs.declared.run.Answer.TheVariants.{Swept as DidSweep}
-use Rattle.im_engine.specs.State.{EngineState}
-use Rattle.im_engine.specs.Groups.{reached_in, group_put, answers_in, GroupAnswered, GroupFaults}
-use Rattle.im_engine.specs.Run.{Answered, TurnAnswered, EventAnswered, has_device}
-use Rattle.im_engine.specs.Run.{IsDevice, HasDevice, HasCause}
-use Rattle.im_engine.proofs.Acknowledging.{answers-no_device, some-device, failed-no_device}
+use Rattle.std.proofs.Common.{◌≡◌, ℕ, ◌<◌, ◌≤◌, Bool, true, false, ◌⊎◌, List, [], ◌∷◌, ◌++◌, length, Ok, Err, Result}
+use Rattle.std.proofs.Common.{IsErrOf, sym, refl, ap, ◌∙◌, subst, inl, inr, ⊎_elim, arith}
+use Rattle.im_types.specs.Types.{Request, Command, Outcome, Served as ServedMember, Refusal, JournalFull, Device}
+use Rattle.im_types.specs.Types.{Failed, number_of, Contents, step, is_accepted}
+use Rattle.im_laws.proofs.{RefusalLemmas.step-refusals, Tests.true_or_false}
+use Rattle.im_disk.specs.Moment.{Faults, Rises}
+use Rattle.im_checkpoint.{proofs.Fitting.none_or_some, specs.declared.TurnDone.TurnDone}
+use Rattle.im_engine.proofs.Acknowledging.{answers-no_device, failed-no_device, some-device}
+use Rattle.im_engine.specs.declared.run.Answer.{Answer, TheVariants.Grouped, TheVariants.Served as Told}
+use Rattle.im_engine.specs.declared.run.Answer.{TheVariants.Swept as DidSweep, TheVariants.Turned as TookTurn}
+use Rattle.im_engine.specs.{declared.run.Event.Event, State.EngineState}
+use Rattle.im_engine.specs.declared.run.Event.TheVariants.{Command as Serve, Group as Together, Sweep, Turn}
+use Rattle.im_engine.specs.Groups.{answers_in, group_put, GroupAnswered, GroupFaults, reached_in}
+use Rattle.im_engine.specs.Run.{Answered, EventAnswered, has_device, HasCause, HasDevice, IsDevice, TurnAnswered}
 
 true_false : (b : Bool) → b ≡ true → b ≡ false → ⊥
 true_false b t f = absurd (cc)

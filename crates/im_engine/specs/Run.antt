@@ -1,29 +1,15 @@
 -- Commands, groups, turns and sweeps one after another, and what the files mean that a crash may leave. (Own.)
-use Rattle.std.specs.Prelude.{◌≡◌, ◌⊎◌, ℕ, ◌+◌, ◌<◌, ◌≤◌, Bool, true, false, ◌&&◌, ◌||◌, List, [], ◌∷◌, ◌++◌, length}
-use Rattle.std.specs.Prelude.{take, Result, Ok, Err, IsErrOf, if◌then◌else◌}
-use Rattle.im_types.specs.declared.commands.Request.{Request}
-use Rattle.im_types.specs.declared.commands.Command.{Command}
-use Rattle.im_types.specs.declared.commands.Command.TheVariants.{Request as Asks}
-use Rattle.im_types.specs.declared.commands.Outcome.{Outcome}
-use Rattle.im_types.specs.declared.groups.Served.{Served}
-use Rattle.im_types.specs.declared.groups.Served.TheVariants.{Unserved, Done, Refused}
-use Rattle.im_types.specs.declared.refusals.Refusal.{Refusal}
-use Rattle.im_types.specs.declared.refusals.Refusal.TheVariants.{JournalFull, Device, Failed}
-use Rattle.im_types.specs.Contents.{Contents}
-use Rattle.im_types.specs.Step.{step, is_accepted}
-use Rattle.im_types.specs.Run.{after}
-use Rattle.im_types.specs.Meaning.{Means, Reached}
-use Rattle.im_types.specs.Groups.{puts_of}
-use Rattle.im_disk.specs.Moment.{Rises, Faults}
-use Rattle.im_checkpoint.specs.declared.checkpoint.TurnDone.{TurnDone}
-use Rattle.im_checkpoint.specs.Turns.{Turned, Moved, AddsPages, swept_at_once}
-use Rattle.im_engine.specs.State.{EngineState, MeansState, MeansEither, with_command, journal_in, checkpoint_in}
-use Rattle.im_engine.specs.Groups.{GroupAnswered, MeansGroup}
-use Rattle.im_engine.specs.declared.run.Event.{Event}
-use Rattle.im_engine.specs.declared.run.Event.TheVariants.{Command as Serve, Group as Together, Turn, Sweep}
-use Rattle.im_engine.specs.declared.run.Answer.{Answer}
-use Rattle.im_engine.specs.declared.run.Answer.TheVariants.{Served as Told, Grouped, Turned as TookTurn}
-use Rattle.im_engine.specs.declared.run.Answer.TheVariants.{Swept as DidSweep}
+use Rattle.std.specs.Prelude.{◌≡◌, ℕ, ◌+◌, ◌<◌, ◌≤◌, Bool, true, false, ◌&&◌, ◌||◌, ◌⊎◌, List, [], ◌∷◌, ◌++◌, length}
+use Rattle.std.specs.Prelude.{take, if◌then◌else◌, Ok, Err, Result, IsErrOf}
+use Rattle.im_types.specs.Types.{Request, Command, Outcome, Asks, Served, Unserved, Done, Refused, Refusal, JournalFull}
+use Rattle.im_types.specs.Types.{Device, Failed, Contents, step, is_accepted, after, puts_of, Reached, Means}
+use Rattle.{im_disk.specs.Moment.Faults, im_disk.specs.Moment.Rises, im_checkpoint.specs.declared.TurnDone.TurnDone}
+use Rattle.im_checkpoint.specs.Turns.{AddsPages, Moved, swept_at_once, Turned}
+use Rattle.im_engine.specs.declared.run.Answer.{Answer, TheVariants.Grouped, TheVariants.Served as Told}
+use Rattle.im_engine.specs.declared.run.Answer.{TheVariants.Swept as DidSweep, TheVariants.Turned as TookTurn}
+use Rattle.im_engine.specs.{declared.run.Event.Event, Groups.GroupAnswered, Groups.MeansGroup}
+use Rattle.im_engine.specs.declared.run.Event.TheVariants.{Command as Serve, Group as Together, Sweep, Turn}
+use Rattle.im_engine.specs.State.{checkpoint_in, EngineState, journal_in, MeansEither, MeansState, with_command}
 
 -- an engine's answer to one command, and the engine after it, on any disk
 pub record Answered {D : Type 0} (old : EngineState D) (command : Command) (answer : Result Outcome Refusal)

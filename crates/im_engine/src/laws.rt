@@ -1,20 +1,11 @@
 //! Laws about what files mean. Each is the contract of a function that does nothing.
-ghost use Rattle.std.specs.Prelude.{◌≡◌, ℕ, ◌<◌, List, [], length, map, true, false, Result, Err};
-ghost use Rattle.im_types.specs.declared.refusals.Refusal.{Refusal};
-ghost use Rattle.im_types.specs.declared.refusals.Refusal.TheVariants.{Device, Failed};
-ghost use Rattle.im_types.specs.declared.commands.Request.{Request};
-ghost use Rattle.im_types.specs.declared.commands.Command.{Command};
-ghost use Rattle.im_types.specs.Contents.{Contents, empty_contents};
-ghost use Rattle.im_types.specs.Sizes.{AreLimits};
-ghost use Rattle.im_types.specs.declared.layout.Version.{Version};
-ghost use Rattle.im_types.specs.Layout.{Sizes, layout_of};
-ghost use Rattle.im_types.specs.Step.{step};
-ghost use Rattle.im_types.specs.Meaning.{Means, Opens, Reached, Reads};
-ghost use Rattle.im_types.specs.Groups.{as_served, answers_of, puts_of};
+ghost use Rattle.std.specs.Prelude.{◌≡◌, ℕ, ◌<◌, true, false, List, [], map, length, Err, Result};
+ghost use Rattle.im_types.specs.Types.{Request, Command, Refusal, Device, Failed, AreLimits, Contents, empty_contents};
+ghost use Rattle.im_types.specs.Types.{step, as_served, answers_of, puts_of, Version, layout_of, Sizes, Reached, Reads};
+ghost use Rattle.im_types.specs.Types.{Opens, Means};
 ghost use Rattle.im_image.specs.Fresh.{new_image};
-ghost use Rattle.im_engine.specs.Groups.{all_refused};
-ghost use Rattle.im_engine.specs.Run.{is_device, has_device, acknowledged_members};
-ghost use Rattle.im_engine.specs.State.{IsFirstFault};
+ghost use Rattle.im_engine.specs.{Groups.all_refused, State.IsFirstFault};
+ghost use Rattle.im_engine.specs.Run.{acknowledged_members, has_device, is_device};
 
 /// A file means one thing. Reading it by the rules of a version gives one memory, one count and one room, or one first
 /// fault. The same holds for opening it.

@@ -1,7 +1,6 @@
 //! What an engine shows.
 ghost use Rattle.std.specs.Prelude.{◌≡◌, true, false, Err};
-ghost use Rattle.im_types.specs.Window.{ask, bounds};
-ghost use Rattle.im_groups.specs.Commands.{places};
+ghost use Rattle.{im_types.specs.Types.ask, im_types.specs.Types.bounds, im_groups.specs.Commands.places};
 ghost use Rattle.im_engine.specs.Leaving.{LeavesState};
 
 use crate::emptying::Empties;

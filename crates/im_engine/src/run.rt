@@ -1,10 +1,10 @@
 //! Runs commands, groups, turns and sweeps one after another.
-ghost use Rattle.std.specs.Prelude.{◌≡◌, ◌+◌, ◌≤◌, length, true, false, IfOk, IfErr, OnErr};
-ghost use Rattle.im_types.specs.declared.refusals.Refusal.TheVariants.{NoMemory};
-ghost use Rattle.im_engine.specs.Run.{EventAnswered, AnsweredInTurn, acknowledged, HasRun};
-ghost use Rattle.im_engine.specs.Run.{HasCause, HaveCauses, MeansBy, MeansBeginningOf, MeansAcknowledged};
-ghost use Rattle.im_engine.specs.Leaving.{LeavesSince, LeavesAfter, LeavesState};
+ghost use Rattle.std.specs.Prelude.{◌≡◌, ◌+◌, ◌≤◌, true, false, length, IfOk, IfErr, OnErr};
+ghost use Rattle.im_types.specs.Types.{NoMemory};
 ghost use Rattle.im_engine.specs.declared.run.Event.TheVariants.{Group as Together};
+ghost use Rattle.im_engine.specs.Leaving.{LeavesAfter, LeavesSince, LeavesState};
+ghost use Rattle.im_engine.specs.Run.{acknowledged, AnsweredInTurn, EventAnswered, HasCause, HasRun, HaveCauses};
+ghost use Rattle.im_engine.specs.Run.{MeansAcknowledged, MeansBeginningOf, MeansBy};
 
 use crate::apart::Group;
 use crate::engine::Engine;

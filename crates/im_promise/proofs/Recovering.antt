@@ -1,19 +1,11 @@
 -- What an opening after a crash finds, where it is known what every file means that could be left.
-use Rattle.std.proofs.Common.{◌≡◌, ◌⊎◌, inl, inr, ⊎_elim, ℕ, ◌+◌, ◌≤◌, List, [], ◌∷◌, ◌++◌, length, refl, sym, ap, ◌∙◌}
-use Rattle.std.proofs.Common.{subst, arith}
-use Rattle.std.proofs.lemmas.List.{append-nil}
-use Rattle.im_types.specs.declared.commands.Command.{Command}
-use Rattle.im_types.specs.declared.refusals.Refusal.{Refusal}
-use Rattle.im_types.specs.Contents.{Contents}
-use Rattle.im_types.specs.Run.{after}
-use Rattle.im_types.specs.Meaning.{Means}
-use Rattle.im_disk.specs.Moment.{Moment, Left, Outside}
-use Rattle.im_disk.specs.Since.{Leaves, LeavesNow}
+use Rattle.std.proofs.Common.{◌≡◌, ℕ, ◌+◌, ◌≤◌, ◌⊎◌, List, [], ◌∷◌, ◌++◌, length, sym, refl, ap, ◌∙◌, subst, inl, inr}
+use Rattle.std.proofs.Common.{⊎_elim, append-nil, arith}
+use Rattle.im_types.specs.Types.{Command, Refusal, Contents, after, Means}
 use Rattle.im_disk.proofs.SinceLemmas.{left_now, only_now}
-use Rattle.im_engine.specs.declared.run.Event.{Event}
-use Rattle.im_engine.specs.declared.run.Answer.{Answer}
-use Rattle.im_engine.specs.State.{EngineState, MeansState, IsFirstFault}
-use Rattle.im_engine.specs.Run.{acknowledged, in_doubt, MeansAll, MeansWithOrWithout}
+use Rattle.im_disk.specs.{Moment.Left, Moment.Moment, Moment.Outside, Since.Leaves, Since.LeavesNow}
+use Rattle.im_engine.specs.{declared.Answer.Answer, declared.Event.Event, Run.acknowledged, Run.in_doubt, Run.MeansAll}
+use Rattle.im_engine.specs.{Run.MeansWithOrWithout, State.EngineState, State.IsFirstFault, State.MeansState}
 
 -- ---- files
 

@@ -1,15 +1,11 @@
 -- What an opening finds after a crash of a session's disk.
-use Rattle.std.proofs.Common.{◌≡◌, ◌⊎◌, ◌+◌, inl, inr, ⊎_elim, ℕ, List, [], ◌++◌, length, Result, Ok, Err, IfOk, IfErr, refl, sym, subst}
-use Rattle.std.proofs.lemmas.List.{append-nil}
-use Rattle.im_types.specs.declared.commands.Command.{Command}
-use Rattle.im_types.specs.declared.refusals.Refusal.{Refusal}
-use Rattle.im_types.specs.declared.refusals.Refusal.TheVariants.{NoMemory, Device}
-use Rattle.im_types.specs.Run.{after}
-use Rattle.im_disk.specs.Recording.{Recording}
-use Rattle.im_engine.specs.State.{EngineState, MeansState, IsFirstFault}
-use Rattle.im_session.specs.Kept.{MeansPut, SessionState}
-use Rattle.im_promise.specs.Recovery.{HasNoRoom, RecoversSession}
+use Rattle.std.proofs.Common.{◌≡◌, ℕ, ◌+◌, ◌⊎◌, List, [], ◌++◌, length, IfOk, IfErr, Ok, Err, Result, sym, refl, subst}
+use Rattle.std.proofs.Common.{inl, inr, ⊎_elim, append-nil}
+use Rattle.im_types.specs.Types.{Command, Refusal, Device, NoMemory, after}
+use Rattle.{im_disk.specs.Recording.Recording, im_session.specs.Kept.MeansPut, im_session.specs.Kept.SessionState}
+use Rattle.im_engine.specs.State.{EngineState, IsFirstFault, MeansState}
 use Rattle.im_promise.proofs.Recovering.{MeansOne, NoFault}
+use Rattle.im_promise.specs.Recovery.{HasNoRoom, RecoversSession}
 
 -- the file means the memory after what was acknowledged, with or without what is in doubt
 abbrev pub MeansEnd : {D : Type 0} → SessionState D → List ℕ → Type 0

@@ -1,40 +1,12 @@
 -- Whether events were answered as the sequential memory answers them, and how many calls left commands in doubt. (Own.)
-use Rattle.std.specs.Prelude.{
-  ◌≡◌,
-  ◌⊎◌,
-  ℕ,
-  ◌+◌,
-  ◌<◌,
-  max,
-  Bool,
-  true,
-  false,
-  List,
-  [],
-  ◌∷◌,
-  length,
-  map,
-  Ok,
-  Err,
-  if◌then◌else◌,
-}
-use Rattle.im_types.specs.declared.refusals.Refusal.TheVariants.{JournalFull, Device, Failed}
-use Rattle.im_types.specs.Contents.{Contents}
-use Rattle.im_types.specs.Step.{step, is_accepted}
-use Rattle.im_types.specs.Run.{after}
-use Rattle.im_types.specs.Groups.{as_served, answers_of, puts_of}
-use Rattle.im_engine.specs.declared.run.Event.{Event}
-use Rattle.im_engine.specs.declared.run.Event.TheVariants.{Command as Serve, Group as Together, Turn, Sweep}
-use Rattle.im_engine.specs.declared.run.Answer.{Answer}
-use Rattle.im_engine.specs.declared.run.Answer.TheVariants.{
-  Served as Told,
-  Grouped,
-  Turned as TookTurn,
-  Swept as
-      DidSweep,
-}
-use Rattle.im_engine.specs.Groups.{all_refused}
-use Rattle.im_engine.specs.Run.{is_device, has_device, is_doubt, acknowledged_by, reached_at}
+use Rattle.std.specs.Prelude.{◌≡◌, ℕ, ◌+◌, ◌<◌, max, Bool, true, false, ◌⊎◌, List, [], ◌∷◌, map, length, if◌then◌else◌}
+use Rattle.std.specs.Prelude.{Ok, Err}
+use Rattle.im_types.specs.Types.{JournalFull, Device, Failed, Contents, step, is_accepted, after, as_served, answers_of}
+use Rattle.im_types.specs.Types.{puts_of}
+use Rattle.im_engine.specs.{declared.Answer.Answer, declared.Event.Event, Groups.all_refused}
+use Rattle.im_engine.specs.declared.Answer.TheVariants.{Grouped, Served as Told, Swept as DidSweep, Turned as TookTurn}
+use Rattle.im_engine.specs.declared.Event.TheVariants.{Command as Serve, Group as Together, Sweep, Turn}
+use Rattle.im_engine.specs.Run.{acknowledged_by, has_device, is_device, is_doubt, reached_at}
 
 -- how many of the calls left their commands in doubt
 abbrev pub calls_in_doubt : List Answer → ℕ

@@ -1,17 +1,12 @@
 -- A script that is run once, whatever stopped it before. (Own.)
-use Rattle.std.specs.Prelude.{◌≡◌, ◌⊎◌, ℕ, Bool, true, List, [], ◌++◌, Option}
+use Rattle.std.specs.Prelude.{◌≡◌, ℕ, Bool, true, ◌⊎◌, List, [], ◌++◌, Option}
 use Rattle.std.specs.Io.KnownBytes.{Appends}
-use Rattle.im_disk.specs.declared.disk.Disk.{Ghosts}
-use Rattle.im_engine.specs.State.{EngineState}
-use Rattle.im_session.specs.Kept.{Kept, SessionStart, session_of}
+use Rattle.{im_disk.specs.declared.Disk.Ghosts, im_engine.specs.State.EngineState}
+use Rattle.im_session.specs.Kept.{Kept, session_of, SessionStart}
 use Rattle.im_text.specs.Printing.{Begins, IsLast}
-use Rattle.im_serial.specs.Asked.{Wanted, wanted_of}
-use Rattle.im_serial.specs.Fitting.{FitsScript}
-use Rattle.im_serial.specs.Had.{numbers_had}
+use Rattle.im_serial.specs.{Asked.Wanted, Asked.wanted_of, Fitting.FitsScript, Had.numbers_had, Serving.NotOpened}
 use Rattle.im_serial.specs.Once.{HasMade, IsPrefix, lines_had}
-use Rattle.im_serial.specs.Serving.{NotOpened}
-use Rattle.im_run.specs.Running.{RunOn}
-use Rattle.im_run.specs.Tracing.{TraceState}
+use Rattle.im_run.specs.{Running.RunOn, Tracing.TraceState}
 
 -- It ended before the run: the script was refused, or what the memory has of it couldn't be printed. The session put
 -- nothing. What was printed is a prefix of this text: the first lines of what the memory has of the script, and the

@@ -1,8 +1,6 @@
 //! A script on the image of a disk, from opening to end.
-ghost use Rattle.std.specs.Prelude.{◌≡◌, ◌⊎◌, ◌≤◌, [], None, Some, true, map, IsOk};
-ghost use Rattle.im_session.specs.Kept.{Kept};
-ghost use Rattle.im_serial.specs.Once.{HasServedNothing};
-ghost use Rattle.im_serial.specs.Serving.{seen_by};
+ghost use Rattle.std.specs.Prelude.{◌≡◌, ◌≤◌, true, ◌⊎◌, [], map, IsOk, Some, None};
+ghost use Rattle.{im_session.specs.Kept.Kept, im_serial.specs.Once.HasServedNothing, im_serial.specs.Serving.seen_by};
 ghost use Rattle.im_run.specs.Orders.{ask_of, asks_in, bases_first};
 ghost use Rattle.im_run.specs.Planned.{FitsIfNew, plan_of, planned_orders};
 ghost use Rattle.im_run.specs.Running.{EndedOn, RunOn, RunsOn, ServersEnded};

@@ -1,10 +1,7 @@
 //! Runs of a script that are stopped, and gone on with. This is a client's view of [`serial_once_on`].
-ghost use Rattle.std.specs.Prelude.{◌≡◌, ◌≤◌, List, ℕ};
-ghost use Rattle.im_types.specs.declared.sizes.Limits.{Limits};
-ghost use Rattle.im_types.specs.Meaning.{Means};
-ghost use Rattle.im_disk.specs.Since.{LeavesNow};
-ghost use Rattle.im_serial.specs.Asked.{Wanted, wanted_of};
-ghost use Rattle.im_serial.specs.Begun.{MeansBegun, MeansDone, new_memory};
+ghost use Rattle.std.specs.Prelude.{◌≡◌, ℕ, ◌≤◌, List};
+ghost use Rattle.{im_types.specs.Types.Limits, im_types.specs.Types.Means, im_disk.specs.Since.LeavesNow};
+ghost use Rattle.im_serial.specs.{Asked.Wanted, Asked.wanted_of, Begun.MeansBegun, Begun.MeansDone, Begun.new_memory};
 
 use crate::serial::serial_once_on;
 use im_disk::{Crash, FuseDisk, MemDisk, Mode};

@@ -1,25 +1,15 @@
 -- What each file left has, if the commands of a session keep it.
-use Rattle.std.proofs.Common.{◌≡◌, ◌+◌, ◌≤◌, ⊎_elim, ℕ, Bool, true, false, ◌&&◌, List, [], ◌∷◌, ◌++◌, length, take, Result}
-use Rattle.std.proofs.Common.{Ok, Err, refl, sym, ap, subst, arith, length-append, if◌then◌else◌}
-use Rattle.std.proofs.lemmas.List.{length-take-le}
-use Rattle.im_types.specs.declared.commands.Command.{Command}
-use Rattle.im_types.specs.declared.commands.Outcome.{Outcome}
-use Rattle.im_types.specs.declared.refusals.Refusal.{Refusal}
-use Rattle.im_types.specs.Contents.{Contents}
-use Rattle.im_types.specs.Step.{is_accepted}
-use Rattle.im_types.specs.Meaning.{Means}
-use Rattle.im_types.specs.Run.{after}
-use Rattle.im_disk.specs.declared.disk.Disk.{Ghosts}
-use Rattle.im_disk.specs.Since.{LeavesNow, LeavesOnly}
+use Rattle.std.proofs.Common.{◌≡◌, ℕ, ◌+◌, ◌≤◌, Bool, true, false, ◌&&◌, List, [], ◌∷◌, ◌++◌, length, take}
+use Rattle.std.proofs.Common.{if◌then◌else◌, Ok, Err, Result, sym, refl, ap, subst, ⊎_elim, arith, length-append}
+use Rattle.std.proofs.Common.{length-take-le}
+use Rattle.im_types.specs.Types.{Command, Outcome, Refusal, Contents, is_accepted, after, Means}
 use Rattle.im_disk.proofs.SinceLemmas.{leaves_weaker}
-use Rattle.im_engine.specs.declared.run.Event.TheVariants.{Command as Serve}
-use Rattle.im_engine.specs.declared.run.Answer.TheVariants.{Served as Told}
-use Rattle.im_engine.specs.Run.{acknowledged_by, in_doubt_by}
-use Rattle.im_engine.proofs.FilesMean.{means_one}
-use Rattle.im_session.specs.Put.{sure_by, doubted_by}
-use Rattle.im_session.specs.Kept.{Kept, MeansPrefix, SessionState}
-use Rattle.im_session.specs.Carrying.{LedBy, PrefixesKeep}
+use Rattle.im_disk.specs.{declared.Disk.Ghosts, Since.LeavesNow, Since.LeavesOnly}
+use Rattle.im_engine.{proofs.FilesMean.means_one, specs.Run.acknowledged_by, specs.Run.in_doubt_by}
+use Rattle.im_engine.specs.declared.{Answer.TheVariants.Served as Told, Event.TheVariants.Command as Serve}
 use Rattle.im_session.proofs.KeptLemmas.{all_begins, beginning}
+use Rattle.im_session.specs.{Carrying.LedBy, Carrying.PrefixesKeep, Put.doubted_by, Put.sure_by}
+use Rattle.im_session.specs.Kept.{Kept, MeansPrefix, SessionState}
 
 -- the commands that led to where a session began
 pub record BeganWith {D : Type 0} (P : List Command → Contents → Type 0) (s : SessionState D) : Type 0 where

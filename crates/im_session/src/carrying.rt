@@ -1,23 +1,16 @@
 //! Laws of sessions. Each function does nothing, and its contract is a law.
 ghost use Rattle.std.specs.Prelude.{◌≡◌, ℕ, Result};
-ghost use Rattle.im_types.specs.declared.commands.Command.{Command};
-ghost use Rattle.im_types.specs.declared.commands.Outcome.{Outcome};
-ghost use Rattle.im_types.specs.declared.refusals.Refusal.{Refusal};
-ghost use Rattle.im_types.specs.Contents.{Contents};
-ghost use Rattle.im_engine.specs.declared.run.Event.TheVariants.{Command as Serve};
-ghost use Rattle.im_engine.specs.declared.run.Answer.TheVariants.{Served as Told};
+ghost use Rattle.im_types.specs.Types.{Command, Outcome, Refusal, Contents};
+ghost use Rattle.im_engine.specs.declared.{Answer.TheVariants.Served as Told, Event.TheVariants.Command as Serve};
 ghost use Rattle.im_engine.specs.Run.{acknowledged_by, in_doubt_by};
-ghost use Rattle.im_session.specs.Kept.{SessionState};
-ghost use Rattle.im_session.specs.Put.{doubted_by, sure_by};
-ghost use Rattle.im_session.specs.Carrying.{PrefixesCarry};
+ghost use Rattle.im_session.specs.{Carrying.PrefixesCarry, Kept.SessionState, Put.doubted_by, Put.sure_by};
 
 use im_disk::Disk;
 
 /// A property of commands, and of the memory to which they lead.
 pub trait Property {
     ghost use Rattle.std.specs.Prelude.{List};
-    ghost use Rattle.im_types.specs.declared.commands.Command.{Command};
-    ghost use Rattle.im_types.specs.Contents.{Contents};
+    ghost use Rattle.im_types.specs.Types.{Command, Contents};
 
     /// It holds of these commands and this memory.
     ghost holds: { List Command → Contents → Type 0 };

@@ -1,8 +1,7 @@
-use Rattle.im_engine.proofs.Acknowledging.{acknowledged-puts, answers-no_device, refused-none, some-device}
-use Rattle.im_engine.proofs.Acknowledging.{failed-no_device}
-use Rattle.im_engine.proofs.laws.groups_acknowledge_what_they_put.Goals as goal
+use Rattle.im_engine.proofs.Acknowledging.{acknowledged-puts, answers-no_device, failed-no_device, refused-none}
+use Rattle.im_engine.proofs.Acknowledging.{some-device}
 
-pub returns : goal.returns
+pub returns : Rattle.im_engine.proofs.laws.groups_acknowledge_what_they_put.Goals.returns
 returns c = record {
   put = acknowledged-puts;
   works = answers-no_device;

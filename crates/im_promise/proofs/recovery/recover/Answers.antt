@@ -1,10 +1,7 @@
-use Rattle.std.proofs.Common.{◌≡◌, inl, inr, ⊎_elim, List, sym, ap, ◌∙◌, subst}
-use Rattle.im_types.specs.declared.commands.Command.{Command}
-use Rattle.im_disk.specs.Since.{LeavesNow}
-use Rattle.im_disk.specs.Recording.{Recording}
-use Rattle.im_disk.specs.Fuse.{Fused}
-use Rattle.im_engine.specs.State.{EngineState}
-use Rattle.im_engine.specs.Run.{acknowledged, in_doubt, MeansWithOrWithout}
+use Rattle.std.proofs.Common.{◌≡◌, List, sym, ap, ◌∙◌, subst, inl, inr, ⊎_elim}
+use Rattle.im_types.specs.Types.{Command}
+use Rattle.im_disk.specs.{Fuse.Fused, Recording.Recording, Since.LeavesNow}
+use Rattle.im_engine.specs.{Run.acknowledged, Run.in_doubt, Run.MeansWithOrWithout, State.EngineState}
 use Rattle.im_promise.proofs.Answering.{Known, told}
 use Rattle.im_promise.proofs.Recovering.{Crashes, found, is_no_fault, meant_with_or_without}
 use Rattle.im_promise.proofs.recovery.recover.Goals as goal

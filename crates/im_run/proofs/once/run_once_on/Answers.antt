@@ -1,7 +1,5 @@
-use Rattle.std.proofs.Common.{List, inl, inr, subst, ℕ}
-use Rattle.std.specs.Prelude.{Option}
-use Rattle.im_run.specs.Once.{EndsOnce}
-use Rattle.im_run.proofs.RestLemmas.{once_honest}
+use Rattle.std.proofs.Common.{ℕ, List, Option, subst, inl, inr}
+use Rattle.im_run.{proofs.RestLemmas.once_honest, specs.Once.EndsOnce}
 use Rattle.im_run.proofs.once.run_once_on.Goals as goal
 
 pub returns-in-Ok-clause-run : goal.returns-in-Ok-clause-run

@@ -1,7 +1,5 @@
-use Rattle.std.proofs.Common.{List, false, inl, inr, subst, ℕ}
-use Rattle.std.specs.Prelude.{Option}
-use Rattle.im_serial.specs.Once.{HasServedNothing}
-use Rattle.im_serial.specs.Serving.{seen_by}
+use Rattle.std.proofs.Common.{ℕ, false, List, Option, subst, inl, inr}
+use Rattle.im_serial.specs.{Once.HasServedNothing, Serving.seen_by}
 use Rattle.im_run.specs.Running.{RunOn}
 use Rattle.im_run.proofs.run.run_on.Goals as goal
 

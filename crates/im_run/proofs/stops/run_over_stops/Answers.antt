@@ -1,7 +1,5 @@
-use Rattle.std.proofs.Common.{List, ap, subst, sym, ℕ}
-use Rattle.im_disk.specs.Fuse.{Fused}
-use Rattle.im_disk.specs.Recording.{Recording}
-use Rattle.im_disk.specs.Since.{LeavesNow}
+use Rattle.std.proofs.Common.{ℕ, List, sym, ap, subst}
+use Rattle.im_disk.specs.{Fuse.Fused, Recording.Recording, Since.LeavesNow}
 use Rattle.im_serial.proofs.KeepsLemmas.{crashed_keeps}
 use Rattle.im_run.specs.Stops.{MeansAccepted, MeansPlanned}
 use Rattle.im_run.proofs.stops.run_over_stops.Goals as goal

@@ -1,9 +1,8 @@
-use Rattle.std.specs.Prelude.{◌≡◌, true}
-use Rattle.im_types.specs.declared.sizes.Limits.{Limits}
+use Rattle.std.proofs.Common.{◌≡◌, true}
+use Rattle.im_types.specs.Types.{Limits}
 use Rattle.im_run.specs.Stops.{CarriesOver, MeansAccepted, MeansPlanned}
-use Rattle.im_run.proofs.stops.run_over_stops.Given as goal
 
-abbrev pub invariant-loop-at : goal.invariant-loop-at
+abbrev pub invariant-loop-at : Rattle.im_run.proofs.stops.run_over_stops.Given.invariant-loop-at
 invariant-loop-at g l = ((limits : Limits) → CarriesOver l.fn.image.disk.moment (MeansAccepted limits) l.disk.moment
     (MeansAccepted limits))
     × ((limits : Limits) → l.asked.mode.planned ≡ true

@@ -1,12 +1,9 @@
-use Rattle.std.proofs.Common.{◌≡◌, [], List, take, refl, sym, subst, arith, rules}
-use Rattle.std.proofs.lemmas.List.{take_all}
-use Rattle.im_disk.specs.Since.{LeavesNow}
-use Rattle.im_disk.proofs.SinceLemmas.{leaves_start}
-use Rattle.im_engine.specs.declared.run.Event.{Event}
-use Rattle.im_engine.specs.declared.run.Answer.{Answer}
-use Rattle.im_engine.specs.Run.{AnsweredInTurn, acknowledged, in_doubt, HasRun, MeansBeginningOf, MeansWithOrWithout}
+use Rattle.std.proofs.Common.{◌≡◌, List, [], take, sym, refl, subst, arith, take_all, rules}
+use Rattle.im_disk.{proofs.SinceLemmas.leaves_start, specs.Since.LeavesNow}
+use Rattle.im_engine.proofs.Events.{answers_step, far_step, leaves_step, now_begin, now_step, run_start}
 use Rattle.im_engine.proofs.Running.{Counted, counted_start, counted_step}
-use Rattle.im_engine.proofs.Events.{run_start, now_begin, answers_step, far_step, leaves_step, now_step}
+use Rattle.im_engine.specs.declared.run.{Answer.Answer, Event.Event}
+use Rattle.im_engine.specs.Run.{acknowledged, AnsweredInTurn, HasRun, in_doubt, MeansBeginningOf, MeansWithOrWithout}
 use Rattle.im_engine.proofs.engine.Engine.run.Goals as goal
 
 pub loop-event-init : goal.loop-event-init

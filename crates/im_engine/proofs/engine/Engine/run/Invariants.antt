@@ -1,11 +1,9 @@
-use Rattle.std.proofs.Common.{◌≡◌, ◌≤◌, length, take, false, vec_capacity}
+use Rattle.std.proofs.Common.{◌≡◌, ◌≤◌, false, length, take, vec_capacity}
 use Rattle.im_disk.specs.Since.{Leaves, LeavesNow}
-use Rattle.im_engine.specs.Run.{AnsweredInTurn, acknowledged, in_doubt, MeansBeginningOf, MeansWithOrWithout}
-use Rattle.im_engine.proofs.Running.{Counted}
-use Rattle.im_engine.proofs.Events.{IsRun}
-use Rattle.im_engine.proofs.engine.Engine.run.Given as goal
+use Rattle.im_engine.proofs.{Events.IsRun, Running.Counted}
+use Rattle.im_engine.specs.Run.{acknowledged, AnsweredInTurn, in_doubt, MeansBeginningOf, MeansWithOrWithout}
 
-abbrev pub invariant-loop-event : goal.invariant-loop-event
+abbrev pub invariant-loop-event : Rattle.im_engine.proofs.engine.Engine.run.Given.invariant-loop-event
 invariant-loop-event g l = record {
   honest : g.D.Disk.honest l.self.disk → g.D.Disk.honest l.fn.self.disk;
   size : length l.answers.items ≡ l.event-index;

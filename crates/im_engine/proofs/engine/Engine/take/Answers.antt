@@ -1,7 +1,6 @@
 use Rattle.std.proofs.Common.{sym, subst}
 use Rattle.im_disk.specs.Since.{LeavesWithin}
-use Rattle.im_engine.specs.declared.run.Event.{Event}
-use Rattle.im_engine.specs.Run.{MeansBy}
+use Rattle.im_engine.specs.{declared.run.Event.Event, Run.MeansBy}
 use Rattle.im_engine.proofs.engine.Engine.take.Goals as goal
 
 pub returns-in-Command-clause-leaves : goal.returns-in-Command-clause-leaves

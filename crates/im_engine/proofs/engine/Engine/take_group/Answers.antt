@@ -1,8 +1,6 @@
 use Rattle.std.proofs.Common.{List, subst}
-use Rattle.im_types.specs.declared.commands.Request.{Request}
-use Rattle.im_disk.specs.Since.{LeavesWithin, LeavesNow}
-use Rattle.im_engine.specs.Groups.{MeansGroup}
-use Rattle.im_engine.proofs.Running.{group_causes}
+use Rattle.{im_types.specs.Types.Request, im_disk.specs.Since.LeavesNow, im_disk.specs.Since.LeavesWithin}
+use Rattle.im_engine.{proofs.Running.group_causes, specs.Groups.MeansGroup}
 use Rattle.im_engine.proofs.engine.Engine.take_group.Goals as goal
 
 pub returns-clause-faults : goal.returns-clause-faults
