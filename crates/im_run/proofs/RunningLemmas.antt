@@ -29,8 +29,8 @@ use Rattle.im_serial.specs.Serving.{IsOver, IsServing}
 use Rattle.im_run.specs.declared.run.TheConstants.{STALLED}
 use Rattle.im_run.specs.declared.served.Did.{Did}
 use Rattle.im_run.specs.Tracing.{TraceState}
-use Rattle.im_run.specs.Orders.{Ask, AreOrders, ArePartsThere, IsOfAll, Scope, SetsUp, bases_made, scope_when}
-use Rattle.im_run.specs.Orders.{script_heard}
+use Rattle.im_run.specs.Orders.{Ask, AreOrders, ArePartsThere, IsOfAll, SetsUp, bases_made, first_asked, lines_when}
+use Rattle.im_run.specs.Orders.{scope_when, script_heard}
 use Rattle.im_run.specs.Once.{RunWhen, also_when}
 use Rattle.im_run.specs.Planned.{EndsOnPlan, FitsIfNew, HasServedWhole, plan_of, planned_orders}
 use Rattle.im_run.specs.Doing.{AreAllTold}
@@ -177,9 +177,6 @@ also_by true planned (Some whole) m script setup put doubt orders trace none is 
 
 module _ {D : Type 0} (disk : Ghosts D) (once planned : Bool) (script : List ℕ) (start : SessionStart D)
     (t : SessionState D) where
-  abbrev scope : Scope
-  scope = scope_when once start.memory script
-
   -- the setup was ended
   pub halted_run : (course : Option Course) (waited : List Waited) (text : List ℕ) (was mid is : Option (List ℕ))
       (lines : Lines) (did : List Did) (new : D) (calls : TraceState) (status : ℕ)
@@ -224,11 +221,11 @@ module _ {D : Type 0} (disk : Ghosts D) (once planned : Bool) (script : List ℕ
       (text : List ℕ) (was held is : Option (List ℕ)) (lines : Lines) (new : D) (calls : TraceState) (status : ℕ)
       → IsServing start t s text n → Prints was held lines text
       → EndedOn disk planned whole orders t new held lines is calls.served status
-      → AreOrders (scope_when once start.memory script) t.engine.memory bases orders
+      → AreOrders (first_asked once t.engine.memory) bases (lines_when once start.memory script) orders
       → IsOfAll once bases (script_heard script) whole
       → SetsUp (scope_when once start.memory script) start.memory t.put []
       → bases ≡ bases_made (scope_when once start.memory script) start.memory t.put
-      → ArePartsThere (length start.memory.windows) (script_heard script)
+      → ArePartsThere (length start.memory.windows) (lines_when once start.memory script)
       → RunWhen disk once planned script start new was is calls status
   ended_run bases whole orders s n text was held is lines new calls status it prints ended of_script is_whole sets named
       there =
@@ -269,8 +266,10 @@ module _ {D : Type 0} (disk : Ghosts D) (once planned : Bool) (script : List ℕ
           made = sets;
           parts = there;
           orders = orders;
-          of_script = subst (λ (b : List ℕ). AreOrders scope (after m setup) b orders) named
-              (subst (λ (x : Contents). AreOrders scope x bases orders) begun of_script);
+          of_script = subst (λ (b : List ℕ). AreOrders (first_asked once (after m setup)) b (lines_when once m script)
+              orders) named
+              (subst (λ (x : Contents). AreOrders (first_asked once x) bases (lines_when once m script) orders) begun
+              of_script);
           all = subst (λ (x : Contents). AreAllTold x trace (status ≡ 0) orders ended.did) begun e.told;
           alone = e.alone;
           also = also_by once planned whole m script setup put e.doubt orders trace (status ≡ 0)

@@ -10,48 +10,11 @@ use Rattle.im_types.specs.Contents.{Window}
 use Rattle.im_types.specs.Window.{next_number}
 use Rattle.im_laws.proofs.Tests.{some_same}
 use Rattle.im_plans.specs.Runs.{HasServed, IsInPlan, IsTaken}
-use Rattle.im_script.specs.declared.script.Allocation.{Allocation}
-use Rattle.im_script.specs.declared.script.Heard.TheVariants.{Says}
-use Rattle.im_script.specs.declared.script.Said.{Said}
-use Rattle.im_script.specs.declared.script.Said.TheVariants.{Block, Asks}
-use Rattle.im_script.specs.declared.script.ScriptLine.{ScriptLine}
-use Rattle.im_serial.specs.Asked.{Wanted, wanted_by}
-use Rattle.im_serial.specs.Had.{met_all, news}
 use Rattle.im_serving.specs.declared.intent.Intent.{Intent}
 use Rattle.im_serving.specs.declared.intent.Intent.TheVariants as intent_kinds
 use Rattle.im_run.specs.declared.sheet.Order.{Order}
-use Rattle.im_run.specs.Orders.{AddsRequest, Ask, HasHeard, ask_of}
+use Rattle.im_run.specs.Orders.{Ask, ask_of}
 use Rattle.im_run.specs.Planned.{AreServed, all_below, next_or, plan_of, requests_from}
-use Rattle.im_run.proofs.OrdersLemmas.{heard_asked, heard_block, heard_nothing, prefix_same}
-
--- ---- a line, where nothing is settled
-
-all_new : (wanted : List Wanted) → news [] wanted ≡ wanted
-all_new [] = refl
-all_new (w ∷ wanted) = ap (λ (l : List Wanted). w ∷ l) (all_new wanted)
-
-none_left : (wanted : List Wanted) → met_all [] wanted ≡ []
-none_left [] = refl
-none_left (w ∷ wanted) = none_left wanted
-
--- it asks for nothing
-pub whole_nothing : (bases : List ℕ) (said : Said) (orders : List Order) → wanted_by said ≡ []
-    → HasHeard [] (Says said) bases bases orders orders []
-whole_nothing bases said orders none = heard_nothing [] [] bases bases said orders (prefix_same bases bases refl)
-    (all_new (wanted_by said) ∙ none) (sym (none_left (wanted_by said)))
-
--- it makes a block
-pub whole_block : (bases : List ℕ) (said : Said) (b : Allocation) (orders : List Order) → said ≡ Block b
-    → HasHeard [] (Says said) bases bases orders orders []
-whole_block bases said b orders block = heard_block [] [] bases bases said b orders block
-    (prefix_same bases bases refl) (all_new (wanted_by said)) (sym (none_left (wanted_by said)))
-
--- it is a request of a part
-pub whole_asked : (bases : List ℕ) (said : Said) (line : ScriptLine) (old new : List Order) → said ≡ Asks line
-    → AddsRequest bases (record { element = line.element; action = line.action; named = false }) old new
-    → HasHeard [] (Says said) bases bases old new []
-whole_asked bases said line old new asks adds = heard_asked [] [] bases bases bases said line old new asks refl
-    (prefix_same bases bases refl) adds (all_new (wanted_by said)) (sym (none_left (wanted_by said)))
 
 -- ---- what was served of it
 

@@ -66,7 +66,7 @@ pub record HasToldScript (s : Scope) (Also : List Ask → Type 0) (start : Conte
   pub made : SetsUp s start setup []
   pub parts : ArePartsThere (length start.windows) s.lines
   pub orders : List Ask
-  pub of_script : AreOrders s (after start setup) (bases_made s start setup) orders
+  pub of_script : AreOrders (s.first (after start setup)) (bases_made s start setup) s.lines orders
   pub all : AreAllTold (after start setup) trace none orders told
   pub alone : none → AreCallsOf orders trace
   pub also : Also orders

@@ -27,7 +27,7 @@ use Rattle.im_run.specs.Planned.{plan_of}
 
 -- the blocks of its setup
 abbrev pub setup_blocks : List ℕ → List Wanted
-setup_blocks text = blocks_of [] (script_heard text)
+setup_blocks text = blocks_of (script_heard text)
 
 -- the bases that its names stand for there: each block stands behind those before it
 abbrev pub new_bases : List ℕ → List ℕ

@@ -8,12 +8,12 @@ ghost use Rattle.im_run.specs.Planned.{FitsIfNew, plan_of, planned_orders};
 ghost use Rattle.im_run.specs.Once.{RunWhen};
 ghost use Rattle.im_run.specs.Running.{EndedOn, ServersEnded};
 
+use crate::assigning::read_orders;
 use crate::beginning::begin;
 use crate::calls::Calls;
 use crate::closing::{Ending, close};
 use crate::context::RunContext;
 use crate::late::tell_late;
-use crate::orders::read_orders;
 use crate::served::{ServedRun, serve_orders};
 use crate::sheet::{Commission, Workload};
 use crate::tracing::Trace;

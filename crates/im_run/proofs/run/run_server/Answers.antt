@@ -8,7 +8,7 @@ use Rattle.im_serial.specs.Serving.{EndedAt, GoingAt, seen_by, server_of}
 use Rattle.im_serial.proofs.AskedLemmas.{named_here, stands_here}
 use Rattle.im_serial.proofs.ScriptedLemmas.{as_of}
 use Rattle.im_run.specs.Once.{RunWhen}
-use Rattle.im_run.specs.Orders.{ask_of, asks_in, scope_when}
+use Rattle.im_run.specs.Orders.{ask_of, asks_in}
 use Rattle.im_run.specs.Running.{EndedOn}
 use Rattle.im_run.specs.Tracing.{TraceState}
 use Rattle.im_run.proofs.BlocksLemmas.{begun, names_made, sets_up, setup_course}
@@ -28,8 +28,7 @@ returns-in-Ok-clause-run g c =
     let planned = c.args.asked.planned in
     let script = c.args.asked.script.now in
     let known = c.requires.bases in
-    let scope = scope_when once m script in
-    let course = setup_course scope m server.bases.items known in
+    let course = setup_course once m script server.bases.items known in
     let r = c.read_orders-read in
     let from = g.W.Write.contents r.new.out in
     let after = r.new.server in
@@ -55,8 +54,8 @@ returns-in-Ok-clause-run g c =
     same s.ensures.ended)
     (if_ok_at _ r.result.0 c.in-Ok.work c.in-Ok.is r.ensures.orders)
     (if_ok_at _ r.result.0 c.in-Ok.work c.in-Ok.is r.ensures.whole)
-    (sets_up scope m server.bases.items known t.put [] (stands_here m there t.put it.reached))
-    (names_made scope m server.bases.items known t.put bases (named_here m there t.put it.named))
+    (sets_up once m script server.bases.items known t.put [] (stands_here m there t.put it.reached))
+    (names_made once m script server.bases.items known t.put bases (named_here m there t.put it.named))
     (match_ok _ r.result.0 c.in-Ok.work c.in-Ok.is r.ensures.there))
 
 pub returns-in-Err-clause-run : goal.returns-in-Err-clause-run
@@ -71,8 +70,7 @@ returns-in-Err-clause-run g c =
     let planned = c.args.asked.planned in
     let script = c.args.asked.script.now in
     let known = c.requires.bases in
-    let scope = scope_when once m script in
-    let course = setup_course scope m server.bases.items known in
+    let course = setup_course once m script server.bases.items known in
     let r = c.read_orders-read in
     let v = c.leave-session in
     let n = c.no_server-ending in
@@ -98,4 +96,4 @@ returns-in-Err-clause-run g c =
     (halted_run d once planned script start t (Some course) w ended.text held from is lines n.result.did.items
     k.result.1 calls k.result.0 over k.ensures.kept ended.printed n.ensures.none k.ensures.disk k.ensures.works
     (λ zero. n.ensures.refused (k.ensures.done zero)) k.ensures.printed c.new-served.ensures.items over.left
-    (sets_up scope m server.bases.items known (t.put ++ t.doubt) over.left over.leads))
+    (sets_up once m script server.bases.items known (t.put ++ t.doubt) over.left over.leads))
