@@ -24,7 +24,7 @@ use Rattle.im_run.specs.declared.served.Did.{Did}
 use Rattle.im_run.specs.declared.served.Did.TheVariants as did
 use Rattle.im_run.specs.declared.sheet.Order.{Order}
 use Rattle.im_run.specs.Doing.{AreAllNoted, AreAllTold, HaveAllParts, HaveSeen, IsNoted, IsOrderTold, IsPartOf}
-use Rattle.im_run.specs.Doing.{MakesPart, NotesEnd, elements_at_end, part_elements, glances_later, glances_told}
+use Rattle.im_run.specs.Doing.{MakesPart, NotesEnd, glances_later, glances_told}
 use Rattle.im_run.specs.Doing.{told_among, told_at, told_for}
 use Rattle.im_run.specs.Orders.{Ask, ask_of}
 
@@ -302,17 +302,6 @@ noted_step trace ends d old new told more before later it notes seen = by_noted 
     by_noted (inr (port, is)) = subst (AreAllNoted trace (later ≡ None) (ends ++ d ∷ [])) (sym is)
         (noted_more trace (later ≡ None) ends told (told_at d) d here
         (record { well = notes.well; noted = inr (port trace seen, refl) }))
-
--- ---- their elements
-
-pub elements_end : (m : Contents) (marks : Line → Bool) (parts : List Asked) (ends : List End)
-    → AreEnded m marks parts ends
-    → elements_at_end ends ≡ part_elements parts
-elements_end m marks [] [] it = refl
-elements_end m marks [] (d ∷ ends) it = absurd it
-elements_end m marks (p ∷ parts) [] it = absurd it
-elements_end m marks (p ∷ parts) (d ∷ ends) it =
-    ap₂ (λ (x : ℕ) (l : List ℕ). x ∷ l) it.0.element (elements_end m marks parts ends it.1)
 
 -- ---- orders
 

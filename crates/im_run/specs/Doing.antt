@@ -104,14 +104,6 @@ pub record IsPartOf (m : Contents) (order : Ask) (p : Asked) : Type 0 where
   pub untold : p.deeds.port.told.marked ≡ 0
   pub seen : AreGlanced m p.deeds.port.element p.deeds.last p.deeds.seen p.deeds.made
 
--- the elements of these parts
-abbrev pub part_elements : List Asked → List ℕ
-part_elements parts = map (λ p. p.deeds.port.element) parts
-
--- the same at their ends
-abbrev pub elements_at_end : List End → List ℕ
-elements_at_end ends = map (λ d. d.deeds.port.element) ends
-
 -- These parts were made for the orders, one after another. An order has none only if something was refused.
 abbrev pub HaveAllParts : Contents → Type 0 → List Ask → List Asked → Type 0
 HaveAllParts m none [] parts = parts ≡ []
