@@ -208,7 +208,7 @@ module _ (limits : Limits) (text : List ℕ) (earlier : List Command) (n : Conte
       accepts_split = subst (λ (l : List Command). accept_each n l ≡ Some (after n l)) split accepts
 
       on_plan_stops : (whole : List Ask) → AreAllOrders (bases_made (rest_of n text) n setup) (script_heard text) whole
-          → RanByPlan (Unit {0}) (plan_of whole) (after n setup) trace doubt (after n told) (status ≡ 0) → Stops
+          → RanByPlan true (plan_of whole) (after n setup) trace doubt (after n told) (status ≡ 0) → Stops
       on_plan_stops whole all ran =
           let plan = plan_of whole in
           let it = comes setup (accepted_in (after n setup) trace ++ doubt) accepts_split t.made whole all

@@ -1,7 +1,7 @@
 -- A planned run whose requests were all told: each of them was served. (Own.)
 use Rattle.std.proofs.Common.{◌≡◌, ◌∙◌, inl, ⊎_elim, ℕ, zero, suc, List, [], ◌∷◌, ◌++◌, length, refl, sym}
 use Rattle.std.proofs.Common.{ap, subst, append_assoc, arith}
-use Rattle.std.specs.Prelude.{Option, None, Some, IfSome, slice_get}
+use Rattle.std.specs.Prelude.{Option, None, Some, IfSome, is_some, slice_get}
 use Rattle.im_types.specs.declared.operations.Entry.{Entry}
 use Rattle.im_types.specs.declared.operations.Waiter.{Waiter}
 use Rattle.im_types.specs.declared.commands.Call.{Call}
@@ -19,7 +19,7 @@ use Rattle.im_laws.proofs.RunAgrees.{step-agrees}
 use Rattle.im_laws.proofs.Tests.{some_same}
 use Rattle.im_plans.specs.Runs.{HasServed, IsInPlan, IsTaken}
 use Rattle.im_plans.proofs.Taken.{kept-taken, step-taken}
-use Rattle.im_controller.specs.Planned.{AreOnPlan, EndsAsPlanned, EndsBy}
+use Rattle.im_controller.specs.Planned.{AreOnPlan, EndsAsPlanned, EndsBy, MayStart}
 use Rattle.im_serving.specs.declared.intent.Intent.{Intent}
 use Rattle.im_serving.specs.declared.intent.Intent.TheVariants as intent_kinds
 use Rattle.im_serving.specs.Serving.{StandIn, asked_line, asked_lines, ops_of}
@@ -28,7 +28,7 @@ use Rattle.im_run.specs.Doing.{AreAllTold}
 use Rattle.im_run.specs.declared.sheet.AllOrders.{AllOrders}
 use Rattle.im_run.specs.Orders.{Ask, asks_in}
 use Rattle.im_run.proofs.WholeLemmas.{all_served, in_either}
-use Rattle.im_run.specs.Planned.{AreServed, EndsOnPlan, FitsIfNew, HasServedWhole, plan_of, planned_orders}
+use Rattle.im_run.specs.Planned.{AreServed, EndsOnPlan, HasServedWhole, plan_of, planned_orders}
 use Rattle.im_run.specs.Planned.{requests_from}
 
 -- ---- the plan of the controller
@@ -141,11 +141,10 @@ pub ends_on_plan : (m : Contents) (trace : List Line) (whole : Option AllOrders)
     (doubt : List Command) (end : Contents) (none : Type 0) → IsLegal m trace → end_of m trace ≡ end
     → AreAllTold m trace none orders told
     → (none → IfSome whole (λ w. AreServed end.windows w.orders.items))
-    → FitsIfNew (asks_in whole) m (plan_of (planned_orders (asks_in whole) orders))
+    → MayStart (is_some whole) m (plan_of (planned_orders (asks_in whole) orders))
     → EndsAsPlanned m (plan_of (planned_orders (asks_in whole) orders)) trace end
     → AreOnPlan (Some (plan_of (planned_orders (asks_in whole) orders))) doubt
-    → EndsOnPlan (FitsIfNew (asks_in whole) m (plan_of (planned_orders (asks_in whole) orders)))
-    (plan_of (planned_orders (asks_in whole) orders)) m trace doubt end none
+    → EndsOnPlan (is_some (asks_in whole)) (plan_of (planned_orders (asks_in whole) orders)) m trace doubt end none
 ends_on_plan m trace None orders told doubt end none legal ends it served fits planned on = inl (record {
   fits = fits;
   ended = planned;

@@ -1,7 +1,7 @@
 -- What the session of a run puts on a disk, and what the run prints. (Own.)
 use Rattle.std.proofs.Common.{◌≡◌, ◌∙◌, ◌+◌, ◌≤◌, inl, inr, ⊎_elim, ℕ, zero, suc, Bool, false, List, [], ◌++◌, length}
 use Rattle.std.proofs.Common.{refl, sym, ap, subst, append-nil, take, arith, true}
-use Rattle.std.specs.Prelude.{Option, None, Some, ◌⊎◌, slice_get}
+use Rattle.std.specs.Prelude.{Option, None, Some, ◌⊎◌, is_some, slice_get}
 use Rattle.std.specs.Io.KnownBytes.{Appends}
 use Rattle.im_types.specs.declared.commands.Command.{Command}
 use Rattle.im_types.specs.declared.commands.Line.{Line}
@@ -32,7 +32,7 @@ use Rattle.im_run.specs.Tracing.{TraceState}
 use Rattle.im_run.specs.Orders.{Ask, AreOrders, ArePartsThere, IsOfAll, SetsUp, bases_made, first_asked, lines_when}
 use Rattle.im_run.specs.Orders.{scope_when, script_heard}
 use Rattle.im_run.specs.Once.{RunWhen, also_when}
-use Rattle.im_run.specs.Planned.{EndsOnPlan, FitsIfNew, HasServedWhole, plan_of, planned_orders}
+use Rattle.im_run.specs.Planned.{EndsOnPlan, HasServedWhole, plan_of, planned_orders}
 use Rattle.im_run.specs.Doing.{AreAllTold}
 use Rattle.im_run.specs.Running.{BeginsFinals, Closes, EndedOn, PrintsFinals, ServersEnded, final_line, finals}
 use Rattle.im_run.proofs.DoingLemmas.{told_weaker}
@@ -162,8 +162,8 @@ also_by : (once planned : Bool) (whole : Option (List Ask)) (m : Contents) (scri
     : List Command) (orders : List Ask) (trace : List Line) (none : Type 0)
     → IsOfAll once (bases_made (scope_when once m script) m setup) (script_heard script) whole
     → (none → HasServedWhole (after m put).windows whole)
-    → (planned ≡ true → EndsOnPlan (FitsIfNew whole (after m setup) (plan_of (planned_orders whole orders)))
-    (plan_of (planned_orders whole orders)) (after m setup) trace doubt (after m put) none)
+    → (planned ≡ true → EndsOnPlan (is_some whole) (plan_of (planned_orders whole orders)) (after m setup) trace doubt
+    (after m put) none)
     → also_when once planned m script trace none setup put doubt orders
 also_by false false whole m script setup put doubt orders trace none is served by = tt
 also_by false true None m script setup put doubt orders trace none is served by = by refl
@@ -275,9 +275,9 @@ module _ {D : Type 0} (disk : Ghosts D) (once planned : Bool) (script : List ℕ
           also = also_by once planned whole m script setup put e.doubt orders trace (status ≡ 0)
               (subst (λ (b : List ℕ). IsOfAll once b (script_heard script) whole) named is_whole)
               (λ zero. subst (λ (x : Contents). HasServedWhole x.windows whole) last (e.all_served zero))
-              (λ by. subst (λ (x : Contents). EndsOnPlan (FitsIfNew whole x plan) plan x trace e.doubt (after m put)
+              (λ by. subst (λ (x : Contents). EndsOnPlan (is_some whole) plan x trace e.doubt (after m put)
               (status ≡ 0)) begun
-              (subst (λ (x : Contents). EndsOnPlan (FitsIfNew whole t.engine.memory plan) plan t.engine.memory trace
-              e.doubt x (status ≡ 0)) last (e.as_planned it.works by)));
+              (subst (λ (x : Contents). EndsOnPlan (is_some whole) plan t.engine.memory trace e.doubt x (status ≡ 0))
+              last (e.as_planned it.works by)));
         });
       }

@@ -1,6 +1,6 @@
 -- What a run of element servers prints, and what its session puts on a disk. (Own.)
 use Rattle.std.specs.Prelude.{◌≡◌, ◌⊎◌, ℕ, Bool, ◌<◌, ◌≤◌, List, [], ◌∷◌, ◌++◌, codes, decimal, false, true}
-use Rattle.std.specs.Prelude.{length, Option, None, Some, Result, Ok, Err, slice_get}
+use Rattle.std.specs.Prelude.{length, Option, None, Some, Result, Ok, Err, is_some, slice_get}
 use Rattle.std.specs.Io.KnownBytes.{Appends}
 use Rattle.im_damage.specs.declared.damage.Damage.TheVariants.{Unknown}
 use Rattle.im_types.specs.declared.operations.Entry.{Entry}
@@ -31,7 +31,7 @@ use Rattle.im_run.specs.declared.served.Did.{Did}
 use Rattle.im_run.specs.declared.served.Did.TheVariants.{Sent, Glanced}
 use Rattle.im_run.specs.Doing.{AreAllTold, HasToldScript}
 use Rattle.im_run.specs.Orders.{Ask, Scope, SetsUp, all_of}
-use Rattle.im_run.specs.Planned.{EndsOnPlan, FitsIfNew, GoesByPlan, HasServedWhole, plan_of, planned_orders}
+use Rattle.im_run.specs.Planned.{EndsOnPlan, GoesByPlan, HasServedWhole, plan_of, planned_orders}
 use Rattle.im_run.specs.Tracing.{TraceState}
 
 -- the reason that a call of the disk failed
@@ -110,8 +110,8 @@ pub record ServersEnded {D : Type 0} (disk : Ghosts D) (planned : Bool) (whole :
     pub alone : none → AreCallsOf orders trace
     pub all_served : none → HasServedWhole engine.memory.windows whole
     pub as_planned : begun.engine.failed ≡ false → planned ≡ true
-        → EndsOnPlan (FitsIfNew whole begun.engine.memory (plan_of (planned_orders whole orders)))
-        (plan_of (planned_orders whole orders)) begun.engine.memory trace doubt engine.memory none
+        → EndsOnPlan (is_some whole) (plan_of (planned_orders whole orders)) begun.engine.memory trace doubt
+        engine.memory none
 
 -- A session's servers of these orders ended with this trace, the session was closed, and this status was given.
 pub record EndedOn {D : Type 0} (disk : Ghosts D) (planned : Bool) (whole : Option (List Ask)) (orders : List Ask)

@@ -1,10 +1,11 @@
 //! A script's requests, by servers over the session of an image.
-ghost use Rattle.std.specs.Prelude.{◌≡◌, ◌⊎◌, ◌≤◌, [], None, Some, true, map, IsOk};
+ghost use Rattle.std.specs.Prelude.{◌≡◌, ◌⊎◌, ◌≤◌, [], None, Some, is_some, true, map, IsOk};
 ghost use Rattle.im_session.specs.Kept.{Kept};
 ghost use Rattle.im_serial.specs.Once.{HasServedNothing};
 ghost use Rattle.im_serial.specs.Serving.{seen_by};
 ghost use Rattle.im_run.specs.Orders.{ask_of, asks_in, bases_first};
-ghost use Rattle.im_run.specs.Planned.{FitsIfNew, plan_of, planned_orders};
+ghost use Rattle.im_controller.specs.Planned.{MayStart};
+ghost use Rattle.im_run.specs.Planned.{plan_of, planned_orders};
 ghost use Rattle.im_run.specs.Once.{RunWhen};
 ghost use Rattle.im_run.specs.Running.{EndedOn, ServersEnded};
 
@@ -52,7 +53,7 @@ fn serve_opening<
 >(context: &RunContext<'_, G, V, R>, opening: Opening<D>, work: Workload) -> (Ending<D>, Calls)
     requires plan { work.planned ≡ true → opening.plan
         ≡ Some (plan_of (planned_orders (asks_in work.whole) (map ask_of work.orders.items))) }
-    requires fits { work.planned ≡ true → FitsIfNew (asks_in work.whole) opening.session.engine.memory
+    requires fits { work.planned ≡ true → MayStart (is_some work.whole) opening.session.engine.memory
         (plan_of (planned_orders (asks_in work.whole) (map ask_of work.orders.items))) }
     requires kept { Kept D.Disk opening.session }
     ensures ended { ServersEnded D.Disk work.planned (asks_in work.whole) (map ask_of work.orders.items)

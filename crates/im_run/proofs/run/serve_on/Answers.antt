@@ -1,10 +1,11 @@
 use Rattle.std.proofs.Common.{◌≡◌, ◌∙◌, inr, map, subst, sym}
-use Rattle.std.specs.Prelude.{IsOk}
+use Rattle.std.specs.Prelude.{IsOk, is_some}
 use Rattle.im_types.specs.Trace.{IsLegal}
+use Rattle.im_controller.specs.Planned.{MayStart}
 use Rattle.im_session.specs.Kept.{Kept, SessionState}
 use Rattle.im_text.specs.declared.lines.Lines.{Lines}
 use Rattle.im_run.specs.Orders.{ask_of, asks_in}
-use Rattle.im_run.specs.Planned.{FitsIfNew, plan_of, planned_orders}
+use Rattle.im_run.specs.Planned.{plan_of, planned_orders}
 use Rattle.im_run.specs.Running.{Closes, EndedOn, ServersEnded}
 use Rattle.im_run.proofs.DoingLemmas.{none_of_all}
 use Rattle.im_run.proofs.RunningLemmas.{ended_weaker, kept_as}
@@ -15,9 +16,9 @@ serve_opening-ending-requires-clause-plan g c κs within = c.in-Ok.ensures.plan
 
 pub serve_opening-ending-requires-clause-fits : goal.serve_opening-ending-requires-clause-fits
 serve_opening-ending-requires-clause-fits g c κs within = λ planned.
-    let whole = asks_in c.args.work.whole in
-    let orders = map ask_of c.args.work.orders.items in
-    subst (λ (x : SessionState g.row.D.Denot). FitsIfNew whole x.engine.memory (plan_of (planned_orders whole orders)))
+    let work = c.args.work in
+    let plan = plan_of (planned_orders (asks_in work.whole) (map ask_of work.orders.items)) in
+    subst (λ (x : SessionState g.row.D.Denot). MayStart (is_some work.whole) x.engine.memory plan)
     (sym c.in-Ok.ensures.found) (c.in-Ok.ensures.fits planned)
 
 pub serve_opening-ending-requires-clause-kept : goal.serve_opening-ending-requires-clause-kept
