@@ -1,7 +1,6 @@
 //! A memory with no disk, for C.
 ghost use Rattle.std.specs.Prelude.{◌≡◌, ◌≢◌, ◌⊎◌, Some, IsSome, IfSome, IfOk, IfErr};
 ghost use Rattle.std.specs.declared.option.Option.{Option};
-ghost use Rattle.im_types.specs.declared.operations.Op.TheVariants.{Fetch, Store, Take, Put};
 ghost use Rattle.im_types.specs.Contents.{empty_contents};
 ghost use Rattle.im_types.specs.Window.{ask};
 ghost use Rattle.im_types.specs.Sizes.{AreLimits};
@@ -100,70 +99,43 @@ fn step(memory: &mut Memory, command: &LtCommand, outcome: &mut LtOutcome)
     }
 }
 
-// Serves a command with an even tag, as those of reads and confirmations are.
-#[inline(always)]
+// Serves a command with an even tag, as those of reads and confirmations are. The memory's step stands in each arm, and
+// is laid out for its operation alone.
+#[inline(never)]
 fn step_even(memory: &mut Memory, command: &LtCommand, outcome: &mut LtOutcome)
     ensures { Steps memory.old command.now outcome.new memory.new }
 {
     match command.tag {
-        4 => fetch(memory, command, outcome),
-        6 => take(memory, command, outcome),
+        4 => {
+            let asked = request_of(command, Op::Fetch(command.address));
+            tell_read(memory.step(&asked), outcome);
+        }
+        6 => {
+            let asked = request_of(command, Op::Take(command.address));
+            tell_read(memory.step(&asked), outcome);
+        }
         8 => step_rest(memory, command, outcome),
         _ => step_any(memory, command, outcome),
     }
 }
 
 // Serves a command with an odd tag, as those of writes are.
-#[inline(always)]
+#[inline(never)]
 fn step_odd(memory: &mut Memory, command: &LtCommand, outcome: &mut LtOutcome)
     ensures { Steps memory.old command.now outcome.new memory.new }
 {
+    let (a, value) = (command.address, command.value);
     match command.tag {
-        5 => store(memory, command, outcome),
-        7 => put(memory, command, outcome),
+        5 => {
+            let asked = request_of(command, Op::Store(a, value));
+            tell_write(memory.step(&asked), outcome);
+        }
+        7 => {
+            let asked = request_of(command, Op::Put(a, value));
+            tell_write(memory.step(&asked), outcome);
+        }
         _ => step_any(memory, command, outcome),
     }
-}
-
-// Serves a fetch. It is a call of its own, as are the three below, so that the memory's step in it is laid out for a
-// fetch alone.
-#[inline(never)]
-fn fetch(memory: &mut Memory, command: &LtCommand, outcome: &mut LtOutcome)
-    requires { op_of command.now.tag command.now.address command.now.value ≡ Some (Fetch command.now.address) }
-    ensures { Steps memory.old command.now outcome.new memory.new }
-{
-    let asked = request_of(command, Op::Fetch(command.address));
-    tell_read(memory.step(&asked), outcome);
-}
-
-// Serves a take.
-#[inline(never)]
-fn take(memory: &mut Memory, command: &LtCommand, outcome: &mut LtOutcome)
-    requires { op_of command.now.tag command.now.address command.now.value ≡ Some (Take command.now.address) }
-    ensures { Steps memory.old command.now outcome.new memory.new }
-{
-    let asked = request_of(command, Op::Take(command.address));
-    tell_read(memory.step(&asked), outcome);
-}
-
-// Serves a store.
-#[inline(never)]
-fn store(memory: &mut Memory, command: &LtCommand, outcome: &mut LtOutcome)
-    requires { op_of command.now.tag command.now.address command.now.value ≡ Some (Store command.now.address command.now.value) }
-    ensures { Steps memory.old command.now outcome.new memory.new }
-{
-    let asked = request_of(command, Op::Store(command.address, command.value));
-    tell_write(memory.step(&asked), outcome);
-}
-
-// Serves a put.
-#[inline(never)]
-fn put(memory: &mut Memory, command: &LtCommand, outcome: &mut LtOutcome)
-    requires { op_of command.now.tag command.now.address command.now.value ≡ Some (Put command.now.address command.now.value) }
-    ensures { Steps memory.old command.now outcome.new memory.new }
-{
-    let asked = request_of(command, Op::Put(command.address, command.value));
-    tell_write(memory.step(&asked), outcome);
 }
 
 // Serves any command, or tells that it is none. It is a call of its own, so that an access isn't laid out with it.
