@@ -1,6 +1,6 @@
 -- The gate of the commands ahead, and the bodies of the next ones behind it.
-use Rattle.std.proofs.Common.{◌≡◌, ◌≢◌, ◌⊎◌, ⊎_elim, inl, inr, ℕ, ◌+◌, ◌-◌, ◌*◌, ◌<◌, ◌≤◌, ◌==◌, ◌&&◌, nat_le, Bool}
-use Rattle.std.proofs.Common.{true, List, [], length, get_or, drop, refl, sym, ◌∙◌, ap, subst, arith, option_map}
+use Rattle.std.proofs.Common.{◌≡◌, ◌≢◌, ◌⊎◌, ⊎_elim, inl, inr, ℕ, ◌+◌, ◌-◌, ◌*◌, ◌<◌, ◌≤◌, ◌&&◌, nat_le, Bool}
+use Rattle.std.proofs.Common.{true, List, length, get_or, drop, sym, ◌∙◌, ap, subst, arith, option_map}
 use Rattle.std.proofs.Common.{if◌then◌else◌}
 use Rattle.std.proofs.lemmas.Bool.{cases_eq, leb-true}
 use Rattle.im_types.proofs.Tests.{and_both}
@@ -8,7 +8,7 @@ use Rattle.im_types.specs.declared.TheConstants.{LAST}
 use Rattle.im_types.specs.declared.commands.Command.{Command}
 use Rattle.im_types.specs.Bytes.{open_gate}
 use Rattle.im_types.specs.Slot.{is_open}
-use Rattle.im_types.specs.Journal.{Ring, slot_offset, slot, Tail, tail}
+use Rattle.im_types.specs.Journal.{slot_offset, slot, Tail, tail}
 use Rattle.im_disk.specs.declared.disk.Disk.{Ghosts}
 use Rattle.im_disk.specs.Moment.{Moment, Left}
 use Rattle.im_disk.specs.Since.{SameBut, LeavesOnly, LeavesNow}
@@ -23,6 +23,7 @@ use Rattle.im_journal.proofs.Rings.{other_number}
 use Rattle.im_journal.proofs.Groups.{same_bodies}
 use Rattle.im_journal.proofs.Tails.{Parts, parts_of, tail_kept, boundaries_kept}
 use Rattle.im_journal.proofs.Appending.{IsNext, beside_gate, bodies_stay, added_to, added_boundaries, longer_held}
+use Rattle.im_journal.proofs.Writing.{none_yet}
 use Rattle.im_journal.proofs.Laying.{tail_laid, boundaries_laid, before_laid, holds_laid}
 
 -- commands are ahead, and there is room for them and for the next ones
@@ -54,9 +55,6 @@ pub chained_state : (base slots first count room from more : ℕ) (ahead next l 
     ≡ with_ahead next (longer (length ahead) (journal_state base slots first count room ahead))
 chained_state base slots first count room from more ahead next l from_is more_is l_is =
     (λ i. journal_state base slots first (from_is i) (more_is i) (l_is i))
-
-none_written : (r : Ring) (s h : ℕ) (c : List ℕ) → SameButBodies r s h c c
-none_written r s h c = record { size = refl; same = λ i out. refl }
 
 module _ {j : JournalState} {next : List Command} {m0 : Moment} (chain : IsChain j next m0) where
   abbrev g : ℕ
@@ -191,7 +189,7 @@ module _ {j : JournalState} {next : List Command} {m0 : Moment} (chain : IsChain
 
   -- the gate may be written
   pub touch_puts : (c : List ℕ) → MayTouch at m0 c → MayPut (g + h) j j.ahead m0 c
-  touch_puts c w = may_put w.from (chain.all w.from w.left) c w.same c (none_written j.ring (j.count + g) h c) w.left
+  touch_puts c w = may_put w.from (chain.all w.from w.left) c w.same c (none_yet j.ring (j.count + g) h c) w.left
 
   module _ (m1 : Moment) where
     -- and then the bodies

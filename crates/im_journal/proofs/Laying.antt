@@ -8,7 +8,7 @@ use Rattle.im_types.specs.declared.TheConstants.{LAST}
 use Rattle.im_types.specs.declared.commands.Command.{Command}
 use Rattle.im_types.specs.Bytes.{open_gate}
 use Rattle.im_types.specs.Slot.{sequence_of}
-use Rattle.im_types.specs.Journal.{Ring, slot_offset, slot, IsBoundary, Tail, tail}
+use Rattle.im_types.specs.Journal.{slot_offset, slot, IsBoundary, Tail, tail}
 use Rattle.im_disk.specs.declared.disk.Disk.{Ghosts}
 use Rattle.im_disk.specs.Moment.{Moment}
 use Rattle.im_disk.specs.Since.{SameBut, LeavesOnly}

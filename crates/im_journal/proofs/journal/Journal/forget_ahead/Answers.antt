@@ -1,4 +1,4 @@
-use Rattle.std.proofs.Common.{◌≡◌, List, [], ap, ◌∙◌}
+use Rattle.std.proofs.Common.{List, [], ap, ◌∙◌}
 use Rattle.im_types.specs.declared.commands.Command.{Command}
 use Rattle.im_journal.specs.Holding.{JournalState, journal_state, with_ahead}
 use Rattle.im_journal.proofs.Fitting.{known_none, holds_none}
