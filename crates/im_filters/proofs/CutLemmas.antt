@@ -8,7 +8,7 @@ use Rattle.std.proofs.lemmas.Bool.{and_parts, and_from, both_ways, not-true}
 use Rattle.std.proofs.lemmas.Grind.{common_steps}
 use Rattle.std.proofs.lemmas.Str.Pattern.{split_parts, IsSplitOnceResult}
 use Rattle.im_filters.specs.declared.telling.Telling.{Telling}
-use Rattle.im_filters.specs.declared.telling.Telling.TheVariants.{Plain, Quiet, Json, Calls}
+use Rattle.im_filters.specs.declared.telling.Telling.TheVariants.{Plain, Quiet, Json}
 use Rattle.im_filters.specs.Objects.{cut_front, cut_rest}
 use Rattle.im_filters.specs.Sieves.{goes_by_lines}
 use Rattle.im_filters.specs.Tellings.{IsSifted, lacks, sifted_lines, part_left, sifted, sifted_line}
@@ -185,13 +185,11 @@ pub told_by_lines : (t : Telling) (text : List ℕ) → goes_by_lines t ≡ true
 told_by_lines Plain text by = absurd (both_ways false refl by)
 told_by_lines Quiet text by = refl
 told_by_lines Json text by = refl
-told_by_lines Calls text by = refl
 
 pub told_plain : (t : Telling) (text : List ℕ) → goes_by_lines t ≡ false → sifted t text ≡ text
 told_plain Plain text isnt = refl
 told_plain Quiet text isnt = absurd (both_ways true isnt refl)
 told_plain Json text isnt = absurd (both_ways true isnt refl)
-told_plain Calls text isnt = absurd (both_ways true isnt refl)
 
 -- a line at the front
 pub is_sifted : (t : Telling) (xs all : List ℕ) → goes_by_lines t ≡ true → lacks 10 xs ≡ true → sifted_line t xs ≡ all

@@ -4,7 +4,7 @@ use Rattle.std.specs.Io.KnownBytes.{Appends}
 use Rattle.im_text.specs.Printing.{Prints}
 use Rattle.im_filters.specs.declared.slate.Slate.{Slate}
 use Rattle.im_filters.specs.declared.telling.Telling.{Telling}
-use Rattle.im_filters.specs.declared.telling.Telling.TheVariants.{Plain, Quiet, Json, Calls}
+use Rattle.im_filters.specs.declared.telling.Telling.TheVariants.{Plain, Quiet, Json}
 use Rattle.im_filters.specs.Tellings.{sifted_lines, part_left, sifted}
 
 -- lines are told once they are whole
@@ -12,7 +12,6 @@ abbrev pub goes_by_lines : Telling → Bool
 goes_by_lines Plain = false
 goes_by_lines Quiet = true
 goes_by_lines Json = true
-goes_by_lines Calls = true
 
 -- This text was taken. The writer held `start` and holds `is`: a plain text is there. Of other texts what is told of
 -- the whole lines was printed, and the part of a line at the end is held back.

@@ -6,4 +6,3 @@ pub mod OkLemmas
 pub mod RunLemmas
 pub mod SourceLemmas
 pub mod ToldLemmas
-pub mod TracedLemmas
