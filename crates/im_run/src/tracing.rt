@@ -167,8 +167,8 @@ fn print_lines<W: Write>(
 ///
 /// If `objects` is set, writes an object of JSON for each call in place of the line. It has the element, the number and
 /// the word of the call, what it asks for, its marks, and its reply. The mark `group` says that a group of commands
-/// began with the call, and `checkpoint` that one came in force since the call before. A call of the setup has no marks,
-/// and a collect or a refused call begins no group.
+/// began with the call, and `checkpoint` that one came in force since the call before. A call of the setup has no
+/// marks, and a collect or a refused call begins no group.
 ///
 /// Returns `Output` if a write fails, and `Memory` if there is not enough memory. What was written is then a prefix of
 /// the lines or the objects.
