@@ -80,7 +80,8 @@ unmarked_rest objects setup lines many (suc more) text is =
       ),
     ) in (
       before.0 ++ last,
-      same_many objects setup lines (suc (many + more)) (many + suc more) (text ++ (before.0 ++ last)) (omega arith) all,
+      same_many objects setup lines (suc (many + more)) (many + suc more) (text ++ (before.0 ++ last)) (omega arith)
+          all,
     )
 
 -- ---- the first lines
@@ -186,8 +187,10 @@ module _ (objects : Bool) (t : TraceState) (setup served : List Line) (first : s
       → BeginsTrace objects t start is
   traced_some start mid is before between after empty printed on =
       let some = subst (λ (l : List Line). PrintsSome objects t.setup (t.setup ++ l) start before mid between) others
-      (subst (λ (l : List Line). PrintsSome objects l (l ++ served) start before mid between) first printed) in
-      (some.0, (trace_is objects t some.0 some.1.0, written_some start mid is before between after some.0 empty some.1.1 on))
+      (subst (λ (l : List Line). PrintsSome objects l (l ++ served) start before mid between) first printed) in (
+        some.0,
+        (trace_is objects t some.0 some.1.0, written_some start mid is before between after some.0 empty some.1.1 on),
+      )
 
   pub traced_all : (start mid is : Option (List ℕ)) (before between after : Lines) → before.pending.items ≡ []
       → PrintsTraced objects setup (setup ++ served) (length (setup ++ served)) start before mid between
@@ -197,8 +200,13 @@ module _ (objects : Bool) (t : TraceState) (setup served : List Line) (first : s
       let all = subst (λ (l : List Line). PrintsTraced objects t.setup (t.setup ++ l) (length (t.setup ++ l)) start
       before mid between) others
       (subst (λ (l : List Line). PrintsTraced objects l (l ++ served) (length (l ++ served)) start before mid between)
-      first printed) in
-      (all.0, (trace_is objects t all.0 all.1.0, written_all start mid is before between after all.0 empty all.1.1 on works flushed))
+      first printed) in (
+        all.0,
+        (
+          trace_is objects t all.0 all.1.0,
+          written_all start mid is before between after all.0 empty all.1.1 on works flushed,
+        ),
+      )
 
 -- nothing was written
 pub none_begun : (objects : Bool) (t : TraceState) (was : Option (List ℕ)) → BeginsTrace objects t was was

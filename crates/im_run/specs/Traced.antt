@@ -11,7 +11,7 @@ use Rattle.im_types.specs.declared.commands.Line.{Line}
 use Rattle.im_types.specs.declared.refusals.Refusal.{Refusal}
 use Rattle.im_types.specs.Refusals.{number_of}
 use Rattle.im_trace.specs.declared.traced.Since.{Since}
-use Rattle.im_text.specs.Objects.{entry_number, entry_word, number_member, op_members, op_word}
+use Rattle.im_text.specs.Objects.{number_member, number_of_entry, op_members, op_word, word_of_entry}
 
 -- the element, the number and the word of a call; here the object begins
 abbrev pub call_start : ℕ → ℕ → List ℕ → List ℕ
@@ -36,13 +36,13 @@ mark_members since = (if since.group then codes ",\"group\":true" else [])
 
 -- the word of an answer
 abbrev pub outcome_word : Result Outcome Refusal → List ℕ
-outcome_word (Ok (Tells entry)) = entry_word entry
+outcome_word (Ok (Tells entry)) = word_of_entry entry
 outcome_word (Ok Confirmed) = codes "confirmed"
 outcome_word (Err refusal) = codes "refused"
 
 -- the number of an answer, if it has one
 abbrev pub outcome_number : Result Outcome Refusal → Option ℕ
-outcome_number (Ok (Tells entry)) = entry_number entry
+outcome_number (Ok (Tells entry)) = number_of_entry entry
 outcome_number (Ok Confirmed) = None
 outcome_number (Err refusal) = Some (number_of refusal)
 

@@ -25,44 +25,44 @@ use Rattle.im_text.specs.Texts.{kind_text}
 -- ---- entries
 
 -- the word of a reply
-abbrev pub reply_word : Reply → List ℕ
-reply_word (Base a) = codes "base"
-reply_word NoSpace = codes "nospace"
-reply_word BadLength = codes "badlength"
-reply_word (Value v) = codes "value"
-reply_word Stored = codes "stored"
-reply_word Clash = codes "clash"
-reply_word NoCell = codes "nocell"
-reply_word WrongKind = codes "wrongkind"
-reply_word Released = codes "released"
-reply_word NoBlock = codes "noblock"
-reply_word StillWaiting = codes "stillwaiting"
-reply_word Cleared = codes "cleared"
+abbrev pub word_of_reply : Reply → List ℕ
+word_of_reply (Base a) = codes "base"
+word_of_reply NoSpace = codes "nospace"
+word_of_reply BadLength = codes "badlength"
+word_of_reply (Value v) = codes "value"
+word_of_reply Stored = codes "stored"
+word_of_reply Clash = codes "clash"
+word_of_reply NoCell = codes "nocell"
+word_of_reply WrongKind = codes "wrongkind"
+word_of_reply Released = codes "released"
+word_of_reply NoBlock = codes "noblock"
+word_of_reply StillWaiting = codes "stillwaiting"
+word_of_reply Cleared = codes "cleared"
 
 -- the number of a reply, if it has one
-abbrev pub reply_number : Reply → Option ℕ
-reply_number (Base a) = Some a
-reply_number NoSpace = None
-reply_number BadLength = None
-reply_number (Value v) = Some v
-reply_number Stored = None
-reply_number Clash = None
-reply_number NoCell = None
-reply_number WrongKind = None
-reply_number Released = None
-reply_number NoBlock = None
-reply_number StillWaiting = None
-reply_number Cleared = None
+abbrev pub number_of_reply : Reply → Option ℕ
+number_of_reply (Base a) = Some a
+number_of_reply NoSpace = None
+number_of_reply BadLength = None
+number_of_reply (Value v) = Some v
+number_of_reply Stored = None
+number_of_reply Clash = None
+number_of_reply NoCell = None
+number_of_reply WrongKind = None
+number_of_reply Released = None
+number_of_reply NoBlock = None
+number_of_reply StillWaiting = None
+number_of_reply Cleared = None
 
 -- the word of an entry
-abbrev pub entry_word : Entry → List ℕ
-entry_word Waiting = codes "waiting"
-entry_word (Answered reply) = reply_word reply
+abbrev pub word_of_entry : Entry → List ℕ
+word_of_entry Waiting = codes "waiting"
+word_of_entry (Answered reply) = word_of_reply reply
 
 -- the number of an entry, if it has one
-abbrev pub entry_number : Entry → Option ℕ
-entry_number Waiting = None
-entry_number (Answered reply) = reply_number reply
+abbrev pub number_of_entry : Entry → Option ℕ
+number_of_entry Waiting = None
+number_of_entry (Answered reply) = number_of_reply reply
 
 -- the number of what was answered, under its word, if it has one
 abbrev pub number_member : List ℕ → Option ℕ → List ℕ

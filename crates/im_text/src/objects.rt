@@ -1,15 +1,15 @@
 //! The parts of objects of JSON: the words of operations and entries, and numbers under words.
 ghost use Rattle.std.specs.Prelude.{◌≡◌, ◌++◌, OnOk, string_bytes};
-ghost use Rattle.im_text.specs.Objects.{address_member, entry_number, entry_word, number_member, op_members, op_word};
-ghost use Rattle.im_text.specs.Objects.{reply_number, reply_word, written_members};
+ghost use Rattle.im_text.specs.Objects.{address_member, number_member, number_of_entry, number_of_reply, op_members};
+ghost use Rattle.im_text.specs.Objects.{op_word, word_of_entry, word_of_reply, written_members};
 
 use crate::replies::kind_text;
 use im_types::{Entry, Op, Reply};
 use std::alloc::AllocError;
 
 // The word of a reply.
-fn reply_word(reply: Reply) -> &'static str
-    ensures { result.now ≡ reply_word reply }
+fn word_of_reply(reply: Reply) -> &'static str
+    ensures { result.now ≡ word_of_reply reply }
 {
     match reply {
         Reply::Base(_) => "base",
@@ -28,8 +28,8 @@ fn reply_word(reply: Reply) -> &'static str
 }
 
 // The number of a reply, if it has one.
-fn reply_number(reply: Reply) -> Option<u64>
-    ensures { result ≡ reply_number reply }
+fn number_of_reply(reply: Reply) -> Option<u64>
+    ensures { result ≡ number_of_reply reply }
 {
     match reply {
         Reply::Base(base) => Some(u64::from(base)),
@@ -42,12 +42,12 @@ fn reply_number(reply: Reply) -> Option<u64>
 
 /// The word of an entry, and its number if it has one.
 pub fn entry_parts(entry: Entry) -> (&'static str, Option<u64>)
-    ensures word { result.0.now ≡ entry_word entry }
-    ensures number { result.1 ≡ entry_number entry }
+    ensures word { result.0.now ≡ word_of_entry entry }
+    ensures number { result.1 ≡ number_of_entry entry }
 {
     match entry {
         Entry::Waiting => ("waiting", None),
-        Entry::Answered(reply) => (reply_word(reply), reply_number(reply)),
+        Entry::Answered(reply) => (word_of_reply(reply), number_of_reply(reply)),
     }
 }
 
