@@ -61,7 +61,7 @@ fn run_in<
     observer: &mut N,
 ) -> (u8, D)
     ensures status { (result.0 ≤ 1) ⊎ (result.0 ≡ STALLED) }
-    ensures keeps { KeepsRuns D.Disk asked.entry.mode.planned asked.entry.script.now disk result.1 result.0 }
+    ensures keeps { KeepsRuns D.Disk asked.entry.planned asked.entry.script.now disk result.1 result.0 }
 {
     let (status, disk, _trace) = run_once_on(context, disk, asked, out, observer);
     (status, disk)
@@ -97,9 +97,9 @@ pub fn run_over_stops<
         (MeansAccepted limits) }
     ensures served { (limits : Limits) → result.0 ≡ 0 → CarriesOver image.disk.moment (MeansAccepted limits)
         result.1.moment (MeansServed limits asked.entry.script.now) }
-    ensures planned { (limits : Limits) → asked.entry.mode.planned ≡ true
+    ensures planned { (limits : Limits) → asked.entry.planned ≡ true
         → CarriesPlanOver limits asked.entry.script.now image.disk.moment result.1.moment MeansPlanned }
-    ensures ended { (limits : Limits) → asked.entry.mode.planned ≡ true → result.0 ≡ 0
+    ensures ended { (limits : Limits) → asked.entry.planned ≡ true → result.0 ≡ 0
         → CarriesPlanOver limits asked.entry.script.now image.disk.moment result.1.moment MeansPlanDone }
 {
     let Interrupted { mut disk, stops } = image;
