@@ -5,6 +5,7 @@ use Rattle.im_disk.specs.declared.disk.Disk.{Ghosts as DiskGhosts}
 use Rattle.im_disk.specs.Moment.{Moment}
 use Rattle.im_disk.specs.declared.file.FileDisk.{FileDisk}
 use Rattle.im_disk.specs.declared.start.Start.{Ghosts}
+use Rattle.im_text.specs.Said.{Output}
 use Rattle.im_words.specs.declared.words.Work.{Work}
 use Rattle.im_program.specs.Sources.{IsTextOf}
 use Rattle.im_program.specs.Told.{WorkDone}
@@ -31,7 +32,7 @@ text_as known text other same it = subst (IsTextOf known) (sym same) it
 
 -- the text that was served is what was read
 pub text_served : {D : Type 0} (d : DiskGhosts D) (once : Bool) (first : Moment) (bytes : List ℕ) (disk : D)
-    (was is : Option (List ℕ)) (status : ℕ) → ScriptServed d once first (Some bytes) disk was is status
+    (was : Output) (is : Option (List ℕ)) (status : ℕ) → ScriptServed d once first (Some bytes) disk was is status
     → TextServed d once first bytes was is status disk
 text_served d once first bytes disk was is status it = (
   it.old,

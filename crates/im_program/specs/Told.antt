@@ -1,12 +1,9 @@
--- What work comes to, and what it comes to that is told to a writer. (Own.)
+-- What work comes to. (Own.)
 use Rattle.std.specs.Prelude.{◌≡◌, ◌⊎◌, ℕ, List, Option, IfSome, IfNone}
 use Rattle.std.specs.Borrow.{Bor}
 use Rattle.im_disk.specs.declared.disk.Disk.{Ghosts as DiskGhosts}
 use Rattle.im_disk.specs.declared.file.FileDisk.{FileDisk}
 use Rattle.im_disk.specs.declared.start.Start.{Ghosts}
-use Rattle.im_filters.specs.declared.telling.Telling.{Telling}
-use Rattle.im_filters.specs.Tellings.{ToldIn}
-use Rattle.im_words.specs.declared.words.CommandLine.{CommandLine}
 use Rattle.im_words.specs.declared.words.Work.{Work}
 use Rattle.im_words.specs.declared.words.Work.TheVariants.{Demonstration}
 use Rattle.im_words.specs.Words.{texts_in}
@@ -31,21 +28,8 @@ module _ {S T : Type 0} (start : Ghosts S) (other : Ghosts T) (d : DiskGhosts (F
   WorkDone was is status disk old = HasDone start other d e work
       (λ it. DoneOn start other d input work was is status it old) status disk old
 
-  -- the same, told to a writer
-  abbrev pub WorkTold : Telling → Option (List ℕ) → Option (List ℕ) → ℕ → Option (FileDisk S start)
-      → Option (FileDisk T other) → Type 0
-  WorkTold telling was is status disk old = HasDone start other d e work (λ it. ToldIn
-      (λ before after came_to. DoneOn start other d input work before after came_to it old) telling was is status)
-      status disk old
-
 -- the work of a command line was done with this status, with a writer
 abbrev pub LineDone : {S T : Type 0} (start : Ghosts S) (other : Ghosts T) → DiskGhosts (FileDisk S start)
     → DiskGhosts (FileDisk T other) → Option (List ℕ) → Work (Bor (List ℕ)) → Option (List ℕ) → Option (List ℕ) → ℕ
     → Option (FileDisk S start) → Option (FileDisk T other) → Type 0
 LineDone start other d e input work = WorkDone start other d e input (texts_in work)
-
--- the same, told to a writer
-abbrev pub LineTold : {S T : Type 0} (start : Ghosts S) (other : Ghosts T) → DiskGhosts (FileDisk S start)
-    → DiskGhosts (FileDisk T other) → Option (List ℕ) → CommandLine → Telling → Option (List ℕ) → Option (List ℕ) → ℕ
-    → Option (FileDisk S start) → Option (FileDisk T other) → Type 0
-LineTold start other d e input line = WorkTold start other d e input (texts_in line.work)

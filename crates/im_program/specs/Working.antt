@@ -9,6 +9,7 @@ use Rattle.im_disk.specs.declared.start.Start.{Ghosts}
 use Rattle.im_disk.specs.Moment.{Moment}
 use Rattle.im_disk.specs.Since.{LeavesNow, ReadsOnly}
 use Rattle.im_image.specs.Fresh.{new_image}
+use Rattle.im_text.specs.Said.{Output, output}
 use Rattle.im_report.specs.Look.{ShowsView}
 use Rattle.im_serial.specs.Once.{SerialOnceOn}
 use Rattle.im_serial.specs.Serving.{SerialOn}
@@ -43,15 +44,14 @@ WasFormatted d cells elements slots status disk = d.honest disk → (status ≡ 
     × HoldsNewImage d (record { cells = cells; elements = elements; slots = slots }) disk
 
 -- a script is served on a disk, once or anew
-abbrev pub ScriptServes : {D : Type 0} → DiskGhosts D → Bool → List ℕ → D → D → Option (List ℕ) → Option (List ℕ) → ℕ
-    → Type 0
+abbrev pub ScriptServes : {D : Type 0} → DiskGhosts D → Bool → List ℕ → D → D → Output → Option (List ℕ) → ℕ → Type 0
 ScriptServes d true = SerialOnceOn d
 ScriptServes d false = SerialOn d
 
 -- a script of these bytes, where they are known, was served on this disk, once or anew; the disk was at this moment,
 -- and had no moment before it
 pub record ScriptServed {D : Type 0} (d : DiskGhosts D) (once : Bool) (first : Moment) (known : Option (List ℕ))
-    (disk : D) (was is : Option (List ℕ)) (status : ℕ) : Type 0 where
+    (disk : D) (was : Output) (is : Option (List ℕ)) (status : ℕ) : Type 0 where
   pub old : D
   pub begins : d.now old ≡ first
   pub none : d.past old ≡ []
@@ -60,15 +60,14 @@ pub record ScriptServed {D : Type 0} (d : DiskGhosts D) (once : Bool) (first : M
   pub served : ScriptServes d once text old disk was is status
 
 -- this text was served on this disk, once or anew; the disk was at this moment, and had no moment before it
-abbrev pub TextServed : {D : Type 0} → DiskGhosts D → Bool → Moment → List ℕ → Option (List ℕ) → Option (List ℕ) → ℕ → D
-    → Type 0
+abbrev pub TextServed : {D : Type 0} → DiskGhosts D → Bool → Moment → List ℕ → Output → Option (List ℕ) → ℕ → D → Type 0
 TextServed {D} d once first text was is status disk = (old : D) × (d.now old ≡ first) × (d.past old ≡ [])
     × ScriptServes d once text old disk was is status
 
 -- a script of these bytes, where they are known, was run on this disk, once or anew, freely or as a plan; the disk was
 -- at this moment, and had no moment before it
 pub record ScriptRan {D : Type 0} (d : DiskGhosts D) (planned once : Bool) (first : Moment) (known : Option (List ℕ))
-    (disk : D) (was is : Option (List ℕ)) (calls : TraceState) (status : ℕ) : Type 0 where
+    (disk : D) (was : Output) (is : Option (List ℕ)) (calls : TraceState) (status : ℕ) : Type 0 where
   pub old : D
   pub begins : d.now old ≡ first
   pub none : d.past old ≡ []
@@ -77,21 +76,21 @@ pub record ScriptRan {D : Type 0} (d : DiskGhosts D) (planned once : Bool) (firs
   pub run : RunsWhen d once planned text old disk was is calls status
 
 -- a script was served on this disk, if it is honest
-abbrev pub WasScriptServed : {D : Type 0} → DiskGhosts D → Moment → Bool → List ℕ → Option (List ℕ) → Option (List ℕ)
+abbrev pub WasScriptServed : {D : Type 0} → DiskGhosts D → Moment → Bool → List ℕ → Option (List ℕ) → Output
     → Option (List ℕ) → ℕ → D → Type 0
 WasScriptServed d first once script input was is status disk =
     d.honest disk → ScriptServed d once first (bytes_at script input) disk was is status
 
 -- this text was served on this disk, if it is honest
-abbrev pub WasTextServed : {D : Type 0} → DiskGhosts D → Moment → Bool → List ℕ → Option (List ℕ) → Option (List ℕ) → ℕ
-    → D → Type 0
+abbrev pub WasTextServed : {D : Type 0} → DiskGhosts D → Moment → Bool → List ℕ → Output → Option (List ℕ) → ℕ → D
+    → Type 0
 WasTextServed d first once text was is status disk = d.honest disk → TextServed d once first text was is status disk
 
 -- a script was run on this disk, with this trace
 abbrev pub RanAs : {D : Type 0} → DiskGhosts D → Moment → ScriptRun (Bor (List ℕ)) → Option (List ℕ) → Option (List ℕ)
     → Option (List ℕ) → TraceState → ℕ → D → Type 0
-RanAs d first running input was is calls status disk =
-    ScriptRan d running.planned running.once first (bytes_at running.script.now input) disk was is calls status
+RanAs d first running input was is calls status disk = ScriptRan d running.planned running.once first
+    (bytes_at running.script.now input) disk (output running.style was) is calls status
 
 -- the same, with some trace, if the disk is honest
 abbrev pub WasRun : {D : Type 0} → DiskGhosts D → Moment → ScriptRun (Bor (List ℕ)) → Option (List ℕ) → Option (List ℕ)
@@ -137,9 +136,10 @@ module _ {S T : Type 0} (start : Ghosts S) (other : Ghosts T) (d : DiskGhosts (F
   DoneOn input Demonstration was is status disk old = ⊥
   DoneOn input (Format it) was is status disk old = WasFormatted d it.cells it.elements it.slots status disk
   DoneOn input (Serial it) was is status disk old =
-      WasScriptServed d start.first it.once it.script input was is status disk
+      WasScriptServed d start.first it.once it.script input (output it.style was) is status disk
   DoneOn input (Run it) was is status disk old = d.honest disk → (calls : TraceState)
-      × ScriptRan d it.planned it.once start.first (bytes_at it.script input) disk was is calls status
+      × ScriptRan d it.planned it.once start.first (bytes_at it.script input) disk (output it.style was) is calls
+      status
   DoneOn input (Serve it) was is status disk old = d.honest disk → (kept : List Backup)
       × TalkedFrom d it.watch start.first disk (with_input input (outputs was [])) (outputs is kept) status
   DoneOn input (Inspect it) was is status disk old =

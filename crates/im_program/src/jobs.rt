@@ -24,7 +24,7 @@ use crate::work::refuse;
 use im_disk::{Disk, FileDisk, Start};
 use im_listening::Ear;
 use im_migration::MoveNews;
-use im_text::{News, PathFault, Reason};
+use im_text::{News, PathFault, Reason, Style};
 use im_types::{Observer, Refusal};
 use im_words::{Formatting, Work};
 use std::fs::File;
@@ -180,6 +180,15 @@ fn tell_loss<R: AllocGlobal + Eprint>(rt: &R, work: &Work<&str>, loss: Loss, is_
     }
 }
 
+// How a refusal of the work is said.
+fn style_of(work: &Work<&str>) -> Style {
+    match *work {
+        Work::Serial(serving) => serving.style,
+        Work::Run(running) => running.style,
+        _ => Style::Text,
+    }
+}
+
 // Does the work, and prints the line of a refusal.
 fn work_alone<
     R: Files<File = File> + AllocGlobal,
@@ -202,7 +211,7 @@ fn work_alone<
     let alloc = hand.rt.alloc();
     match do_work(hand, work, out, starts) {
         Ok(done) => done,
-        Err(refusal) => (refuse(alloc, refusal, out), None, None),
+        Err(refusal) => (refuse(alloc, style_of(work), refusal, out), None, None),
     }
 }
 
@@ -251,7 +260,11 @@ pub fn act_alone<
     let mut loss = Loss::none();
     if !may_do(rt, work, input, console, &mut loss) {
         console.tell(News::Refused(Reason::File(PathFault::Exists)));
-        return (refuse(rt.alloc(), Refusal::Device, out), None, None);
+        return (
+            refuse(rt.alloc(), style_of(work), Refusal::Device, out),
+            None,
+            None,
+        );
     }
     let inner = AtHand {
         rt,

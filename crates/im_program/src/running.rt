@@ -2,6 +2,7 @@
 ghost use Rattle.std.specs.Prelude.{◌≡◌, ◌⊎◌, ◌≤◌, IfOk, IfErr, OnErr, IfSome, IfNone, IsSome, is_some, true};
 ghost use Rattle.std.specs.Io.KnownBytes.{Keeps};
 ghost use Rattle.im_types.specs.declared.refusals.Refusal.TheVariants.{BadScript, Device, NoMemory};
+ghost use Rattle.im_text.specs.Said.{output};
 ghost use Rattle.im_run.specs.Once.{RunsWhen};
 ghost use Rattle.im_program.specs.Places.{IsOpenAt};
 ghost use Rattle.im_program.specs.Working.{RanAs, WasRun};
@@ -17,8 +18,9 @@ use crate::work::refuse;
 use im_disk::{Disk, FileDisk, Start};
 use im_run::{Assignment, RunContext, STALLED, Trace, run_on, run_on_plan, run_once_on};
 use im_script::Script;
+use im_serial::StyledScript;
 use im_serving::{Host, Open, Standing, Teller};
-use im_text::News;
+use im_text::{News, Style};
 use im_types::{Observer, Refusal};
 use im_words::ScriptRun;
 use std::fs::File;
@@ -29,8 +31,9 @@ use std::thread::Threads;
 
 // A script that is run, and how.
 #[derive(Clone, Copy)]
-struct RunTask<'s, 'a> {
-    script: &'s Script<'a>,
+struct RunTask<'a> {
+    script: &'a Script<'a>,
+    style: Style,
     once: bool,
     planned: bool,
 }
@@ -45,28 +48,35 @@ fn run_task<
 >(
     context: &RunContext<'_, Open, V, R>,
     disk: D,
-    task: RunTask<'_, '_>,
+    task: RunTask<'_>,
     out: &mut W,
     observer: &mut N,
 ) -> (u8, D, Trace)
     ensures status { (result.0 ≤ 1) ⊎ (result.0 ≡ STALLED) }
     ensures run { RunsWhen D.Disk task.entry.once task.entry.planned task.entry.script.now disk result.1
-        (W.contents out.old) (W.contents out.new) result.2 result.0 }
+        (output task.entry.style (W.contents out.old)) (W.contents out.new) result.2 result.0 }
     ensures recorded { context.now.recorded ≡ true → result.2.recorded ≡ true }
+    ensures honest { D.honest result.1 → D.honest disk }
 {
     let RunTask {
         script,
+        style,
         once,
         planned,
     } = task;
     if once {
-        let asked = Assignment { script, planned };
+        let asked = Assignment {
+            script,
+            style,
+            planned,
+        };
         return run_once_on(context, disk, asked, out, observer);
     }
+    let styled = StyledScript { script, style };
     if planned {
-        return run_on_plan(context, disk, script, out, observer);
+        return run_on_plan(context, disk, &styled, out, observer);
     }
-    run_on(context, disk, script, out, observer)
+    run_on(context, disk, &styled, out, observer)
 }
 
 /// Runs the script of one file on the image of another, each element's requests by threads of its own. The script may
@@ -119,6 +129,7 @@ pub fn run_file<
     let context = RunContext::new(rt, rt.alloc(), &Open, watcher, running.trace.is_some());
     let task = RunTask {
         script: &script,
+        style: running.style,
         once: running.once,
         planned: running.planned,
     };
@@ -151,12 +162,12 @@ fn run_at_once<
     let alloc = hand.rt.alloc();
     match run_file(hand, running, watcher, out, start) {
         Ok((status, disk, trace)) => (status, Some(disk), Some(trace)),
-        Err(refusal) => (refuse(alloc, refusal, out), None, None),
+        Err(refusal) => (refuse(alloc, running.style, refusal, out), None, None),
     }
 }
 
-/// Runs a script with threads for its elements, and writes its trace if one is asked for: as objects of JSON if
-/// `objects` is set. Returns the status, and the disk of the image if it was opened.
+/// Runs a script with threads for its elements, and writes its trace if one is asked for: as objects of JSON if its
+/// lines are said so. Returns the status, and the disk of the image if it was opened.
 pub(crate) fn act_at_once<
     R: Files<File = File> + AllocGlobal + Eprint + Threads + Wait + Sync,
     S: Start + Send,
@@ -165,7 +176,6 @@ pub(crate) fn act_at_once<
 >(
     hand: AtHand<'_, R, I, Console<'_, R>>,
     running: &ScriptRun<&str>,
-    objects: bool,
     out: &mut W,
     start: S,
 ) -> (u8, Option<FileDisk<S>>)
@@ -178,7 +188,7 @@ pub(crate) fn act_at_once<
     let (rt, held, input, console) = hand.parts();
     let file = match make_file_if(rt, held, running.trace, console) {
         Ok(file) => file,
-        Err(refusal) => return (refuse(rt.alloc(), refusal, out), None),
+        Err(refusal) => return (refuse(rt.alloc(), running.style, refusal, out), None),
     };
     let watch = Watch::new(rt, console.is_watched());
     let inner = AtHand {
@@ -188,7 +198,7 @@ pub(crate) fn act_at_once<
         observer: &mut *console,
     };
     let (status, disk, run) = run_at_once(inner, running, watch, out, start);
-    keep_trace(rt, file, run, objects, console);
+    keep_trace(rt, file, run, running.style == Style::Json, console);
     settle_if(rt, running.image, &disk, console);
     (status, disk)
 }

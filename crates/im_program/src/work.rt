@@ -1,6 +1,6 @@
 //! The work that the program does.
-ghost use Rattle.std.specs.Prelude.{◌≡◌, ◌⊎◌, ◌≤◌, ℕ, List};
-ghost use Rattle.im_text.specs.Printing.{Begins, IsLast};
+ghost use Rattle.std.specs.Prelude.{◌≡◌, ◌⊎◌, ◌≤◌};
+ghost use Rattle.im_text.specs.Said.{SaysLast, output};
 ghost use Rattle.im_program.specs.Told.{LineDone};
 
 use crate::console::Console;
@@ -8,10 +8,9 @@ use crate::hand::AtHand;
 use crate::jobs::act_alone;
 use crate::running::act_at_once;
 use im_disk::{Disk, FileDisk, Start};
-use im_filters::Telling;
 use im_listening::Ear;
 use im_run::STALLED;
-use im_text::put_refusal;
+use im_text::{Style, put_refusal};
 use im_types::Refusal;
 use im_words::{CommandLine, Work};
 use std::alloc::Global;
@@ -53,8 +52,7 @@ pub fn act<
     match line.work {
         Work::Run(running) => {
             let (start, _other) = starts;
-            let objects = line.telling == Telling::Json;
-            let (status, disk) = act_at_once(hand, &running, objects, out, start);
+            let (status, disk) = act_at_once(hand, &running, out, start);
             (status, disk, None)
         }
         _ => act_alone(hand, &line.work, out, starts),
@@ -62,10 +60,10 @@ pub fn act<
 }
 
 /// Prints the line of a refusal and returns the status 1.
-pub fn refuse<W: Write>(alloc: Global, refusal: Refusal, out: &mut W) -> u8
+pub fn refuse<W: Write>(alloc: Global, style: Style, refusal: Refusal, out: &mut W) -> u8
     ensures status { result ≡ 1 }
-    ensures last { (last : List ℕ) × (IsLast last × Begins (W.contents out.old) (W.contents out.new) last) }
+    ensures last { SaysLast (output style (W.contents out.old)) (W.contents out.new) }
 {
-    put_refusal(alloc, refusal, out);
+    put_refusal(alloc, style, refusal, out);
     1 // Whatever was printed.
 }

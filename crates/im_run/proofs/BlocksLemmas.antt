@@ -11,12 +11,12 @@ use Rattle.im_script.specs.declared.script.Heard.{Heard}
 use Rattle.im_script.specs.Script.{Draft, heard, lines_of}
 use Rattle.im_text.specs.declared.lines.Lines.{Lines}
 use Rattle.im_text.specs.declared.replies.Waited.{Waited}
-use Rattle.im_text.specs.Printing.{PrintsOn, who_of}
+use Rattle.im_text.specs.Said.{PrintsOn, who_of}
 use Rattle.im_serial.specs.declared.waits.Mark.{Mark}
 use Rattle.im_serial.specs.Asked.{Course, Leads, Wanted, bases_after, standing}
 use Rattle.im_serial.specs.Noted.{AreNoted}
 use Rattle.im_serial.specs.Once.{HasServedNothing}
-use Rattle.im_serial.specs.Serving.{EndsAt, GoingAt, HasServed, Passes, ScriptServer, server_of}
+use Rattle.im_serial.specs.Serving.{EndsAt, GoingAt, HasServed, Passes, ScriptServer, output_of, server_of}
 use Rattle.im_serial.proofs.ScriptedLemmas.{going_from, has_served, passes_refl, prints_on}
 use Rattle.im_run.specs.Orders.{Scope, SetsUp, bases_made, blocks_asked, blocks_of, line_blocks, lines_heard}
 use Rattle.im_run.specs.Orders.{settled_past}
@@ -114,14 +114,14 @@ module _ {D : Type 0} where
 
   -- nothing was served yet
   pub begun : (c : Course) (s : ScriptServer D) (bases : List ℕ) → HasServedNothing s bases → c.earlier ≡ []
-      → GoingAt s.session.start s.held (standing (Some c) c.first (c.wanted ++ [])) s
+      → GoingAt s.session.start (output_of s) (standing (Some c) c.first (c.wanted ++ [])) s
   begun c s bases ready none = let m = s.session.start.memory in
-      going_from c s.session s.held s.lines s.waited s.marks ready.fresh ready.works
+      going_from c s.session (output_of s) s.lines s.waited s.marks ready.fresh ready.works
       (record {
         memory = subst (λ (x : Contents). IsMemory (length x.cells) (length x.windows) x)
             (sym (ap (λ (t : SessionState D). t.start.memory) ready.fresh)) ready.memory;
         noted = subst (AreNoted m [] 0 0 s.marks) (sym ready.waited) (λ at w is. absurd (no_item w is));
-      }) (ap (map who_of) ready.waited ∙ sym none) ready.pending
+      }) (ap (map who_of) ready.waited ∙ sym none) refl ready.pending
     where
       no_item : (w : Waited) → ◌≡◌ {A = Option Waited} None (Some w) → ⊥
       no_item w is = cc

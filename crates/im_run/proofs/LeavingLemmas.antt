@@ -18,6 +18,7 @@ use Rattle.im_session.specs.Kept.{Kept, MeansPut, SessionStart, SessionState, se
 use Rattle.im_session.proofs.AcceptedLemmas.{each_accepted}
 use Rattle.im_session.proofs.CarryLemmas.{BeganWith, began_with, carried}
 use Rattle.im_serial.specs.Begun.{new_memory}
+use Rattle.im_text.specs.Said.{Output}
 use Rattle.im_serial.specs.Serving.{NotOpened}
 use Rattle.im_serial.proofs.BegunLemmas.{accepted_after, accepted_first}
 use Rattle.im_run.specs.Once.{EndsOnce, RanRest}
@@ -78,7 +79,7 @@ module _ {D : Type 0} (disk : Ghosts D) (s : SessionState D) (kept : Kept disk s
 -- ---- a run that went on
 
 module _ {D : Type 0} (disk : Ghosts D) (limits : Limits) (planned : Bool) (text : List ℕ) (start : SessionStart D)
-    (new : D) (was is : Option (List ℕ)) (calls : TraceState) (status : ℕ)
+    (new : D) (was : Output) (is : Option (List ℕ)) (calls : TraceState) (status : ℕ)
     (it : RanRest disk planned text start new was is calls status) (h : disk.honest it.run.engine.disk) where
   abbrev run_session : SessionState D
   run_session = session_of start it.run.put it.run.doubt it.run.engine
@@ -136,7 +137,7 @@ module _ {D : Type 0} (disk : Ghosts D) (limits : Limits) (planned : Bool) (text
 
 -- ---- one run more
 
-module _ {D : Type 0} (disk : Ghosts D) (planned : Bool) (text : List ℕ) (was is : Option (List ℕ))
+module _ {D : Type 0} (disk : Ghosts D) (planned : Bool) (text : List ℕ) (was : Output) (is : Option (List ℕ))
     (calls : TraceState) (status : ℕ) where
   no_end : status ≡ 1 → status ≡ 0 → ⊥
   no_end one well = omega (arith, one, well)

@@ -2,7 +2,6 @@
 use Rattle.std.proofs.Common.{◌≡◌, ◌∙◌, ◌+◌, ◌≤◌, inl, inr, ⊎_elim, ℕ, zero, suc, Bool, false, List, [], ◌++◌, length}
 use Rattle.std.proofs.Common.{refl, sym, ap, subst, append-nil, take, arith, true}
 use Rattle.std.specs.Prelude.{Option, None, Some, ◌⊎◌, slice_get}
-use Rattle.std.specs.Io.KnownBytes.{Appends}
 use Rattle.im_types.specs.declared.commands.Command.{Command}
 use Rattle.im_types.specs.declared.commands.Line.{Line}
 use Rattle.im_types.specs.declared.commands.Request.{Request}
@@ -20,8 +19,9 @@ use Rattle.im_controller.specs.Kept.{Begun, IsSessionOf, accepted_in, begun_by, 
 use Rattle.im_controller.specs.State.{OpeningState}
 use Rattle.im_text.specs.declared.lines.Lines.{Lines}
 use Rattle.im_text.specs.declared.replies.Waited.{Waited}
-use Rattle.im_text.specs.Printing.{Begins, IsLast, Prints, PrintsMore, replies}
-use Rattle.im_text.proofs.PrintingLemmas.{prints_begins}
+use Rattle.im_text.specs.declared.said.OutputLine.{OutputLine}
+use Rattle.im_text.specs.Said.{IsLast, Output, Prints, PrintsMore, SaysAll, SaysSome, replies}
+use Rattle.im_text.proofs.SaidLemmas.{prints_begins}
 use Rattle.im_text.proofs.TextLemmas.{written_none}
 use Rattle.im_serial.specs.Asked.{Course, Standing, Wanted}
 use Rattle.im_serial.specs.Noted.{Notes}
@@ -115,9 +115,9 @@ ended_weaker disk planned whole orders begun engine trace did none later well it
 pub closed_by : (was mid is : Option (List ℕ)) (before after final : Lines) (m : Contents) (did : List Did) (status : ℕ)
     → PrintsFinals was before mid after m did
     → (status ≡ 0 → PrintsMore was before mid after (finals m did (length did)))
-    → ((start : Option (List ℕ)) (text : List ℕ) → Prints start mid after text
-    → (last : List ℕ) × (IsLast last × Prints start is final (text ++ last)))
-    → (status ≡ 0 → (start : Option (List ℕ)) (text : List ℕ) → Prints start mid after text → Appends start is text)
+    → ((start : Output) (text : List OutputLine) → Prints start mid after text
+    → (last : List OutputLine) × (IsLast last × Prints start is final (text ++ last)))
+    → (status ≡ 0 → (start : Output) (text : List OutputLine) → Prints start mid after text → SaysAll start is text)
     → Closes was before is m did status
 closed_by was mid is before after final m did status some all last whole = λ start text it.
     let end = last start (text ++ finals m did some.0) (some.2 start text it) in (
@@ -132,7 +132,7 @@ closed_by was mid is before after final m did status some all last whole = λ st
     )
 
 -- nothing was done, so that it is told of any memory
-none_done : (start is : Option (List ℕ)) (text : List ℕ) (m n : Contents) (did : List Did) → did ≡ []
+none_done : (start : Output) (is : Option (List ℕ)) (text : List OutputLine) (m n : Contents) (did : List Did) → did ≡ []
     → BeginsFinals start is text m did → BeginsFinals start is text n did
 none_done start is text m n did none begins =
     let few : begins.0 ≤ 0 = subst (λ (l : List Did). begins.0 ≤ length l) none begins.1.0 in (
@@ -143,7 +143,7 @@ none_done start is text m n did none begins =
           begins.1.1.0,
           (
             begins.1.1.1.0,
-            subst (λ (t : List ℕ). Begins start is ((text ++ t) ++ begins.1.1.0)) (no_finals begins.0 few)
+            subst (λ (t : List OutputLine). SaysSome start is ((text ++ t) ++ begins.1.1.0)) (no_finals begins.0 few)
                 begins.1.1.1.1,
           ),
         ),
@@ -181,7 +181,8 @@ module _ {D : Type 0} (disk : Ghosts D) (once planned : Bool) (script : List ℕ
   scope = scope_when once start.memory script
 
   -- the setup was ended
-  pub halted_run : (course : Option Course) (waited : List Waited) (text : List ℕ) (was mid is : Option (List ℕ))
+  pub halted_run : (course : Option Course) (waited : List Waited) (text : List OutputLine) (was : Output)
+      (mid is : Option (List ℕ))
       (lines : Lines) (did : List Did) (new : D) (calls : TraceState) (status : ℕ)
       → IsOver start t course text waited → Kept disk t → Prints was mid lines text → did ≡ [] → new ≡ t.engine.disk
       → ((status ≡ 0) ⊎ (status ≡ STALLED) → t.engine.failed ≡ false) → (status ≡ 0 → ⊥)
@@ -206,7 +207,7 @@ module _ {D : Type 0} (disk : Ghosts D) (once planned : Bool) (script : List ℕ
           others = over.others;
           split = over.split;
           did = did;
-          begins = subst (λ (l : List ℕ). BeginsFinals was is l (after start.memory t.put) did) over.lines
+          begins = subst (λ (l : List OutputLine). BeginsFinals was is l (after start.memory t.put) did) over.lines
               (none_done was is text t.engine.memory (after start.memory t.put) did none (closes was text prints).0);
           whole = λ zero. absurd (never zero);
         };
@@ -221,7 +222,8 @@ module _ {D : Type 0} (disk : Ghosts D) (once planned : Bool) (script : List ℕ
 
   -- the elements' servers ended
   pub ended_run : (bases : List ℕ) (whole : Option (List Ask)) (orders : List Ask) (s : Standing) (n : Notes)
-      (text : List ℕ) (was held is : Option (List ℕ)) (lines : Lines) (new : D) (calls : TraceState) (status : ℕ)
+      (text : List OutputLine) (was : Output) (held is : Option (List ℕ)) (lines : Lines) (new : D)
+      (calls : TraceState) (status : ℕ)
       → IsServing start t s text n → Prints was held lines text
       → EndedOn disk planned whole orders t new held lines is calls.served status
       → AreOrders (scope_when once start.memory script) t.engine.memory bases orders
@@ -259,10 +261,10 @@ module _ {D : Type 0} (disk : Ghosts D) (once planned : Bool) (script : List ℕ
           split = sym (append-nil setup);
           did = ended.did;
           begins = subst (λ (x : Contents). BeginsFinals was is (replies m setup) x ended.did) last
-              (subst (λ (l : List ℕ). BeginsFinals was is l ended.engine.memory ended.did) it.lines closes.0);
+              (subst (λ (l : List OutputLine). BeginsFinals was is l ended.engine.memory ended.did) it.lines closes.0);
           whole = λ zero. subst
-              (λ (x : Contents). Appends was is (replies m setup ++ finals x ended.did (length ended.did))) last
-              (subst (λ (l : List ℕ). Appends was is (l ++ finals ended.engine.memory ended.did (length ended.did)))
+              (λ (x : Contents). SaysAll was is (replies m setup ++ finals x ended.did (length ended.did))) last
+              (subst (λ (l : List OutputLine). SaysAll was is (l ++ finals ended.engine.memory ended.did (length ended.did)))
               it.lines (closes.1 zero));
         };
         tells = inl (record {

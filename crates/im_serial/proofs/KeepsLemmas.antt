@@ -15,6 +15,7 @@ use Rattle.im_disk.proofs.SinceLemmas.{leaves_now, leaves_weaker}
 use Rattle.im_session.specs.Kept.{Kept, MeansPut, SessionState}
 use Rattle.im_session.proofs.AcceptedLemmas.{each_accepted}
 use Rattle.im_session.proofs.CarryLemmas.{BeganWith, began_with, carried}
+use Rattle.im_text.specs.Said.{Output}
 use Rattle.im_serial.specs.Asked.{Wanted, wanted_of}
 use Rattle.im_serial.specs.Begun.{HasComeTo, HasGoneOn, KeepsBegun, MeansBegun, MeansDone, new_memory}
 use Rattle.im_serial.specs.Once.{HasMade, IsAskedOnce, SerialOnceOn}
@@ -83,7 +84,7 @@ module _ {D : Type 0} (disk : Ghosts D) (limits : Limits) (text : List ℕ) (s :
     done = λ zero. done_on (works zero) zero;
   }
 
-module _ {D : Type 0} (disk : Ghosts D) (limits : Limits) (text : List ℕ) (old new : D) (was is : Option (List ℕ))
+module _ {D : Type 0} (disk : Ghosts D) (limits : Limits) (text : List ℕ) (old new : D) (was : Output) (is : Option (List ℕ))
     (status : ℕ) (before : LeavesNow (disk.now old) (MeansBegun limits (wanted_of text))) (h : disk.honest new) where
   pub keeps_on : SerialOnceOn disk text old new was is status
       → KeepsBegun disk.now disk.past limits (wanted_of text) old new status

@@ -33,7 +33,7 @@ use Rattle.im_laws.proofs.StepLemmas.{slice_get-end}
 use Rattle.im_laws.proofs.Tests.{and_both, eq_by_test}
 use Rattle.im_laws.proofs.WindowLemmas.{kept_for-here, kept_for-window, kept_under-below, kept_under-from}
 use Rattle.im_text.specs.declared.replies.Waited.{Waited}
-use Rattle.im_text.specs.Printing.{waits_if, who_of}
+use Rattle.im_text.specs.Said.{waits_if, who_of}
 use Rattle.im_text.proofs.PrintingLemmas.{take-prefix, true_false}
 use Rattle.im_text.proofs.WindowLemmas.{bounds_found}
 use Rattle.im_serial.specs.declared.waits.Mark.{Mark}

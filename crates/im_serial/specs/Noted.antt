@@ -14,7 +14,7 @@ use Rattle.im_types.specs.Memory.{IsMemory}
 use Rattle.im_types.specs.Run.{after}
 use Rattle.im_laws.specs.Windows.{IsForgotten}
 use Rattle.im_text.specs.declared.replies.Waited.{Waited}
-use Rattle.im_text.specs.Printing.{who_of}
+use Rattle.im_text.specs.Said.{who_of}
 use Rattle.im_serial.specs.declared.waits.Mark.{Mark}
 use Rattle.im_serial.specs.declared.waits.Mark.TheVariants.{Nobody, Earlier, Here}
 

@@ -7,7 +7,7 @@ ghost use Rattle.im_types.specs.declared.operations.Waiter.{Waiter};
 ghost use Rattle.im_types.specs.Contents.{Contents};
 ghost use Rattle.im_types.specs.Memory.{IsMemory};
 ghost use Rattle.im_types.specs.Run.{after};
-ghost use Rattle.im_text.specs.Printing.{who_of};
+ghost use Rattle.im_text.specs.Said.{who_of};
 ghost use Rattle.im_serial.specs.declared.waits.Mark.TheVariants.{Here};
 ghost use Rattle.im_serial.specs.Noted.{AreKnown, AreLast, IsLearnt, Learns, entered, noted_if, mark_place, noted_by};
 ghost use Rattle.im_serial.specs.Noted.{with_entry};

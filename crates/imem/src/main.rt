@@ -12,6 +12,7 @@ use crate::openings::{Clocked, Openings};
 use crate::working::{Surroundings, work_on};
 use im_disk::{Disk, FileDisk, Start};
 use im_program::{Descriptors, Terminals, WordFault, read_words, refuse};
+use im_text::Style;
 use im_types::Refusal;
 use std::alloc::{AllocError, Global};
 use std::env::{self, Env};
@@ -69,7 +70,7 @@ fn run<
     match read_words(place.rt.alloc(), words) {
         Ok(line) => work_on(place, &line, out, input, openings.starts(line.wait)),
         Err(WordFault::NoMemory) => {
-            let status = refuse(place.rt.alloc(), Refusal::NoMemory, &mut out);
+            let status = refuse(place.rt.alloc(), Style::Text, Refusal::NoMemory, &mut out);
             (status, out, None, None)
         }
         Err(WordFault::Bad(error)) => {
@@ -126,7 +127,7 @@ fn start<
             (ExitCode::from(status), out, disk, old)
         }
         Err(_) => {
-            let status = refuse(place.rt.alloc(), Refusal::NoMemory, &mut out);
+            let status = refuse(place.rt.alloc(), Style::Text, Refusal::NoMemory, &mut out);
             (ExitCode::from(status), out, None, None)
         }
     }
@@ -146,7 +147,7 @@ fn no_words<R: AllocGlobal + Eprint, W: Write>(rt: &R, error: &io::Error, out: &
     ensures { (exit_status result ≡ 1) ⊎ (exit_status result ≡ 2) }
 {
     if error.kind() == io::ErrorKind::OutOfMemory {
-        return ExitCode::from(refuse(rt.alloc(), Refusal::NoMemory, out));
+        return ExitCode::from(refuse(rt.alloc(), Style::Text, Refusal::NoMemory, out));
     }
     let _printed = rt.eprintln("error: each word of the command line has to be UTF-8 text");
     ExitCode::from(2)

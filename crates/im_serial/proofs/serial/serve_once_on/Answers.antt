@@ -2,7 +2,7 @@ use Rattle.std.proofs.Common.{◌∙◌, ap, length, subst, sym}
 use Rattle.im_engine.specs.State.{EngineState}
 use Rattle.im_session.specs.Kept.{SessionStart, SessionState}
 use Rattle.im_text.specs.declared.lines.Lines.{Lines}
-use Rattle.im_text.specs.Printing.{PrintsMore, PrintsNows, nows}
+use Rattle.im_text.specs.Said.{PrintsMore, PrintsNows, nows, output}
 use Rattle.im_text.proofs.PrintingLemmas.{on_ok_by}
 use Rattle.im_serial.specs.Asked.{wanted_of}
 use Rattle.im_serial.specs.Once.{DoneOnce, EndedOnce, ServedOnce}
@@ -13,7 +13,7 @@ use Rattle.im_serial.proofs.serial.serve_once_on.Goals as goal
 
 pub returns-clause-served : goal.returns-clause-served
 returns-clause-served g c =
-    let held = g.W.Write.contents c.args.out.now in
+    let held = output c.args.server.lines.style (g.W.Write.contents c.args.out.now) in
     let script = wanted_of c.args.script.now in
     let start = c.args.server.session.start in
     let s = c.serve_once-served in
@@ -35,7 +35,7 @@ returns-clause-served g c =
     subst (λ (x : SessionStart g.row.D.Denot). ServedOnce g.D.Disk c.args.script.now x.disk c.close.result held is
     c.status_at.result) begun
     (closed_once g.D.Disk c.args.script.now t c.close.result c.status_at.result from mid is held l.new.self.lines
-    v.result.1.lines c.finish-status.new.lines w l.new.self.waited.items marks c.close.ensures.kept
+    v.result.1 c.finish-status.new.lines w l.new.self.waited.items marks c.close.ensures.kept
     c.close.ensures.state (λ zero. failed ∙ c.status_at.ensures.works zero)
     (subst (λ (x : SessionStart g.row.D.Denot). EndedOnce x script held (server_of t from l.new.self.lines w marks))
     (sym begun) ended)

@@ -1,4 +1,4 @@
-use Rattle.im_text.specs.Printing.{PrintsMore, nows}
+use Rattle.im_text.specs.Said.{PrintsMore, nows}
 use Rattle.im_serial.proofs.server.print_nows.Given as goal
 
 abbrev pub invariant-loop-at : goal.invariant-loop-at

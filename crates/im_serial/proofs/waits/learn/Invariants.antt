@@ -1,6 +1,6 @@
 use Rattle.std.proofs.Common.{◌≡◌}
 use Rattle.std.specs.Prelude.{map}
-use Rattle.im_text.specs.Printing.{who_of}
+use Rattle.im_text.specs.Said.{who_of}
 use Rattle.im_serial.specs.Noted.{Learns}
 use Rattle.im_serial.proofs.waits.learn.Given as goal
 

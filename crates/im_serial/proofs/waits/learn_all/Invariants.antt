@@ -3,7 +3,7 @@ use Rattle.std.specs.Prelude.{map}
 use Rattle.im_types.specs.declared.commands.Command.{Command}
 use Rattle.im_types.specs.Contents.{Contents}
 use Rattle.im_types.specs.Run.{after}
-use Rattle.im_text.specs.Printing.{who_of}
+use Rattle.im_text.specs.Said.{who_of}
 use Rattle.im_serial.specs.Noted.{AreKnown, IsLearnt}
 use Rattle.im_serial.proofs.waits.learn_all.Given as goal
 

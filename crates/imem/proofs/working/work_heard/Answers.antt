@@ -10,16 +10,16 @@ returns-clause-ended g c = subst
     (λ (known : Option (List ℕ)). EndedOn g.S.Start g.T.Start
     (ghosts g.row.S g.S.Start g.S.Start-dict g.S.Destruct-dict)
     (ghosts g.row.T g.T.Start g.T.Start-dict g.T.Destruct-dict) c.args.line.now known (g.W.Write.contents c.args.out)
-    (g.W.Write.contents c.act_told-status.result.1) c.status_for-ends.result c.act_told-status.result.2
-    c.act_told-status.result.3)
+    (g.W.Write.contents c.act-status.new.out) c.status_for-ends.result c.act-status.result.1
+    c.act-status.result.2)
     (heard_as g.I.Read.remaining c.in-Ok.input c.new-prompter.result c.args.heard c.in-Ok.ensures.inner
     c.in-Ok.ensures.empty c.in-Ok.ensures.capacity c.new-prompter.ensures)
     (record {
-      status = c.act_told-status.result.0;
+      status = c.act-status.result.0;
       ends = record {
         same = c.status_for-ends.ensures.same;
         few = c.status_for-ends.ensures.few;
         range = c.status_for-ends.ensures.range;
       };
-      told = c.act_told-status.ensures.told;
+      done = c.act-status.ensures.done;
     })

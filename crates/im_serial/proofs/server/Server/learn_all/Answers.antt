@@ -1,5 +1,5 @@
 use Rattle.std.proofs.Common.{◌∙◌, ap, length, map, subst, sym}
-use Rattle.im_text.specs.Printing.{who_of}
+use Rattle.im_text.specs.Said.{who_of}
 use Rattle.im_serial.specs.Noted.{AreKnown, AreLast}
 use Rattle.im_serial.proofs.NotedLemmas.{written_back}
 use Rattle.im_serial.proofs.server.Server.learn_all.Goals as goal

@@ -1,6 +1,6 @@
 use Rattle.std.proofs.Common.{◌∷◌, subst, sym}
 use Rattle.im_text.specs.declared.lines.Lines.{Lines}
-use Rattle.im_text.specs.Printing.{Prints}
+use Rattle.im_text.specs.Said.{Prints}
 use Rattle.im_serial.specs.Asked.{standing}
 use Rattle.im_serial.proofs.ScriptedLemmas.{asked_then, prepared_goes}
 use Rattle.im_serial.proofs.server.Server.request.Goals as goal
