@@ -25,6 +25,7 @@ use Rattle.im_program.specs.Sources.{IsTextOf, bytes_at}
 use Rattle.im_migration.specs.declared.asked.Asked.{Asked}
 use Rattle.im_words.specs.declared.words.Formatting.{Formatting}
 use Rattle.im_words.specs.declared.words.ScriptRun.{ScriptRun}
+use Rattle.im_words.specs.declared.words.Serving.{Serving}
 use Rattle.im_words.specs.declared.words.Talking.{Talking}
 use Rattle.im_words.specs.declared.words.Work.{Work}
 use Rattle.im_words.specs.declared.words.Work.TheVariants.{Demonstration, Format, Serial, Run, Serve, Inspect, Dump}
@@ -76,10 +77,10 @@ pub record ScriptRan {D : Type 0} (d : DiskGhosts D) (planned once : Bool) (firs
   pub run : RunsWhen d once planned text old disk was is calls status
 
 -- a script was served on this disk, if it is honest
-abbrev pub WasScriptServed : {D : Type 0} → DiskGhosts D → Moment → Bool → List ℕ → Option (List ℕ) → Output
-    → Option (List ℕ) → ℕ → D → Type 0
-WasScriptServed d first once script input was is status disk =
-    d.honest disk → ScriptServed d once first (bytes_at script input) disk was is status
+abbrev pub WasScriptServed : {D : Type 0} → DiskGhosts D → Moment → Serving (Bor (List ℕ)) → Option (List ℕ)
+    → Option (List ℕ) → Option (List ℕ) → ℕ → D → Type 0
+WasScriptServed d first serving input was is status disk = d.honest disk → ScriptServed d serving.once first
+    (bytes_at serving.script.now input) disk (output serving.style was) is status
 
 -- this text was served on this disk, if it is honest
 abbrev pub WasTextServed : {D : Type 0} → DiskGhosts D → Moment → Bool → List ℕ → Output → Option (List ℕ) → ℕ → D
@@ -135,8 +136,8 @@ module _ {S T : Type 0} (start : Ghosts S) (other : Ghosts T) (d : DiskGhosts (F
       → Option (FileDisk T other) → Type 0
   DoneOn input Demonstration was is status disk old = ⊥
   DoneOn input (Format it) was is status disk old = WasFormatted d it.cells it.elements it.slots status disk
-  DoneOn input (Serial it) was is status disk old =
-      WasScriptServed d start.first it.once it.script input (output it.style was) is status disk
+  DoneOn input (Serial it) was is status disk old = d.honest disk → ScriptServed d it.once start.first
+      (bytes_at it.script input) disk (output it.style was) is status
   DoneOn input (Run it) was is status disk old = d.honest disk → (calls : TraceState)
       × ScriptRan d it.planned it.once start.first (bytes_at it.script input) disk (output it.style was) is calls
       status

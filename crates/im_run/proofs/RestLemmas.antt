@@ -9,7 +9,7 @@ use Rattle.im_session.specs.Kept.{IsFresh, Kept, SessionStart, SessionState, ses
 use Rattle.im_text.specs.declared.replies.Waited.{Waited}
 use Rattle.im_text.specs.declared.said.OutputLine.{OutputLine}
 use Rattle.im_text.specs.declared.said.Style.{Style}
-use Rattle.im_text.specs.Said.{IsLast, Output, Prints, SaysAll, SaysSome, output}
+use Rattle.im_text.specs.Said.{IsLast, Output, Prints, SaysWhole, SaysSome, output}
 use Rattle.im_text.proofs.SaidLemmas.{prints_none}
 use Rattle.im_serial.specs.Asked.{Wanted, wanted_of}
 use Rattle.im_serial.specs.Fitting.{FitsScript}
@@ -107,7 +107,7 @@ module _ {D : Type 0} (disk : Ghosts D) (script : List Wanted) (old mid : Script
       fit = subst (FitsScript found) same (subst (λ (m : Contents). FitsScript m script) found_is fit);
       made = subst (HasMade found) same (subst (λ (m : Contents). HasMade m script) found_is it.made);
       mid = mid.held;
-      shown = subst (λ (s : List Wanted). SaysAll (output_of old) mid.held (lines_had found (numbers_had found) s)) same
+      shown = subst (λ (s : List Wanted). SaysWhole (output_of old) mid.held (lines_had found (numbers_had found) s)) same
           (shown_written script bases known old mid it fit ready);
       run = subst (λ (t : SessionState D). RunWhen disk true planned text t.start new (output old.lines.style mid.held)
           is calls status) it.session
@@ -116,7 +116,8 @@ module _ {D : Type 0} (disk : Ghosts D) (script : List Wanted) (old mid : Script
     }
 
 -- the disk was honest at the start, if it is at the end
-pub ends_honest : {D : Type 0} (disk : Ghosts D) (once planned : Bool) (text : List ℕ) (start : SessionStart D) (new : D)
+pub ends_honest : {D : Type 0} (disk : Ghosts D) (once planned : Bool) (text : List ℕ) (start : SessionStart D) (new
+    : D)
     (was : Output) (is : Option (List ℕ)) (calls : TraceState) (status : ℕ)
     → EndsWhen disk once planned text start new was is calls status → disk.honest new → disk.honest start.disk
 ends_honest disk false planned text start new was is calls status it honest =

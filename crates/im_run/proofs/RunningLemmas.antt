@@ -20,7 +20,7 @@ use Rattle.im_controller.specs.State.{OpeningState}
 use Rattle.im_text.specs.declared.lines.Lines.{Lines}
 use Rattle.im_text.specs.declared.replies.Waited.{Waited}
 use Rattle.im_text.specs.declared.said.OutputLine.{OutputLine}
-use Rattle.im_text.specs.Said.{IsLast, Output, Prints, PrintsMore, SaysAll, SaysSome, replies}
+use Rattle.im_text.specs.Said.{IsLast, Output, Prints, PrintsMore, SaysWhole, SaysSome, replies}
 use Rattle.im_text.proofs.SaidLemmas.{prints_begins}
 use Rattle.im_text.proofs.TextLemmas.{written_none}
 use Rattle.im_serial.specs.Asked.{Course, Standing, Wanted}
@@ -117,7 +117,7 @@ pub closed_by : (was mid is : Option (List ℕ)) (before after final : Lines) (m
     → (status ≡ 0 → PrintsMore was before mid after (finals m did (length did)))
     → ((start : Output) (text : List OutputLine) → Prints start mid after text
     → (last : List OutputLine) × (IsLast last × Prints start is final (text ++ last)))
-    → (status ≡ 0 → (start : Output) (text : List OutputLine) → Prints start mid after text → SaysAll start is text)
+    → (status ≡ 0 → (start : Output) (text : List OutputLine) → Prints start mid after text → SaysWhole start is text)
     → Closes was before is m did status
 closed_by was mid is before after final m did status some all last whole = λ start text it.
     let end = last start (text ++ finals m did some.0) (some.2 start text it) in (
@@ -132,7 +132,8 @@ closed_by was mid is before after final m did status some all last whole = λ st
     )
 
 -- nothing was done, so that it is told of any memory
-none_done : (start : Output) (is : Option (List ℕ)) (text : List OutputLine) (m n : Contents) (did : List Did) → did ≡ []
+none_done : (start : Output) (is : Option (List ℕ)) (text : List OutputLine) (m n : Contents) (did : List Did)
+    → did ≡ []
     → BeginsFinals start is text m did → BeginsFinals start is text n did
 none_done start is text m n did none begins =
     let few : begins.0 ≤ 0 = subst (λ (l : List Did). begins.0 ≤ length l) none begins.1.0 in (
@@ -263,8 +264,9 @@ module _ {D : Type 0} (disk : Ghosts D) (once planned : Bool) (script : List ℕ
           begins = subst (λ (x : Contents). BeginsFinals was is (replies m setup) x ended.did) last
               (subst (λ (l : List OutputLine). BeginsFinals was is l ended.engine.memory ended.did) it.lines closes.0);
           whole = λ zero. subst
-              (λ (x : Contents). SaysAll was is (replies m setup ++ finals x ended.did (length ended.did))) last
-              (subst (λ (l : List OutputLine). SaysAll was is (l ++ finals ended.engine.memory ended.did (length ended.did)))
+              (λ (x : Contents). SaysWhole was is (replies m setup ++ finals x ended.did (length ended.did))) last
+              (subst (λ (l : List OutputLine). SaysWhole was is (l ++ finals ended.engine.memory ended.did (length
+              ended.did)))
               it.lines (closes.1 zero));
         };
         tells = inl (record {

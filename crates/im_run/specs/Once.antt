@@ -10,7 +10,7 @@ use Rattle.im_plans.specs.Runs.{HasServed}
 use Rattle.im_session.specs.Kept.{Kept, SessionStart, session_of}
 use Rattle.im_script.specs.declared.script.Heard.{Heard}
 use Rattle.im_text.specs.declared.said.OutputLine.{OutputLine}
-use Rattle.im_text.specs.Said.{IsLast, Output, SaysAll, SaysSome, output}
+use Rattle.im_text.specs.Said.{IsLast, Output, SaysWhole, SaysSome, output}
 use Rattle.im_serial.specs.Asked.{Wanted, wanted_of}
 use Rattle.im_serial.specs.Fitting.{FitsScript}
 use Rattle.im_serial.specs.Had.{numbers_had}
@@ -61,7 +61,7 @@ pub record RanRest {D : Type 0} (disk : Ghosts D) (planned : Bool) (text : List 
   pub fit : FitsScript start.memory (wanted_of text)
   pub made : HasMade start.memory (wanted_of text)
   pub mid : Option (List ℕ)
-  pub shown : SaysAll was mid (lines_had start.memory (numbers_had start.memory) (wanted_of text))
+  pub shown : SaysWhole was mid (lines_had start.memory (numbers_had start.memory) (wanted_of text))
   pub run : RunOn disk (rest_of start.memory text) (ServesRest planned start.memory text calls.served (status ≡ 0))
       start new (output was.style mid) is calls status
 

@@ -23,7 +23,7 @@ use Rattle.im_text.specs.declared.reasons.Reason.TheVariants.{Image, Request}
 use Rattle.im_text.specs.declared.replies.Waited.{Waited}
 use Rattle.im_text.specs.declared.said.OutputLine.{OutputLine}
 use Rattle.im_text.specs.declared.said.OutputLine.TheVariants.{Glance}
-use Rattle.im_text.specs.Said.{IsLast, Output, Prints, PrintsMore, SaysAll, SaysSome, replied, replies}
+use Rattle.im_text.specs.Said.{IsLast, Output, Prints, PrintsMore, SaysWhole, SaysSome, replied, replies}
 use Rattle.im_text.specs.Texts.{texts_below}
 use Rattle.im_run.specs.Alone.{AreCallsOf}
 use Rattle.im_run.specs.declared.sheet.Order.{Order}
@@ -84,7 +84,7 @@ BeginsFinals start is text m did =
 -- took them. If the status is 0, the lines of all of these are.
 abbrev pub Closes : Option (List ℕ) → Lines → Option (List ℕ) → Contents → List Did → ℕ → Type 0
 Closes was before is m did status = (start : Output) (text : List OutputLine) → Prints start was before text
-    → BeginsFinals start is text m did × (status ≡ 0 → SaysAll start is (text ++ finals m did (length did)))
+    → BeginsFinals start is text m did × (status ≡ 0 → SaysWhole start is (text ++ finals m did (length did)))
 
 -- Servers of these orders began with a session, and this is its engine now, with this trace: the session has put the
 -- trace's accepted commands. This was done. It is all that the orders ask for if nothing was refused; and each request
@@ -125,7 +125,7 @@ pub record Says (start : Contents) (setup put : List Command) (was : Output) (is
   pub split : setup ≡ said ++ others
   pub did : List Did
   pub begins : BeginsFinals was is (replies start said) (after start put) did
-  pub whole : status ≡ 0 → SaysAll was is (replies start setup ++ finals (after start put) did (length did))
+  pub whole : status ≡ 0 → SaysWhole was is (replies start setup ++ finals (after start put) did (length did))
 
 -- The setup of a script was ended, at some block, which may be in doubt: nothing was put behind it, nothing is told of
 -- the script, and the status is not 0.

@@ -84,7 +84,8 @@ module _ {D : Type 0} (disk : Ghosts D) (limits : Limits) (text : List ℕ) (s :
     done = λ zero. done_on (works zero) zero;
   }
 
-module _ {D : Type 0} (disk : Ghosts D) (limits : Limits) (text : List ℕ) (old new : D) (was : Output) (is : Option (List ℕ))
+module _ {D : Type 0} (disk : Ghosts D) (limits : Limits) (text : List ℕ) (old new : D) (was : Output) (is : Option
+    (List ℕ))
     (status : ℕ) (before : LeavesNow (disk.now old) (MeansBegun limits (wanted_of text))) (h : disk.honest new) where
   pub keeps_on : SerialOnceOn disk text old new was is status
       → KeepsBegun disk.now disk.past limits (wanted_of text) old new status

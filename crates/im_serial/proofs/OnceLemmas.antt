@@ -24,7 +24,8 @@ use Rattle.im_laws.proofs.WindowLemmas.{kept_for-window}
 use Rattle.im_text.specs.declared.lines.Lines.{Lines}
 use Rattle.im_text.specs.declared.replies.Waited.{Waited}
 use Rattle.im_text.specs.declared.said.OutputLine.{OutputLine}
-use Rattle.im_text.specs.Said.{IsLast, Output, Prints, PrintsMore, PrintsNows, PrintsOn, SaysAll, SaysSome, nows, output}
+use Rattle.im_text.specs.Said.{IsLast, Output, Prints, PrintsMore, PrintsNows, PrintsOn, SaysWhole, SaysSome, nows}
+use Rattle.im_text.specs.Said.{output}
 use Rattle.im_text.specs.Said.{replies, waits, waits_if, who_of}
 use Rattle.im_text.proofs.PrintingLemmas.{true_false}
 use Rattle.im_text.proofs.SaidLemmas.{prints_after, prints_all, prints_begins, prints_none}
@@ -241,7 +242,8 @@ module _ (m : Contents) (script rest : List Wanted) (many : List ℕ) (w : Wante
 
 -- it was ended there
 pub met_broken : (m : Contents) (script : List Wanted) (many : List ℕ) (left : List Wanted)
-    (text : List OutputLine) (waited : List Waited) (marks : List Mark) → HasMet m script many left text waited marks → HasBroken m script text waited
+    (text : List OutputLine) (waited : List Waited) (marks : List Mark)
+    → HasMet m script many left text waited marks → HasBroken m script text waited
 met_broken m script many left text waited marks it = record {
   lines = (lines_had m many left, it.lines);
   names = (waits_had m many left, it.names);
@@ -690,7 +692,8 @@ module _ {D : Type 0} where
     }
 
     unbegun : Prints (output_of old) new.held new.lines text
-        → FitsScript m script ⊎ ((text ≡ []) × (new.waited ≡ [])) → EndedOnce old.session.start script (output_of old) new
+        → FitsScript m script ⊎ ((text ≡ []) × (new.waited ≡ []))
+        → EndedOnce old.session.start script (output_of old) new
     unbegun printed fit = record {
       course = course_met;
       had = text;
@@ -786,8 +789,8 @@ module _ {D : Type 0} where
     shown_text ready = sym ((met_there ready).lines ∙ append-nil (shown_at ready).0)
 
     pub shown_written : HasServedNothing old bases
-        → SaysAll (output_of old) mid.held (lines_had found (numbers_had found) script)
-    shown_written ready = subst (SaysAll (output_of old) mid.held) (shown_text ready) (prints_all (output_of old)
+        → SaysWhole (output_of old) mid.held (lines_had found (numbers_had found) script)
+    shown_written ready = subst (SaysWhole (output_of old) mid.held) (shown_text ready) (prints_all (output_of old)
         mid.held mid.lines (shown_at ready).0 it.works it.pending (shown_at ready).1.1)
 
     -- what its writer held then
@@ -801,7 +804,8 @@ module _ {D : Type 0} where
         let names : known ≡ course.first = it.names ∙ ap (λ (l : List ℕ). l ++ bases_had (numbers_had
         old.session.engine.memory) 0 script) ready.bases_is
         ∙ ap (λ (x : Contents). bases_had (numbers_had x) 0 script) (found_is ready) in
-        subst (λ (b : List ℕ). GoingAt old.session.start shown_from (standing (Some course) b (course.wanted ++ [])) mid)
+        subst (λ (b : List ℕ). GoingAt old.session.start shown_from (standing (Some course) b (course.wanted ++ []))
+        mid)
         (sym names)
         (subst (λ (t : SessionState D). GoingAt old.session.start shown_from (standing (Some course) course.first
         (course.wanted ++ [])) (server_of t mid.held mid.lines mid.waited mid.marks)) (sym it.session)
@@ -834,7 +838,8 @@ module _ {D : Type 0} where
             text = ends.text;
             over = ends.over;
             once = record { made = inl (made_there ready); fit = inl (fits_start script old bases ready fit) };
-            printed = prints_after (output_of old) mid.held new.held new.lines _ ends.text (shown_written ready) ends.printed;
+            printed = prints_after (output_of old) mid.held new.held new.lines _ ends.text (shown_written ready)
+                ends.printed;
           },
           by_result r served_now.serves ready going,
         )
@@ -850,7 +855,8 @@ module _ {D : Type 0} where
               bases = last;
               text = done.text;
               serving = done.serving;
-              printed = prints_after (output_of old) mid.held new.held new.lines _ done.text (shown_written ready) done.printed;
+              printed = prints_after (output_of old) mid.held new.held new.lines _ done.text (shown_written ready)
+                  done.printed;
             }
         by_result (Err e) serves ready going = tt
 
@@ -870,7 +876,7 @@ module _ {D : Type 0} where
       (last : (from : Output) (text : List OutputLine) → Prints from mid later text
       → (last : List OutputLine) × (IsLast last × Prints from is final (text ++ last)))
       (whole : status ≡ 0 → (from : Output) (text : List OutputLine) → Prints from mid later text
-      → SaysAll from is text) where
+      → SaysWhole from is text) where
     abbrev origin : Contents
     origin = t.start.memory
 
@@ -906,7 +912,7 @@ module _ {D : Type 0} where
         → IsPrefix c.earlier early → FitsScript origin wanted ⊎ ((had ≡ []) × (waited ≡ []))
         → Prints was held before (had ++ text)
         → (status ≡ 0 → (had ≡ lines) × (map who_of waited ≡ early ++ waits origin t.put)
-        × SaysAll was is (had ++ replies origin t.put ++ nows waited (length waited)))
+        × SaysWhole was is (had ++ replies origin t.put ++ nows waited (length waited)))
         → ToldOnce origin wanted t.put was is status
     told_once c text had over had_is earlier_is fit prints all_of =
         let end = last was ((had ++ text) ++ nows waited some.0) (some.2 was (had ++ text) prints) in record {
@@ -924,7 +930,8 @@ module _ {D : Type 0} where
           many = some.0;
           last = end.0;
           last_is = end.1.0;
-          begins = subst (λ (l : List OutputLine). SaysSome was is (((had ++ l) ++ nows waited some.0) ++ end.0)) over.lines
+          begins = subst (λ (l : List OutputLine). SaysSome was is (((had ++ l) ++ nows waited some.0) ++ end.0))
+              over.lines
               (prints_begins was is final (((had ++ text) ++ nows waited some.0) ++ end.0) end.1.1);
           whole = all_of;
         }
@@ -941,7 +948,8 @@ module _ {D : Type 0} where
         (inl g.fit) g.printed (λ z. (
           refl,
           same ∙ g.serving.names,
-          subst (λ (l : List OutputLine). SaysAll was is ((lines ++ l) ++ nows waited (length waited))) g.serving.lines full,
+          subst (λ (l : List OutputLine). SaysWhole was is ((lines ++ l) ++ nows waited (length waited)))
+              g.serving.lines full,
         )))
     by_status (suc n) more =
         let c = ended.course in

@@ -35,7 +35,8 @@ use Rattle.im_script.specs.Script.{Draft, lines_of}
 use Rattle.im_text.specs.declared.lines.Lines.{Lines}
 use Rattle.im_text.specs.declared.replies.Waited.{Waited}
 use Rattle.im_text.specs.declared.said.OutputLine.{OutputLine}
-use Rattle.im_text.specs.Said.{IsLast, Output, Prints, PrintsMore, PrintsNows, PrintsOn, SaysAll, SaysSome, nows, replied}
+use Rattle.im_text.specs.Said.{IsLast, Output, Prints, PrintsMore, PrintsNows, PrintsOn, SaysWhole, SaysSome, nows}
+use Rattle.im_text.specs.Said.{replied}
 use Rattle.im_text.specs.Said.{replies, reply_line, waits, waits_by, waits_if, who_of}
 use Rattle.im_text.proofs.PrintingLemmas.{take-all, take-prefix, true_false}
 use Rattle.im_text.proofs.SaidLemmas.{prints_begins, prints_none, replies_more, waits_more}
@@ -129,7 +130,8 @@ record Doubted {D : Type 0} (start : SessionStart D) (t : SessionState D) (scrip
 
 module _ {D : Type 0} (start : SessionStart D) where
   -- what is known, by other words for what was put
-  serving_with : (t : SessionState D) (s : Standing) (text : List OutputLine) (n : Notes) (put : List Command) → t.put ≡ put
+  serving_with : (t : SessionState D) (s : Standing) (text : List OutputLine) (n : Notes) (put : List Command)
+      → t.put ≡ put
       → t.start ≡ start → t.engine.failed ≡ false → t.doubt ≡ [] → t.engine.memory ≡ after start.memory put
       → text ≡ replies start.memory put → AreWaited s.script n.waited (waits start.memory put)
       → HasReached start.memory s put → HasNamed start.memory s put
@@ -148,7 +150,8 @@ module _ {D : Type 0} (start : SessionStart D) where
 
   -- nothing was put
   pub rests_serving : (old new : SessionState D) → Rests old new → new.engine.failed ≡ old.engine.failed
-      → (s : Standing) (text : List OutputLine) (n : Notes) → IsServing start old s text n → IsServing start new s text n
+      → (s : Standing) (text : List OutputLine) (n : Notes) → IsServing start old s text n
+      → IsServing start new s text n
   rests_serving old new rests works s text n was = serving_with new s text n old.put
       (ap (λ (t : SessionState D). t.put) rests.same) (ap (λ (t : SessionState D). t.start) rests.same ∙ was.start_is)
       (works ∙ was.works) (ap (λ (t : SessionState D). t.doubt) rests.same ∙ was.sure) (rests.memory ∙ was.memory)
@@ -232,7 +235,8 @@ module _ {D : Type 0} (start : SessionStart D) where
 
   -- a confirmation is served: the entries that were learnt are dropped
   module _ (old new : SessionState D) (element upto : ℕ) (o : Outcome)
-      (it : CommandServed old (Confirm element upto) o new) (s : Standing) (text : List OutputLine) (waited : List Waited)
+      (it : CommandServed old (Confirm element upto) o new) (s : Standing) (text : List OutputLine) (waited : List
+      Waited)
       (marks : List Mark) (was : IsServing start old s text (learnt waited marks element upto)) where
     abbrev confirm : Command
     confirm = Confirm element upto
@@ -453,7 +457,8 @@ module _ {D : Type 0} (start : SessionStart D) where
             (λ rec. noted_known start.memory (old.put ++ c ∷ []) 0 0 marked noted rec.noted) recorded)
 
   -- what is known when it has ended stays so behind a call that puts nothing
-  over_rests : (old new : SessionState D) → Rests old new → (script : Option Course) (text : List OutputLine) (waited : List
+  over_rests : (old new : SessionState D) → Rests old new → (script : Option Course) (text : List OutputLine) (waited
+      : List
       Waited) → IsOver start old script text waited → IsOver start new script text waited
   over_rests old new rests script text waited was =
       let put_is : new.put ≡ old.put = ap (λ (t : SessionState D). t.put) rests.same in
@@ -478,7 +483,8 @@ module _ {D : Type 0} (start : SessionStart D) where
 -- room is made in the journal, behind a place in the window
 pub room_then : {D T E : Type 0} (r : Result T E) (old mid new : SessionState D) (waited learned : List Waited)
     (marks later : List Mark)
-    → ((start : SessionStart D) (s : Standing) (text : List OutputLine) → IsServing start old s text (notes waited marks)
+    → ((start : SessionStart D) (s : Standing) (text : List OutputLine)
+    → IsServing start old s text (notes waited marks)
     → IsServing start mid s text (notes learned later)) → Rests mid new
     → OnOk r (new.engine.failed ≡ mid.engine.failed) → MakesPlace r old waited marks new learned later
 room_then (Ok x) old mid new waited learned marks later first rests works = λ start s text was.
@@ -490,7 +496,8 @@ room_then (Err e) old mid new waited learned marks later first rests works = λ 
 -- entries are learnt, and then dropped
 pub drops_then : {D T E : Type 0} (r : Result T E) (element upto : ℕ) (old new : SessionState D)
     (waited learned : List Waited) (marks later : List Mark)
-    → ((start : SessionStart D) (s : Standing) (text : List OutputLine) → IsServing start old s text (notes waited marks)
+    → ((start : SessionStart D) (s : Standing) (text : List OutputLine)
+    → IsServing start old s text (notes waited marks)
     → IsServing start old s text (learnt learned later element upto))
     → OnOk r ((o : Outcome) × CommandServed old (Confirm element upto) o new)
     → OnErr r (CommandRefused old (Confirm element upto) new) → MakesPlace r old waited marks new learned later
@@ -626,7 +633,8 @@ module _ {D : Type 0} where
   -- a place is made for a request, and nothing is printed
   pub prepared_goes : (old new : SessionState D) (waited learned : List Waited) (marks later : List Mark) (held : Option
       (List ℕ)) (before last : Lines)
-      → ((start : SessionStart D) (s : Standing) (text : List OutputLine) → IsServing start old s text (notes waited marks)
+      → ((start : SessionStart D) (s : Standing) (text : List OutputLine)
+      → IsServing start old s text (notes waited marks)
       → IsServing start new s text (notes learned later)) → last ≡ before
       → (wanted : List Wanted) (bases : List ℕ) → Passes wanted bases wanted bases (server_of old held before waited
       marks) (server_of new held last learned later)
@@ -778,7 +786,8 @@ module _ {D : Type 0} where
       (as_of (λ (t : SessionState D) (l : Lines). GoingAt session.start held (standing (Some (whole_course script)) []
       (script ++ [])) (server_of t held.held l waited marks)) session same before lines sessions line
       (subst (λ (l : List Waited). GoingAt session.start held (standing (Some (whole_course script)) [] (script ++ []))
-      (server_of session held.held before l marks)) (sym none) (going_from (whole_course script) session held before [] marks
+      (server_of session held.held before l marks)) (sym none) (going_from (whole_course script) session held before
+      [] marks
       fresh works (record { memory = memory_at; noted = λ at w is. absurd (no_item w is) }) refl styled pending)))
     where
       no_item : (w : Waited) → ◌≡◌ {A = Option Waited} None (Some w) → ⊥
@@ -799,7 +808,7 @@ module _ {D : Type 0} where
       → IsOver start t (Some (whole_course script)) text noted → map who_of waited ≡ map who_of noted
       → AreLast start.memory t.put waited → IsLast last → SaysSome was is ((text ++ nows waited many) ++ last)
       → (status ≡ 0 → (map who_of waited ≡ waits start.memory t.put)
-      × SaysAll was is (replies start.memory t.put ++ nows waited (length waited)))
+      × SaysWhole was is (replies start.memory t.put ++ nows waited (length waited)))
       → Told start.memory t.put was is status
   told_by start t script text noted waited status was is many last it same entries last_is begins whole = record {
     told = it.told;
@@ -828,14 +837,15 @@ module _ {D : Type 0} where
       → (status ≡ 0 → PrintsMore held before mid later (nows waited (length waited)))
       → ((from : Output) (text : List OutputLine) → Prints from mid later text
       → (last : List OutputLine) × (IsLast last × Prints from is final (text ++ last)))
-      → (status ≡ 0 → (from : Output) (text : List OutputLine) → Prints from mid later text → SaysAll from is text)
+      → (status ≡ 0 → (from : Output) (text : List OutputLine) → Prints from mid later text → SaysWhole from is text)
       → ServedScript disk script t.start.disk end was is status
   closed disk script bases t end status held mid is was before later final noted waited marks kept at_end works ended
       going same learn some all last whole = by_status status refl
     where
       printed : (text : List OutputLine) → IsOver t.start t (Some (whole_course (wanted_of script))) text noted
           → Prints was held before text → (status ≡ 0 → (map who_of waited ≡ waits t.start.memory t.put)
-          × SaysAll was is (replies t.start.memory t.put ++ nows waited (length waited))) → Told t.start.memory t.put was is status
+          × SaysWhole was is (replies t.start.memory t.put ++ nows waited (length waited)))
+          → Told t.start.memory t.put was is status
       printed text over prints all_of =
           let end = last was (text ++ nows waited some.0) (some.2 was text prints) in
           told_by t.start t (wanted_of script) text noted waited status was is some.0 end.0 over same
@@ -861,7 +871,7 @@ module _ {D : Type 0} where
             works = works;
             printed = printed g.text (over_here t.start t s g.text (notes noted marks) it) g.printed (λ z. (
               same ∙ it.names,
-              subst (λ (l : List OutputLine). SaysAll was is (l ++ nows waited (length waited))) it.lines
+              subst (λ (l : List OutputLine). SaysWhole was is (l ++ nows waited (length waited))) it.lines
                   (whole none was (g.text ++ nows waited (length waited)) (all none was g.text g.printed)),
             ));
           }

@@ -18,7 +18,7 @@ use Rattle.im_text.specs.declared.replies.Waited.{Waited}
 use Rattle.im_text.specs.declared.lines.Lines.{Lines}
 use Rattle.im_text.specs.declared.said.OutputLine.{OutputLine}
 use Rattle.im_text.specs.declared.said.OutputLine.TheVariants.{Done as IsDone}
-use Rattle.im_text.specs.Said.{IsLast, Output, Prints, PrintsMore, PrintsOn, SaysAll, SaysSome, nows, replied, replies}
+use Rattle.im_text.specs.Said.{IsLast, Output, Prints, PrintsMore, PrintsOn, SaysWhole, SaysSome, nows, replied, replies}
 use Rattle.im_text.specs.Said.{waits, waits_if, who_of}
 use Rattle.im_serial.specs.Asked.{Course, IsAsked, Wanted, standing, wanted_of}
 use Rattle.im_serial.specs.declared.meeting.Met.{Met}
@@ -279,7 +279,7 @@ pub record ToldOnce (m : Contents) (script : List Wanted) (put : List Command) (
   pub begins : SaysSome was is (had ++ replies m told ++ nows waited many ++ last)
   pub whole : status ≡ 0 → (had ≡ lines_had m (numbers_had m) script)
       × (map who_of waited ≡ waits_had m (numbers_had m) script ++ waits m put)
-      × SaysAll was is (had ++ replies m put ++ nows waited (length waited))
+      × SaysWhole was is (had ++ replies m put ++ nows waited (length waited))
 
 -- The image was opened, and a session with it put these commands: with those in doubt, at most one, they are those
 -- requests of this script that its memory didn't have, in their order, and confirmations; with status 0 all of those,

@@ -16,7 +16,7 @@ use Rattle.im_session.specs.Kept.{Kept, SessionStart, SessionState}
 use Rattle.im_text.specs.declared.lines.Lines.{Lines}
 use Rattle.im_text.specs.declared.replies.Waited.{Waited}
 use Rattle.im_text.specs.declared.said.OutputLine.{OutputLine}
-use Rattle.im_text.specs.Said.{IsLast, Output, Prints, SaysAll, SaysLast, SaysSome, nows, output}
+use Rattle.im_text.specs.Said.{IsLast, Output, Prints, SaysWhole, SaysLast, SaysSome, nows, output}
 use Rattle.im_text.specs.Said.{replies, waits, who_of}
 use Rattle.im_script.specs.Places.{action_op}
 use Rattle.im_serial.specs.declared.server.Server.{Server as Whole}
@@ -168,7 +168,7 @@ pub record Told (m : Contents) (put : List Command) (was : Output) (is : Option 
   pub last_is : IsLast last
   pub begins : SaysSome was is (replies m told ++ nows waited many ++ last)
   pub whole : status ≡ 0 → (map who_of waited ≡ waits m put)
-      × SaysAll was is (replies m put ++ nows waited (length waited))
+      × SaysWhole was is (replies m put ++ nows waited (length waited))
 
 -- The image was opened, and a session with it put these commands of a script. With those in doubt, at most one, they
 -- are the script's first requests, in their order, and confirmations; with status 0 all its requests, and no call of

@@ -1,5 +1,6 @@
 -- Lines on their way to a writer, and the lines of commands. (Own.)
-use Rattle.std.proofs.Common.{◌≡◌, ◌∙◌, inl, inr, ℕ, false, List, [], ◌∷◌, ◌++◌, refl, sym, ap, ap₂, subst, append_assoc}
+use Rattle.std.proofs.Common.{◌≡◌, ◌∙◌, inl, inr, ℕ, false, List, [], ◌∷◌, ◌++◌, refl, sym, ap, ap₂, subst}
+use Rattle.std.proofs.Common.{append_assoc}
 use Rattle.std.proofs.Common.{append-nil}
 use Rattle.std.specs.Prelude.{◌⊎◌, Option, MatchResult, Result, Ok, Err}
 use Rattle.std.proofs.KnownBytes.{Appends-nil}
@@ -14,13 +15,15 @@ use Rattle.im_text.specs.declared.said.OutputLine.{OutputLine}
 use Rattle.im_text.specs.declared.said.OutputLine.TheVariants.{Refused}
 use Rattle.im_text.specs.declared.said.Style.{Style}
 use Rattle.im_text.specs.Printing.{Batches, BatchesMore, BatchesOn, TakesText}
-use Rattle.im_text.specs.Said.{IsLast, Output, Prints, PrintsMore, PrintsOn, Pushes, SaysAll, SaysLast, SaysSome, reply_line}
+use Rattle.im_text.specs.Said.{IsLast, Output, Prints, PrintsMore, PrintsOn, Pushes, SaysWhole, SaysLast, SaysSome}
+use Rattle.im_text.specs.Said.{reply_line}
 use Rattle.im_text.specs.Said.{output, replies, said_all, said_in, waits_by, waits}
 use Rattle.im_text.proofs.PrintingLemmas.{batches_after, batches_all, batches_begin, batches_none}
 
 -- ---- what is said
 
-said_both : (style : Style) (some more : List OutputLine) → said_all style (some ++ more) ≡ said_all style some ++ said_all style more
+said_both : (style : Style) (some more : List OutputLine) → said_all style (some ++ more) ≡ said_all style some ++
+    said_all style more
 unfolding said_all
 said_both style [] more = refl
 said_both style (line ∷ some) more = ap (λ (l : List ℕ). said_in style line ++ l) (said_both style some more)
@@ -64,7 +67,7 @@ pushes (Err e) was is before after line text same made on = prints_on was is bef
 
 -- all of it is written
 pub prints_all : (from : Output) (is : Option (List ℕ)) (lines : Lines) (said : List OutputLine)
-    → lines.batch.broken ≡ false → lines.batch.pending.items ≡ [] → Prints from is lines said → SaysAll from is said
+    → lines.batch.broken ≡ false → lines.batch.pending.items ≡ [] → Prints from is lines said → SaysWhole from is said
 prints_all from is lines said works none it =
     batches_all from.held is lines.batch (said_all from.style said) works none it.printed
 
@@ -92,7 +95,7 @@ prints_same was lines from said it = subst (Prints from was lines) (sym (append-
 
 -- behind lines that were written
 pub prints_after : (was : Output) (mid is : Option (List ℕ)) (lines : Lines) (had said : List OutputLine)
-    → SaysAll was mid had → Prints (output was.style mid) is lines said → Prints was is lines (had ++ said)
+    → SaysWhole was mid had → Prints (output was.style mid) is lines said → Prints was is lines (had ++ said)
 prints_after was mid is lines had said first it = record {
   styled = it.styled;
   printed = subst (Batches was.held is lines.batch) (sym (said_both was.style had said))
@@ -102,8 +105,10 @@ prints_after was mid is lines had said first it = record {
 -- ---- lines of commands
 
 -- what each command prints, if a list prints all of it in order
-module _ {X : Type 0} (told : Contents → Command → List X) (all : Contents → List Command → List X) (none : (m : Contents) → all m [] ≡ [])
-    (first : (m : Contents) (c : Command) (put : List Command) → all m (c ∷ put) ≡ told m c ++ all (step m c).contents put) where
+module _ {X : Type 0} (told : Contents → Command → List X) (all : Contents → List Command
+    → List X) (none : (m : Contents) → all m [] ≡ [])
+    (first : (m : Contents) (c : Command) (put : List Command)
+    → all m (c ∷ put) ≡ told m c ++ all (step m c).contents put) where
   pub all-append : (m : Contents) (put more : List Command) → all m (put ++ more) ≡ all m put ++ all (after m put) more
   all-append m [] more = sym (ap (λ xs. xs ++ all m more) (none m))
   all-append m (c ∷ put) more =
@@ -112,17 +117,21 @@ module _ {X : Type 0} (told : Contents → Command → List X) (all : Contents �
       first m c (put ++ more) ∙ ap (λ xs. told m c ++ xs) (all-append (step m c).contents put more)
       ∙ sym (append_assoc (told m c) rest later) ∙ ap (λ xs. xs ++ later) (sym (first m c put))
 
-  pub one_more : (m : Contents) (put : List Command) (c : Command) (so_far last : List X) → so_far ≡ all m put → told (after m put) c ≡ last → so_far ++ last ≡ all m (put ++ c ∷ [])
+  pub one_more : (m : Contents) (put : List Command) (c : Command) (so_far last : List X) → so_far ≡ all m put
+      → told (after m put) c ≡ last → so_far ++ last ≡ all m (put ++ c ∷ [])
   one_more m put c so_far last is last_is =
-      ap₂ (λ xs ys. xs ++ ys) is (sym last_is ∙ sym (append-nil (told (after m put) c)) ∙ ap (λ xs. told (after m put) c ++ xs) (sym (none (step (after m put) c).contents)) ∙ sym (first (after m put) c []))
+      ap₂ (λ xs ys. xs ++ ys) is (sym last_is ∙ sym (append-nil (told (after m put) c)) ∙ ap (λ xs. told (after m
+      put) c ++ xs) (sym (none (step (after m put) c).contents)) ∙ sym (first (after m put) c []))
       ∙ sym (all-append m put (c ∷ []))
 
 -- one command more
-pub replies_more : (m : Contents) (put : List Command) (c : Command) (text line : List OutputLine) → text ≡ replies m put → reply_line c (step (after m put) c).answer ≡ line
+pub replies_more : (m : Contents) (put : List Command) (c : Command) (text line : List OutputLine)
+    → text ≡ replies m put → reply_line c (step (after m put) c).answer ≡ line
     → text ++ line ≡ replies m (put ++ c ∷ [])
 replies_more = one_more (λ m c. reply_line c (step m c).answer) replies (λ m. refl) (λ m c put. refl)
 
-pub waits_more : (m : Contents) (put : List Command) (c : Command) (names who : List Waiter) → names ≡ waits m put → waits_by c (step (after m put) c).answer ≡ who
+pub waits_more : (m : Contents) (put : List Command) (c : Command) (names who : List Waiter) → names ≡ waits m put
+    → waits_by c (step (after m put) c).answer ≡ who
     → names ++ who ≡ waits m (put ++ c ∷ [])
 waits_more = one_more (λ m c. waits_by c (step m c).answer) waits (λ m. refl) (λ m c put. refl)
 
@@ -140,6 +149,3 @@ last_printed from is lines said refusal (inr it) = (Refused refusal ∷ [], (inr
 pub said_last : (style : Style) (refusal : Refusal) (text : List ℕ) → text ≡ said_in style (Refused refusal)
     → text ≡ said_all style (Refused refusal ∷ [])
 said_last style refusal text made = made ∙ sym (said_one style (Refused refusal))
-
-pub said_none : (style : Style) → [] ≡ said_all style []
-said_none style = sym (said_nothing style)

@@ -208,8 +208,8 @@ abbrev pub SaysSome : Output → Option (List ℕ) → List OutputLine → Type 
 SaysSome from is said = Begins from.held is (said_all from.style said)
 
 -- all of it was written
-abbrev pub SaysAll : Output → Option (List ℕ) → List OutputLine → Type 0
-SaysAll from is said = Appends from.held is (said_all from.style said)
+abbrev pub SaysWhole : Output → Option (List ℕ) → List OutputLine → Type 0
+SaysWhole from is said = Appends from.held is (said_all from.style said)
 
 -- no more than the line of a refusal was said
 abbrev pub SaysLast : Output → Option (List ℕ) → Type 0

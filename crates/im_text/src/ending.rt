@@ -3,7 +3,7 @@
 ghost use Rattle.std.specs.Prelude.{◌≡◌, ◌≤◌, ◌++◌, ◌∷◌, [], List, IsOk, OnOk, OnErr};
 ghost use Rattle.std.specs.Io.KnownBytes.{Keeps};
 ghost use Rattle.im_text.specs.declared.said.OutputLine.{OutputLine};
-ghost use Rattle.im_text.specs.Said.{IsLast, MayPrint, Output, Prints, SaysAll, SaysLast, output};
+ghost use Rattle.im_text.specs.Said.{IsLast, MayPrint, Output, Prints, SaysWhole, SaysLast, output};
 
 use crate::batches::put_through;
 use crate::lines::Lines;
@@ -45,7 +45,7 @@ pub fn finish<W: Write, N: Observer<News>>(
 ) -> u8
     ensures status { result ≤ 1 }
     ensures whole { result ≡ 0 → IsOk done × ((from : Output) (said : List OutputLine)
-        → Prints from (W.contents out.old) lines.old said → SaysAll from (W.contents out.new) said) }
+        → Prints from (W.contents out.old) lines.old said → SaysWhole from (W.contents out.new) said) }
     ensures last { (from : Output) (said : List OutputLine) → Prints from (W.contents out.old) lines.old said
         → (last : List OutputLine) × (IsLast last × Prints from (W.contents out.new) lines.new (said ++ last)) }
 {
