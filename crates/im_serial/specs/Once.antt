@@ -18,8 +18,8 @@ use Rattle.im_text.specs.declared.replies.Waited.{Waited}
 use Rattle.im_text.specs.declared.lines.Lines.{Lines}
 use Rattle.im_text.specs.declared.said.OutputLine.{OutputLine}
 use Rattle.im_text.specs.declared.said.OutputLine.TheVariants.{Done as IsDone}
-use Rattle.im_text.specs.Said.{IsLast, Output, Prints, PrintsMore, PrintsOn, SaysWhole, SaysSome, nows, replied, replies}
-use Rattle.im_text.specs.Said.{waits, waits_if, who_of}
+use Rattle.im_text.specs.Said.{IsLast, Output, Prints, PrintsMore, PrintsOn, SaysSome, SaysWhole, nows, replied}
+use Rattle.im_text.specs.Said.{replies, waits, waits_if, who_of}
 use Rattle.im_serial.specs.Asked.{Course, IsAsked, Wanted, standing, wanted_of}
 use Rattle.im_serial.specs.declared.meeting.Met.{Met}
 use Rattle.im_serial.specs.declared.meeting.Met.TheVariants.{New, Done, Kept}

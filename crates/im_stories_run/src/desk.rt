@@ -6,7 +6,7 @@ use crate::heard::Hearing;
 use crate::scripts::script_of;
 use im_disk::Mode;
 use im_report::inspect_on;
-use im_run::{Assignment, RunContext, run_on, run_on_plan, run_once_on, write_trace};
+use im_run::{Assignment, RunContext, Trace, run_on, run_on_plan, run_once_on, write_trace};
 use im_script::read_script_with_glances;
 use im_serial::StyledScript;
 use im_serving::{EarlierAnswer, Gate, Host, Open};
@@ -171,11 +171,17 @@ impl<'a> RunDesk<'a> {
         self.noted.note_told(heard.lock(rt).as_slice());
         self.place.lay_down(disk);
         if how.recorded {
-            self.out = Printout::new(alloc);
-            let is_written = write_trace(alloc, &trace, false, &mut self.out).is_ok();
-            self.said.so(is_written, "")
+            self.print_trace(&trace)
         }
         status
+    }
+
+    // Prints a trace in place of lines.
+    fn print_trace(&mut self, trace: &Trace) {
+        let alloc = self.place.alloc;
+        self.out = Printout::new(alloc);
+        let is_written = write_trace(alloc, trace, false, &mut self.out).is_ok();
+        self.said.so(is_written, "")
     }
 
     // Runs a script, and tells what it printed, or its trace. Behind `after` stands the element for whose answer the
