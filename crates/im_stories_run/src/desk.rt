@@ -170,18 +170,18 @@ impl<'a> RunDesk<'a> {
         };
         self.noted.note_told(heard.lock(rt).as_slice());
         self.place.lay_down(disk);
-        if how.recorded {
-            self.print_trace(&trace)
-        }
+        self.print_trace(how.recorded, &trace);
         status
     }
 
-    // Prints a trace in place of lines.
-    fn print_trace(&mut self, trace: &Trace) {
+    // Prints a trace in place of lines, if it was recorded.
+    fn print_trace(&mut self, is_recorded: bool, trace: &Trace) {
         let alloc = self.place.alloc;
-        self.out = Printout::new(alloc);
-        let is_written = write_trace(alloc, trace, false, &mut self.out).is_ok();
-        self.said.so(is_written, "")
+        if is_recorded {
+            self.out = Printout::new(alloc);
+            let is_written = write_trace(alloc, trace, false, &mut self.out).is_ok();
+            self.said.so(is_written, "")
+        }
     }
 
     // Runs a script, and tells what it printed, or its trace. Behind `after` stands the element for whose answer the
