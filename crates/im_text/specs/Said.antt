@@ -200,6 +200,7 @@ pub record Output : Type 0 where
   pub style : Style
   pub held : Option (List ℕ)
 
+-- the same of a style, and of what it held
 abbrev pub output : Style → Option (List ℕ) → Output
 output style held = record { style = style; held = held }
 
