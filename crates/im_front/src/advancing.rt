@@ -1,0 +1,64 @@
+//! What is asked is served: as a group, from the front of the queue.
+ghost use Rattle.std.specs.Prelude.{◌≡◌, [], ◌<◌, ◌≤◌, length};
+ghost use Rattle.im_asks.specs.Lists.{commands_told};
+ghost use Rattle.im_engine.specs.Run.{Answered};
+ghost use Rattle.im_session.specs.Keeping.{KeepsPut, MakesFewCalls};
+ghost use Rattle.im_session.specs.Serving.{served_one};
+ghost use Rattle.im_front.specs.State.{Advanced, BeginsGroup, front_of};
+
+use crate::front::Front;
+use arrayvec::ArrayVec;
+use im_asks::ToldAnswer;
+use im_disk::Disk;
+use im_types::{Command, MAX_GROUP, Outcome, Refusal};
+use std::cmp::{max, min};
+
+impl<D: Disk> Front<D> {
+    /// Serves the first commands that are asked as one group, at most `most` of them, and tells their answers. They
+    /// are asked no more.
+    ///
+    /// They are no more than the journal has room for. If it has none, the first command is served alone, and if it is
+    /// accepted, it is answered `JournalFull`. The group may end earlier, before a confirmation of an entry that may
+    /// still wait. What isn't told stays asked, and is the next group's.
+    ///
+    /// Each answer is what [`Session::serve_commands`] says: at `Device` no command of the group was put for sure, and
+    /// the engine has failed.
+    pub fn advance(&mut self, most: usize, told: &mut ArrayVec<ToldAnswer, MAX_GROUP>)
+        requires some { 0 < most }
+        requires empty { told.old.items ≡ [] }
+        ensures advanced { Advanced self.old told.new.items self.new }
+        ensures few { length told.new.items ≤ most }
+    {
+        self.advance_kept(most, told);
+    }
+
+    /// Does what [`Front::advance`] does. Each file that a crash may leave since then has all that was put before.
+    pub fn advance_kept(&mut self, most: usize, told: &mut ArrayVec<ToldAnswer, MAX_GROUP>)
+        requires some { 0 < most }
+        requires empty { told.old.items ≡ [] }
+        ensures advanced { Advanced self.old told.new.items self.new }
+        ensures few { length told.new.items ≤ most }
+        // How many of the next group are told, and where it ends.
+        ensures begins { BeginsGroup most self.old told.new.items }
+        ensures keeps { KeepsPut D.Disk self.old.session self.new.session }
+        ensures calls { MakesFewCalls D.Disk self.old.session (commands_told told.new.items) self.new.session }
+    {
+        let room = self.session.engine().room() as usize;
+        let members = self.asks.group(min(most, max(1, room)));
+        let mut served = ArrayVec::new();
+        // A crash in this call leaves all of the group on the disk, or nothing of it. No answer is told before.
+        self.session.serve_commands_kept(&members, &mut served);
+        self.asks.tell(served.as_slice(), told);
+    }
+
+    /// Serves a command by itself, if nothing is asked. It does what [`Session::serve`] does.
+    pub fn one(&mut self, command: &Command) -> Result<Outcome, Refusal>
+        requires alone { self.old.asked ≡ [] }
+        ensures answered { Answered self.old.session.engine command.now result self.new.session.engine }
+        ensures put { self.new
+            ≡ front_of (served_one self.old.session command.now result self.new.session.engine) [] }
+    {
+        // A crash in this call leaves the command on the disk, whole, or not at all. It isn't answered before.
+        self.session.serve(command)
+    }
+}
