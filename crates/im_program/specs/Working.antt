@@ -14,8 +14,7 @@ use Rattle.im_serial.specs.Serving.{SerialOn}
 use Rattle.im_dialogue.specs.Backups.{Backup}
 use Rattle.im_dialogue.specs.Dialogue.{TalkedFrom}
 use Rattle.im_dialogue.specs.Talk.{Outputs, outputs, with_input}
-use Rattle.im_run.specs.Once.{RunsOnceOn}
-use Rattle.im_run.specs.Running.{RunsOn}
+use Rattle.im_run.specs.Once.{RunsWhen}
 use Rattle.im_run.specs.Tracing.{TraceState}
 use Rattle.im_dump.specs.Dumping.{Dumps}
 use Rattle.im_program.specs.Loading.{LoadedFrom}
@@ -59,12 +58,6 @@ abbrev pub TextServed : {D : Type 0} → DiskGhosts D → Bool → Moment → Li
 TextServed {D} d once first text was is status disk = (old : D) × (d.now old ≡ first) × (d.past old ≡ [])
     × ScriptServes d once text old disk was is status
 
--- a script is run on a disk, once or anew, freely or as a plan
-abbrev pub ScriptRuns : {D : Type 0} → DiskGhosts D → Bool → Bool → List ℕ → D → D → Option (List ℕ) → Option (List ℕ)
-    → TraceState → ℕ → Type 0
-ScriptRuns d true = RunsOnceOn d
-ScriptRuns d false = RunsOn d
-
 -- a script of these bytes, where they are known, was run on this disk, once or anew, freely or as a plan; the disk was
 -- at this moment, and had no moment before it
 pub record ScriptRan {D : Type 0} (d : DiskGhosts D) (planned once : Bool) (first : Moment) (known : Option (List ℕ))
@@ -74,7 +67,7 @@ pub record ScriptRan {D : Type 0} (d : DiskGhosts D) (planned once : Bool) (firs
   pub none : d.past old ≡ []
   pub text : List ℕ
   pub read : IsTextOf known text
-  pub run : ScriptRuns d once planned text old disk was is calls status
+  pub run : RunsWhen d once planned text old disk was is calls status
 
 -- A task was done on this disk, with this status. The disk's file held the first moment when it was opened. The input
 -- gives these bytes, where they are known: a script or a dump with the path "-" is that text, and a dialogue its lines.

@@ -2,6 +2,7 @@
 ghost use Rattle.std.specs.Prelude.{◌≡◌, ◌⊎◌, ◌≤◌, IfOk, IfErr, OnErr, IfSome, IfNone, IsSome, is_some, true};
 ghost use Rattle.std.specs.Io.KnownBytes.{Keeps};
 ghost use Rattle.im_types.specs.declared.refusals.Refusal.TheVariants.{BadScript, Device, NoMemory};
+ghost use Rattle.im_run.specs.Once.{RunsWhen};
 ghost use Rattle.im_program.specs.Places.{IsOpenAt};
 ghost use Rattle.im_program.specs.Working.{RanAs, WasRun};
 
@@ -14,8 +15,9 @@ use crate::tracing::{keep_trace, make_file_if};
 use crate::watching::Watch;
 use crate::work::refuse;
 use im_disk::{Disk, FileDisk, Start};
-use im_run::{Assignment, RunContext, RunMode, STALLED, Trace, run_on, run_once_on};
-use im_serving::{Open, Standing, Teller};
+use im_run::{Assignment, RunContext, STALLED, Trace, run_on, run_on_plan, run_once_on};
+use im_script::Script;
+use im_serving::{Host, Open, Standing, Teller};
 use im_text::News;
 use im_types::{Observer, Refusal};
 use im_words::ScriptRun;
@@ -25,21 +27,54 @@ use std::rt::Files;
 use std::sync::Wait;
 use std::thread::Threads;
 
-// How a script is run by threads.
-fn mode_of(running: &ScriptRun) -> RunMode
-    ensures planned { result.planned ≡ running.now.planned }
-    ensures recorded { result.recorded ≡ is_some running.now.trace }
+// A script that is run, and how.
+#[derive(Clone, Copy)]
+struct RunTask<'s, 'a> {
+    script: &'s Script<'a>,
+    once: bool,
+    planned: bool,
+}
+
+// Runs a script on the image of a disk.
+fn run_task<
+    D: Disk + Drop + Send,
+    V: Observer<Standing> + Teller + Copy + Send,
+    W: Write,
+    N: Observer<News>,
+    R: Host,
+>(
+    context: &RunContext<'_, Open, V, R>,
+    disk: D,
+    task: RunTask<'_, '_>,
+    out: &mut W,
+    observer: &mut N,
+) -> (u8, D, Trace)
+    ensures status { (result.0 ≤ 1) ⊎ (result.0 ≡ STALLED) }
+    ensures run { RunsWhen D.Disk task.entry.once task.entry.planned task.entry.script.now disk result.1
+        (W.contents out.old) (W.contents out.new) result.2 result.0 }
+    ensures recorded { context.now.recorded ≡ true → result.2.recorded ≡ true }
+    ensures honest { D.honest result.1 → D.honest disk }
 {
-    RunMode {
-        planned: running.planned,
-        recorded: running.trace.is_some(),
+    let RunTask {
+        script,
+        once,
+        planned,
+    } = task;
+    if once {
+        let asked = Assignment { script, planned };
+        return run_once_on(context, disk, asked, out, observer);
     }
+    if planned {
+        return run_on_plan(context, disk, script, out, observer);
+    }
+    run_on(context, disk, script, out, observer)
 }
 
 /// Runs the script of one file on the image of another, each element's requests by threads of its own. The script may
 /// have glances, and is a plan if that is asked for. Returns the status of [`run_on`], the image's disk and the trace;
 /// [`run_on`] also says which lines are printed. The script is read first. The path `-` stands for the input, which is
-/// read to its end. If it is done once, [`run_once_on`] stands for [`run_on`] here.
+/// read to its end. If it is done once, [`run_once_on`] stands for [`run_on`] here, and else [`run_on_plan`] if it is a
+/// plan.
 ///
 /// The clauses hold for whatever the image held when it was opened (`S`), as long as the file was honest. A crash at
 /// any moment since then leaves what [`run_on`] says. It says that of the bytes that the input gives, where these are
@@ -82,16 +117,13 @@ pub fn run_file<
     let text = read_file(rt, held, running.script, input, observer)?;
     let script = script_in(rt.alloc(), text.as_slice(), true, observer)?;
     let disk = image_at(rt, running.image, observer, start)?;
-    let context = RunContext::new(rt, rt.alloc(), &Open, watcher);
-    let asked = Assignment {
+    let context = RunContext::new(rt, rt.alloc(), &Open, watcher, running.trace.is_some());
+    let task = RunTask {
         script: &script,
-        mode: mode_of(running),
+        once: running.once,
+        planned: running.planned,
     };
-    if running.once {
-        Ok(run_once_on(&context, disk, asked, out, observer))
-    } else {
-        Ok(run_on(&context, disk, asked, out, observer))
-    }
+    Ok(run_task(&context, disk, task, out, observer))
 }
 
 // Runs the script, and prints the line of a refusal.

@@ -1,5 +1,5 @@
 -- The setup of a script: its blocks, as its lines are read, and the bases of its names. (Own.)
-use Rattle.std.proofs.Common.{◌≡◌, ◌∙◌, ℕ, Bool, List, [], ◌∷◌, ◌++◌, length, sym, ap, subst, map}
+use Rattle.std.proofs.Common.{◌≡◌, ◌∙◌, ℕ, List, [], ◌∷◌, ◌++◌, length, sym, ap, subst, map}
 use Rattle.std.specs.Prelude.{Option, None, Some, Result, true}
 use Rattle.std.specs.Borrow.{Bor}
 use Rattle.std.specs.Option.{option_map_or}
@@ -18,25 +18,24 @@ use Rattle.im_serial.specs.Noted.{AreNoted}
 use Rattle.im_serial.specs.Once.{HasServedNothing}
 use Rattle.im_serial.specs.Serving.{EndsAt, GoingAt, HasServed, Passes, ScriptServer, server_of}
 use Rattle.im_serial.proofs.ScriptedLemmas.{going_from, has_served, passes_refl, prints_on}
-use Rattle.im_run.specs.Orders.{SetsUp, bases_first, bases_made, blocks_asked, blocks_of, line_blocks, lines_heard}
+use Rattle.im_run.specs.Orders.{Scope, SetsUp, bases_made, blocks_asked, blocks_of, line_blocks, lines_heard}
 use Rattle.im_run.specs.Orders.{settled_past}
 use Rattle.im_run.proofs.OrdersLemmas.{line_heard}
 
 -- ---- the bases of its names
 
-module _ (once : Bool) (m : Contents) (text first : List ℕ) (is : first ≡ bases_first once m text) where
+module _ (s : Scope) (m : Contents) (first : List ℕ) (is : first ≡ s.bases) where
   -- what the setup has to do
   abbrev pub setup_course : Course
-  setup_course = record { first = first; wanted = blocks_asked once m text; earlier = [] }
+  setup_course = record { first = first; wanted = blocks_asked s; earlier = [] }
 
-  pub sets_up : (put : List Command) (left : List Wanted) → Leads m first (blocks_asked once m text) put left
-      → SetsUp once m text put left
-  sets_up put left it = subst (λ (b : List ℕ). Leads m b (blocks_asked once m text) put left) is it
+  pub sets_up : (put : List Command) (left : List Wanted) → Leads m first (blocks_asked s) put left
+      → SetsUp s m put left
+  sets_up put left it = subst (λ (b : List ℕ). Leads m b (blocks_asked s) put left) is it
 
-  pub names_made : (put : List Command) (bases : List ℕ) → bases_after m first (blocks_asked once m text) put ≡ bases
-      → bases ≡ bases_made once m text put
-  names_made put bases it =
-      sym it ∙ ap (λ (b : List ℕ). bases_after m b (blocks_asked once m text) put) is
+  pub names_made : (put : List Command) (bases : List ℕ) → bases_after m first (blocks_asked s) put ≡ bases
+      → bases ≡ bases_made s m put
+  names_made put bases it = sym it ∙ ap (λ (b : List ℕ). bases_after m b (blocks_asked s) put) is
 
 -- ---- its blocks
 

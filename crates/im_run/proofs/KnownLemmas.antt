@@ -28,7 +28,7 @@ use Rattle.im_serial.proofs.LeftLemmas.{had_at, has_some, met_here}
 use Rattle.im_serial.proofs.SettledLemmas.{AreSettledTo, count_at, is_unsettled, settled_few, settled_first}
 use Rattle.im_serial.proofs.SettledLemmas.{settled_more}
 use Rattle.im_serial.proofs.SetupLemmas.{IsBlock}
-use Rattle.im_run.specs.Orders.{bases_first, blocks_asked}
+use Rattle.im_run.specs.Orders.{blocks_asked, rest_of}
 use Rattle.im_run.specs.Stops.{setup_blocks}
 use Rattle.im_run.proofs.SplitLemmas.{AreBlocks, bases_had_of, blocks_left_of, has_split}
 
@@ -190,8 +190,8 @@ module _ (cells elements : ℕ) (m : Contents) (is : IsMemory cells elements m) 
 -- The blocks that a run asks for are those that element 0 didn't ask for yet, and the names that it knows are those of
 -- the others.
 pub record Knows (m : Contents) (text : List ℕ) : Type 0 where
-  pub asked : blocks_asked true m text ≡ drop (left_of (numbers_had m) 0) (setup_blocks text)
-  pub first : bases_first true m text ≡ sums_of 0 (take (left_of (numbers_had m) 0) (setup_blocks text))
+  pub asked : blocks_asked (rest_of m text) ≡ drop (left_of (numbers_had m) 0) (setup_blocks text)
+  pub first : (rest_of m text).bases ≡ sums_of 0 (take (left_of (numbers_had m) 0) (setup_blocks text))
 
 pub drop_past : (n : ℕ) (l : List Wanted) → length l ≤ n → drop n l ≡ []
 drop_past zero [] le = refl

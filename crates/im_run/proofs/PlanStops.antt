@@ -1,7 +1,7 @@
 -- One more run of a script by its plan: what all of them come to, from a new image on. (Own.)
-use Rattle.std.proofs.Common.{◌≡◌, ◌∙◌, ⊎_elim, inl, inr, ℕ, Bool, true, List, [], ◌++◌}
+use Rattle.std.proofs.Common.{◌≡◌, ◌∙◌, ◌⊎◌, ⊎_elim, inl, inr, ℕ, Bool, true, List, [], ◌++◌}
 use Rattle.std.proofs.Common.{refl, sym, ap, subst, append_assoc, append-nil, arith}
-use Rattle.std.specs.Prelude.{Option, None, Some}
+use Rattle.std.specs.Prelude.{Some}
 use Rattle.im_types.specs.declared.commands.Command.{Command}
 use Rattle.im_types.specs.declared.commands.Line.{Line}
 use Rattle.im_types.specs.declared.commands.Request.{Request}
@@ -12,7 +12,6 @@ use Rattle.im_types.specs.Memory.{IsMemory}
 use Rattle.im_types.specs.Run.{after}
 use Rattle.im_engine.proofs.Keeping.{accept_both}
 use Rattle.im_laws.proofs.RunLemmas.{after-append}
-use Rattle.im_laws.proofs.Tests.{true_false}
 use Rattle.im_plans.specs.Runs.{HasServed}
 use Rattle.im_plans.specs.UnderWay.{PlanGoesOn}
 use Rattle.im_controller.specs.Kept.{accepted_in}
@@ -24,9 +23,10 @@ use Rattle.im_serial.specs.Once.{HasMade}
 use Rattle.im_serial.proofs.BegunLemmas.{accepted_after, is_memory}
 use Rattle.im_run.specs.declared.served.Did.{Did}
 use Rattle.im_run.specs.Doing.{HasToldScript}
-use Rattle.im_run.specs.Orders.{AreAllOrders, Ask, IsOfAll, SetsUp, bases_made, script_heard}
-use Rattle.im_run.specs.Planned.{DidNotBegin, EndsOnPlan, HasServedWhole, RanByPlan, plan_of}
-use Rattle.im_run.specs.Running.{TellsScript}
+use Rattle.im_run.specs.Once.{ServesRest}
+use Rattle.im_run.specs.Orders.{AreAllOrders, Ask, SetsUp, bases_made, rest_of, script_heard}
+use Rattle.im_run.specs.Planned.{DidNotBegin, RanByPlan, plan_of}
+use Rattle.im_run.specs.Running.{HasEndedSetup}
 use Rattle.im_run.specs.Stops.{HasAll, HasDoneByPlan, HasRunByPlan, IsByPlan, IsOwnPlan, new_bases, setup_blocks}
 use Rattle.im_run.proofs.CountLemmas.{accept_split, had_more}
 use Rattle.im_run.proofs.StopsLemmas.{accepted_on, both_on, own_same, quiet_names, quiet_setup, setup_asked}
@@ -46,7 +46,7 @@ module _ (limits : Limits) (text : List ℕ) (earlier : List Command) (n : Conte
     all_accepted = accept_both (new_memory limits) n (after n put) earlier put was.accepted accepts
 
     -- they are of the setup alone
-    only_setup : (left : List Wanted) → SetsUp true n text put left
+    only_setup : (left : List Wanted) → SetsUp (rest_of n text) n put left
         → HasRunByPlan limits text (earlier ++ put) (after n put)
     only_setup left set = ⊎_elim by_blocks by_plan was.parts
       where
@@ -94,14 +94,14 @@ module _ (limits : Limits) (text : List ℕ) (earlier : List Command) (n : Conte
 
   -- the setup's, and then some of a plan
   module _ (setup more : List Command) (accepts : accept_each n (setup ++ more) ≡ Some (after n (setup ++ more)))
-      (set : SetsUp true n text setup []) (whole : List Ask)
-      (all : AreAllOrders (bases_made true n text setup) (script_heard text) whole)
+      (set : SetsUp (rest_of n text) n setup []) (whole : List Ask)
+      (all : AreAllOrders (bases_made (rest_of n text) n setup) (script_heard text) whole)
       (goes_on : PlanGoesOn (after n setup) (plan_of whole)) (on : AreOnPlan (Some (plan_of whole)) more) where
     first_accepted : accept_each n setup ≡ Some (after n setup)
     first_accepted = (accept_split setup more n (after n (setup ++ more)) accepts).0
 
     -- the plan is the script's own, if its names stand for the bases of a new image
-    own_by : bases_made true n text setup ≡ new_bases text → IsOwnPlan text (plan_of whole)
+    own_by : bases_made (rest_of n text) n setup ≡ new_bases text → IsOwnPlan text (plan_of whole)
     own_by names =
         (whole, (subst (λ (b : List ℕ). AreAllOrders b (script_heard text) whole) names all, refl))
 
@@ -187,7 +187,7 @@ module _ (limits : Limits) (text : List ℕ) (earlier : List Command) (n : Conte
           (after n (told ++ doubt))
 
     -- nothing was put behind the setup
-    setup_stops : (left : List Wanted) → SetsUp true n text (told ++ doubt) left → (status ≡ 0 → ⊥) → Stops
+    setup_stops : (left : List Wanted) → SetsUp (rest_of n text) n (told ++ doubt) left → (status ≡ 0 → ⊥) → Stops
     setup_stops left set refused = record {
       run = only_setup (told ++ doubt) accepts left set;
       done = λ zero. absurd (refused zero);
@@ -199,7 +199,8 @@ module _ (limits : Limits) (text : List ℕ) (earlier : List Command) (n : Conte
         ∙ append-nil setup
 
     -- the parts were served
-    module _ (t : HasToldScript true planned n text setup told doubt trace (status ≡ 0) did) where
+    module _ (t : HasToldScript (rest_of n text) (ServesRest planned n text trace (status ≡ 0) setup told doubt) n setup
+        trace (status ≡ 0) did) where
       split : told ++ doubt ≡ setup ++ (accepted_in (after n setup) trace ++ doubt)
       split = ap (λ (l : List Command). l ++ doubt) put_is
           ∙ append_assoc setup (accepted_in (after n setup) trace) doubt
@@ -208,8 +209,8 @@ module _ (limits : Limits) (text : List ℕ) (earlier : List Command) (n : Conte
           ≡ Some (after n (setup ++ (accepted_in (after n setup) trace ++ doubt)))
       accepts_split = subst (λ (l : List Command). accept_each n l ≡ Some (after n l)) split accepts
 
-      on_plan_stops : (whole : List Ask) → AreAllOrders (bases_made true n text setup) (script_heard text) whole
-          → RanByPlan (after n setup) (Some whole) t.orders trace doubt (after n told) (status ≡ 0) → Stops
+      on_plan_stops : (whole : List Ask) → AreAllOrders (bases_made (rest_of n text) n setup) (script_heard text) whole
+          → RanByPlan (Unit {0}) (plan_of whole) (after n setup) trace doubt (after n told) (status ≡ 0) → Stops
       on_plan_stops whole all ran =
           let plan = plan_of whole in
           let it = comes setup (accepted_in (after n setup) trace ++ doubt) accepts_split t.made whole all
@@ -226,20 +227,16 @@ module _ (limits : Limits) (text : List ℕ) (earlier : List Command) (n : Conte
 
       unbegun_stops : DidNotBegin trace doubt (status ≡ 0) → Stops
       unbegun_stops none = setup_stops []
-          (subst (λ (l : List Command). SetsUp true n text l []) (sym (ap (λ (l : List Command). told ++ l) none.sure
+          (subst (λ (l : List Command). SetsUp (rest_of n text) n l []) (sym (ap (λ (l : List Command). told ++ l) none.sure
           ∙ append-nil told ∙ unserved_is none.unserved)) t.made) none.refused
 
-      by_whole : (whole : Option (List Ask)) → IsOfAll true (bases_made true n text setup) (script_heard text) whole
-          → EndsOnPlan (after n setup) whole t.orders trace doubt (after n told) (status ≡ 0) → Stops
-      by_whole None is ends = absurd (true_false is)
-      by_whole (Some whole) is (inl ran) = on_plan_stops whole is.1 ran
-      by_whole (Some whole) is (inr none) = unbegun_stops none
-
-    pub plan_stops : planned ≡ true → TellsScript true planned n text setup told doubt trace status did → Stops
-    plan_stops by (inl t) = by_whole t t.whole t.is_whole (t.as_planned by)
+    pub plan_stops : planned ≡ true
+        → HasToldScript (rest_of n text) (ServesRest planned n text trace (status ≡ 0) setup told doubt) n setup trace
+        (status ≡ 0) did ⊎ HasEndedSetup (rest_of n text) n setup doubt trace status did → Stops
+    plan_stops by (inl t) = ⊎_elim (on_plan_stops t t.also.0.whole t.also.0.is_whole) (unbegun_stops t) (t.also.1 by)
     plan_stops by (inr ended) = setup_stops ended.left
-        (subst (λ (l : List Command). SetsUp true n text (l ++ doubt) ended.left) (sym (unserved_is ended.unserved))
-        ended.began) ended.refused
+        (subst (λ (l : List Command). SetsUp (rest_of n text) n (l ++ doubt) ended.left)
+        (sym (unserved_is ended.unserved)) ended.began) ended.refused
 
 -- ---- a run by threads that did all of it
 
@@ -252,11 +249,10 @@ module _ (limits : Limits) (text : List ℕ) (earlier : List Command) (n : Conte
       (accepts : accept_each n told ≡ Some (after n told))
       (put_is : told ≡ setup ++ accepted_in (after n setup) trace) where
     by_orders : (doubt : List Command) → status ≡ 0
-        → (t : HasToldScript true planned n text setup told doubt trace (status ≡ 0) did)
-        → (whole : Option (List Ask)) → IsOfAll true (bases_made true n text setup) (script_heard text) whole
-        → HasServedWhole (after n told).windows whole → HasAll limits text (earlier ++ told) (after n told)
-    by_orders doubt zero t None is served = absurd (true_false is)
-    by_orders doubt zero t (Some whole) is served =
+        → HasToldScript (rest_of n text) (ServesRest planned n text trace (status ≡ 0) setup told doubt) n setup trace
+        (status ≡ 0) did → HasAll limits text (earlier ++ told) (after n told)
+    by_orders doubt zero t =
+        let all = t.also.0 in
         let put = accepted_in (after n setup) trace in
         let both = accept_split setup put n (after n told)
         (subst (λ (l : List Command). accept_each n l ≡ Some (after n told)) put_is accepts) in
@@ -268,15 +264,16 @@ module _ (limits : Limits) (text : List ℕ) (earlier : List Command) (n : Conte
         record {
           accepted = accept_both (new_memory limits) n (after n told) earlier told begun accepts;
           setup = omega (arith, asked, more);
-          bases = bases_made true n text setup;
+          bases = bases_made (rest_of n text) n setup;
           names = setup_named limits text earlier n begun fit setup t.made both.0;
-          whole = whole;
-          requests = is.1;
-          served = served;
+          whole = all.whole;
+          requests = all.is_whole;
+          served = all.served zero;
         }
 
     pub has_all : (doubt : List Command) → status ≡ 0
-        → TellsScript true planned n text setup told doubt trace status did
+        → HasToldScript (rest_of n text) (ServesRest planned n text trace (status ≡ 0) setup told doubt) n setup trace
+        (status ≡ 0) did ⊎ HasEndedSetup (rest_of n text) n setup doubt trace status did
         → HasAll limits text (earlier ++ told) (after n told)
-    has_all doubt zero (inl t) = by_orders doubt zero t t.whole t.is_whole (t.all_served zero)
+    has_all doubt zero (inl t) = by_orders doubt zero t
     has_all doubt zero (inr ended) = absurd (ended.refused zero)

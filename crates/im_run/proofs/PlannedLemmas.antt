@@ -144,7 +144,8 @@ pub ends_on_plan : (m : Contents) (trace : List Line) (whole : Option AllOrders)
     → FitsIfNew (asks_in whole) m (plan_of (planned_orders (asks_in whole) orders))
     → EndsAsPlanned m (plan_of (planned_orders (asks_in whole) orders)) trace end
     → AreOnPlan (Some (plan_of (planned_orders (asks_in whole) orders))) doubt
-    → EndsOnPlan m (asks_in whole) orders trace doubt end none
+    → EndsOnPlan (FitsIfNew (asks_in whole) m (plan_of (planned_orders (asks_in whole) orders)))
+    (plan_of (planned_orders (asks_in whole) orders)) m trace doubt end none
 ends_on_plan m trace None orders told doubt end none legal ends it served fits planned on = inl (record {
   fits = fits;
   ended = planned;

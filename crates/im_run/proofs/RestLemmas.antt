@@ -1,6 +1,6 @@
 -- A script that is run once: what is known at its end. (Own.)
 use Rattle.std.proofs.Common.{◌≡◌, ◌∙◌, inl, inr, ⊎_elim, ℕ, Bool, List, [], ◌++◌, length, refl, sym, ap, subst}
-use Rattle.std.specs.Prelude.{◌⊎◌, Option, true}
+use Rattle.std.specs.Prelude.{◌⊎◌, Option, true, false}
 use Rattle.std.specs.Io.KnownBytes.{Appends}
 use Rattle.im_types.specs.declared.commands.Command.{Command}
 use Rattle.im_types.specs.Contents.{Contents}
@@ -16,9 +16,8 @@ use Rattle.im_serial.specs.Had.{bases_had, numbers_had}
 use Rattle.im_serial.specs.Once.{Breaks, HasMade, HasServedNothing, HasShown, IsPrefix, lines_had}
 use Rattle.im_serial.specs.Serving.{ScriptServer, server_of}
 use Rattle.im_serial.proofs.OnceLemmas.{met_start, shown_written}
-use Rattle.im_run.specs.Once.{EndsOnce, IsUnrun, RanRest}
+use Rattle.im_run.specs.Once.{EndsWhen, IsUnrun, RanRest, RunWhen}
 use Rattle.im_run.specs.Orders.{bases_first}
-use Rattle.im_run.specs.Running.{RunOn}
 use Rattle.im_run.specs.Tracing.{TraceState}
 
 module _ {D : Type 0} (disk : Ghosts D) (script : List Wanted) (old mid : ScriptServer D) (bases : List ℕ)
@@ -101,7 +100,7 @@ module _ {D : Type 0} (disk : Ghosts D) (script : List Wanted) (old mid : Script
     -- it ran
     pub rest_by : (planned : Bool) (text : List ℕ) → script ≡ wanted_of text
         → FitsScript old.session.engine.memory script → (new : D) (is : Option (List ℕ)) (calls : TraceState)
-        (status : ℕ) → RunOn disk true planned text mid.session.start new mid.held is calls status
+        (status : ℕ) → RunWhen disk true planned text mid.session.start new mid.held is calls status
         → RanRest disk planned text old.session.start new old.held is calls status
     rest_by planned text same fit new is calls status run = record {
       fit = subst (FitsScript found) same (subst (λ (m : Contents). FitsScript m script) found_is fit);
@@ -109,15 +108,17 @@ module _ {D : Type 0} (disk : Ghosts D) (script : List Wanted) (old mid : Script
       mid = mid.held;
       shown = subst (λ (s : List Wanted). Appends old.held mid.held (lines_had found (numbers_had found) s)) same
           (shown_written script bases known old mid it fit ready);
-      run = subst (λ (t : SessionState D). RunOn disk true planned text t.start new mid.held is calls status)
+      run = subst (λ (t : SessionState D). RunWhen disk true planned text t.start new mid.held is calls status)
           it.session run;
     }
 
 -- the disk was honest at the start, if it is at the end
-pub once_honest : {D : Type 0} (disk : Ghosts D) (planned : Bool) (text : List ℕ) (start : SessionStart D) (new : D)
+pub ends_honest : {D : Type 0} (disk : Ghosts D) (once planned : Bool) (text : List ℕ) (start : SessionStart D) (new : D)
     (was is : Option (List ℕ)) (calls : TraceState) (status : ℕ)
-    → EndsOnce disk planned text start new was is calls status → disk.honest new → disk.honest start.disk
-once_honest disk planned text start new was is calls status (inl it) honest =
+    → EndsWhen disk once planned text start new was is calls status → disk.honest new → disk.honest start.disk
+ends_honest disk false planned text start new was is calls status it honest =
     it.kept.honest (subst disk.honest it.closed honest)
-once_honest disk planned text start new was is calls status (inr it) honest =
+ends_honest disk true planned text start new was is calls status (inl it) honest =
+    it.kept.honest (subst disk.honest it.closed honest)
+ends_honest disk true planned text start new was is calls status (inr it) honest =
     it.run.kept.honest (subst disk.honest it.run.closed honest)

@@ -1,10 +1,11 @@
 -- What the session of a run puts on a disk, and what the run prints. (Own.)
 use Rattle.std.proofs.Common.{◌≡◌, ◌∙◌, ◌+◌, ◌≤◌, inl, inr, ⊎_elim, ℕ, zero, suc, Bool, false, List, [], ◌++◌, length}
-use Rattle.std.proofs.Common.{sym, ap, subst, append-nil, take, arith}
-use Rattle.std.specs.Prelude.{Option, ◌⊎◌, slice_get}
+use Rattle.std.proofs.Common.{refl, sym, ap, subst, append-nil, take, arith, true}
+use Rattle.std.specs.Prelude.{Option, None, Some, ◌⊎◌, slice_get}
 use Rattle.std.specs.Io.KnownBytes.{Appends}
 use Rattle.im_types.specs.declared.commands.Command.{Command}
 use Rattle.im_types.specs.declared.commands.Line.{Line}
+use Rattle.im_types.specs.declared.commands.Request.{Request}
 use Rattle.im_types.specs.Contents.{Contents}
 use Rattle.im_types.specs.Meaning.{Means}
 use Rattle.im_types.specs.Run.{accepted, after}
@@ -13,6 +14,7 @@ use Rattle.im_disk.specs.declared.disk.Disk.{Ghosts}
 use Rattle.im_disk.specs.Moment.{Left, Rises}
 use Rattle.im_disk.specs.Since.{Leaves, LeavesNow}
 use Rattle.im_engine.specs.State.{EngineState}
+use Rattle.im_laws.proofs.Tests.{true_false}
 use Rattle.im_session.specs.Kept.{Kept, SessionStart, SessionState, session_of}
 use Rattle.im_controller.specs.Kept.{Begun, IsSessionOf, accepted_in, begun_by, origin_of}
 use Rattle.im_controller.specs.State.{OpeningState}
@@ -27,10 +29,12 @@ use Rattle.im_serial.specs.Serving.{IsOver, IsServing}
 use Rattle.im_run.specs.declared.run.TheConstants.{STALLED}
 use Rattle.im_run.specs.declared.served.Did.{Did}
 use Rattle.im_run.specs.Tracing.{TraceState}
-use Rattle.im_run.specs.Orders.{Ask, AreOrders, ArePartsThere, IsOfAll, SetsUp, bases_made, script_heard, settled_when}
-use Rattle.im_run.specs.Planned.{EndsOnPlan, HasServedWhole}
+use Rattle.im_run.specs.Orders.{Ask, AreOrders, ArePartsThere, IsOfAll, Scope, SetsUp, bases_made, scope_when}
+use Rattle.im_run.specs.Orders.{script_heard}
+use Rattle.im_run.specs.Once.{RunWhen, also_when}
+use Rattle.im_run.specs.Planned.{EndsOnPlan, FitsIfNew, HasServedWhole, plan_of, planned_orders}
 use Rattle.im_run.specs.Doing.{AreAllTold}
-use Rattle.im_run.specs.Running.{BeginsFinals, Closes, EndedOn, PrintsFinals, RunOn, ServersEnded, final_line, finals}
+use Rattle.im_run.specs.Running.{BeginsFinals, Closes, EndedOn, PrintsFinals, ServersEnded, final_line, finals}
 use Rattle.im_run.proofs.DoingLemmas.{told_weaker}
 
 -- ---- where a session began
@@ -151,18 +155,39 @@ none_done start is text m n did none begins =
         ∙ written_none (λ i. final_line n (slice_get did i)) []
     no_finals (suc many) few = absurd (omega arith)
 
+-- ---- what else is told of a run
+
+-- by all requests of the script, if they are known, and by the plan, if there is one
+also_by : (once planned : Bool) (whole : Option (List Ask)) (m : Contents) (script : List ℕ) (setup put doubt
+    : List Command) (orders : List Ask) (trace : List Line) (none : Type 0)
+    → IsOfAll once (bases_made (scope_when once m script) m setup) (script_heard script) whole
+    → (none → HasServedWhole (after m put).windows whole)
+    → (planned ≡ true → EndsOnPlan (FitsIfNew whole (after m setup) (plan_of (planned_orders whole orders)))
+    (plan_of (planned_orders whole orders)) (after m setup) trace doubt (after m put) none)
+    → also_when once planned m script trace none setup put doubt orders
+also_by false false whole m script setup put doubt orders trace none is served by = tt
+also_by false true None m script setup put doubt orders trace none is served by = by refl
+also_by false true (Some whole) m script setup put doubt orders trace none is served by =
+    absurd (true_false (sym is.0))
+also_by true planned None m script setup put doubt orders trace none is served by = absurd (true_false is)
+also_by true planned (Some whole) m script setup put doubt orders trace none is served by =
+    (record { whole = whole; is_whole = is.1; served = served }, by)
+
 -- ---- the end of a run
 
 module _ {D : Type 0} (disk : Ghosts D) (once planned : Bool) (script : List ℕ) (start : SessionStart D)
     (t : SessionState D) where
+  abbrev scope : Scope
+  scope = scope_when once start.memory script
+
   -- the setup was ended
   pub halted_run : (course : Option Course) (waited : List Waited) (text : List ℕ) (was mid is : Option (List ℕ))
       (lines : Lines) (did : List Did) (new : D) (calls : TraceState) (status : ℕ)
       → IsOver start t course text waited → Kept disk t → Prints was mid lines text → did ≡ [] → new ≡ t.engine.disk
       → ((status ≡ 0) ⊎ (status ≡ STALLED) → t.engine.failed ≡ false) → (status ≡ 0 → ⊥)
       → Closes mid lines is t.engine.memory did status → calls.served ≡ []
-      → (left : List Wanted) → SetsUp once start.memory script (t.put ++ t.doubt) left
-      → RunOn disk once planned script start new was is calls status
+      → (left : List Wanted) → SetsUp (scope_when once start.memory script) start.memory (t.put ++ t.doubt) left
+      → RunWhen disk once planned script start new was is calls status
   halted_run course waited text was mid is lines did new calls status over kept prints none closed works never closes
       unserved left began =
       record {
@@ -199,11 +224,12 @@ module _ {D : Type 0} (disk : Ghosts D) (once planned : Bool) (script : List ℕ
       (text : List ℕ) (was held is : Option (List ℕ)) (lines : Lines) (new : D) (calls : TraceState) (status : ℕ)
       → IsServing start t s text n → Prints was held lines text
       → EndedOn disk planned whole orders t new held lines is calls.served status
-      → AreOrders once t.engine.memory (settled_when once start.memory) bases (script_heard script) orders
+      → AreOrders (scope_when once start.memory script) t.engine.memory bases orders
       → IsOfAll once bases (script_heard script) whole
-      → SetsUp once start.memory script t.put [] → bases ≡ bases_made once start.memory script t.put
+      → SetsUp (scope_when once start.memory script) start.memory t.put []
+      → bases ≡ bases_made (scope_when once start.memory script) start.memory t.put
       → ArePartsThere (length start.memory.windows) (script_heard script)
-      → RunOn disk once planned script start new was is calls status
+      → RunWhen disk once planned script start new was is calls status
   ended_run bases whole orders s n text was held is lines new calls status it prints ended of_script is_whole sets named
       there =
       let m = start.memory in
@@ -216,6 +242,7 @@ module _ {D : Type 0} (disk : Ghosts D) (once planned : Bool) (script : List ℕ
       (λ (x : SessionStart D). Kept disk (session_of x put e.doubt ended.engine)) it.start_is e.kept in
       let closes = ended.printed was text prints in
       let last : ended.engine.memory ≡ after m put = kept.memory in
+      let plan : List Request = plan_of (planned_orders whole orders) in
       record {
         put = put;
         doubt = e.doubt;
@@ -242,18 +269,16 @@ module _ {D : Type 0} (disk : Ghosts D) (once planned : Bool) (script : List ℕ
           made = sets;
           parts = there;
           orders = orders;
-          of_script = subst (λ (b : List ℕ). AreOrders once (after m setup) (settled_when once m) b
-              (script_heard script) orders) named
-              (subst (λ (x : Contents). AreOrders once x (settled_when once m) bases (script_heard script) orders)
-              begun of_script);
+          of_script = subst (λ (b : List ℕ). AreOrders scope (after m setup) b orders) named
+              (subst (λ (x : Contents). AreOrders scope x bases orders) begun of_script);
           all = subst (λ (x : Contents). AreAllTold x trace (status ≡ 0) orders ended.did) begun e.told;
           alone = e.alone;
-          whole = whole;
-          is_whole = subst (λ (b : List ℕ). IsOfAll once b (script_heard script) whole) named is_whole;
-          all_served = λ zero. subst (λ (x : Contents). HasServedWhole x.windows whole) last (e.all_served zero);
-          as_planned = λ by. subst (λ (x : Contents). EndsOnPlan x whole orders trace e.doubt (after m put)
+          also = also_by once planned whole m script setup put e.doubt orders trace (status ≡ 0)
+              (subst (λ (b : List ℕ). IsOfAll once b (script_heard script) whole) named is_whole)
+              (λ zero. subst (λ (x : Contents). HasServedWhole x.windows whole) last (e.all_served zero))
+              (λ by. subst (λ (x : Contents). EndsOnPlan (FitsIfNew whole x plan) plan x trace e.doubt (after m put)
               (status ≡ 0)) begun
-              (subst (λ (x : Contents). EndsOnPlan t.engine.memory whole orders trace e.doubt x (status ≡ 0)) last
-              (e.as_planned it.works by));
+              (subst (λ (x : Contents). EndsOnPlan (FitsIfNew whole t.engine.memory plan) plan t.engine.memory trace
+              e.doubt x (status ≡ 0)) last (e.as_planned it.works by)));
         });
       }

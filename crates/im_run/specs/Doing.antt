@@ -1,6 +1,6 @@
 -- What was done of the orders of a script. (Own.)
-use Rattle.std.specs.Prelude.{◌≡◌, ◌⊎◌, ℕ, suc, Bool, List, [], ◌∷◌, ◌++◌, map, length, nat_le, Option, None, IsOk}
-use Rattle.std.specs.Prelude.{true, if◌then◌else◌}
+use Rattle.std.specs.Prelude.{◌≡◌, ◌⊎◌, ℕ, suc, List, [], ◌∷◌, ◌++◌, map, length, nat_le, Option, None, IsOk}
+use Rattle.std.specs.Prelude.{if◌then◌else◌}
 use Rattle.std.specs.List.{All, AllByRecursion}
 use mathlib.Core.List.{IsPrefix}
 use Rattle.im_types.specs.declared.operations.Entry.{Entry}
@@ -18,8 +18,7 @@ use Rattle.im_serving.specs.Serving.{AreDone, AreGlanced, HasAnswers, IsGlanced,
 use Rattle.im_run.specs.Alone.{AreCallsOf}
 use Rattle.im_run.specs.declared.served.Did.{Did}
 use Rattle.im_run.specs.declared.served.Did.TheVariants as did
-use Rattle.im_run.specs.Orders.{AreOrders, ArePartsThere, Ask, IsOfAll, SetsUp, bases_made, script_heard, settled_when}
-use Rattle.im_run.specs.Planned.{EndsOnPlan, HasServedWhole}
+use Rattle.im_run.specs.Orders.{AreOrders, ArePartsThere, Ask, Scope, SetsUp, bases_made}
 
 -- ---- what is told of it
 
@@ -59,25 +58,18 @@ AreAllTold m trace none (order ∷ orders) told =
 
 -- The setup of a script was served whole on this memory, by these commands, and the names stand for the bases that
 -- they made. The memory has the element of each part, of one with no line too. Then its parts were served, with this
--- trace; all that was put was acknowledged but for what is in doubt. This is told of the parts, and it is all that they
--- ask for if nothing was refused. If the script is done once, all requests of its parts are known, the settled ones
--- too, and each was served if nothing was refused. If the run was planned, it ended as its plan says: that of all those
--- requests, if they are known. If nothing was refused, nobody was served who didn't ask: each line of the trace is of a
--- request of a part, under its number, or of its element's confirmation or collect.
-pub record HasToldScript (once planned : Bool) (start : Contents) (text : List ℕ) (setup put doubt : List Command)
+-- trace. This is told of the parts, and it is all that they ask for if nothing was refused. If nothing was refused,
+-- nobody was served who didn't ask: each line of the trace is of a request of a part, under its number, or of its
+-- element's confirmation or collect. And this is so of the parts' orders.
+pub record HasToldScript (s : Scope) (Also : List Ask → Type 0) (start : Contents) (setup : List Command)
     (trace : List Line) (none : Type 0) (told : List Did) : Type 0 where
-  pub made : SetsUp once start text setup []
-  pub parts : ArePartsThere (length start.windows) (script_heard text)
+  pub made : SetsUp s start setup []
+  pub parts : ArePartsThere (length start.windows) s.lines
   pub orders : List Ask
-  pub of_script : AreOrders once (after start setup) (settled_when once start) (bases_made once start text setup)
-      (script_heard text) orders
+  pub of_script : AreOrders s (after start setup) (bases_made s start setup) orders
   pub all : AreAllTold (after start setup) trace none orders told
   pub alone : none → AreCallsOf orders trace
-  pub whole : Option (List Ask)
-  pub is_whole : IsOfAll once (bases_made once start text setup) (script_heard text) whole
-  pub all_served : none → HasServedWhole (after start put).windows whole
-  pub as_planned : planned ≡ true
-      → EndsOnPlan (after start setup) whole orders trace doubt (after start put) none
+  pub also : Also orders
 
 -- ---- while it is noted
 

@@ -5,7 +5,6 @@ use Rattle.std.specs.Option.{option_map, option_map_or}
 use mathlib.Core.List.{IsPrefix}
 use Rattle.im_types.specs.declared.commands.Command.{Command}
 use Rattle.im_types.specs.Contents.{Contents}
-use Rattle.im_types.specs.Window.{next_number}
 use Rattle.im_script.specs.declared.places.Place.{Place}
 use Rattle.im_script.specs.declared.script.Heard.{Heard}
 use Rattle.im_script.specs.declared.script.Heard.TheVariants.{Says, Glances}
@@ -14,7 +13,7 @@ use Rattle.im_script.specs.Places.{place_address, action_op}
 use Rattle.im_script.specs.Script.{Draft, heard, lines_of, new_draft}
 use Rattle.im_serial.specs.declared.past.Past.{Past}
 use Rattle.im_serial.specs.Asked.{Leads, Wanted, bases_after, said_by, wanted_by, wanted_of}
-use Rattle.im_serial.specs.Had.{bases_had, first_open, met_all, news, numbers_had, numbers_settled}
+use Rattle.im_serial.specs.Had.{bases_had, first_open, met_all, news, next_had, numbers_had, numbers_settled}
 use Rattle.im_serving.specs.declared.intent.Intent.{Intent}
 use Rattle.im_serving.specs.declared.intent.Intent.TheVariants.{Request, Glance}
 use Rattle.im_run.specs.declared.sheet.Order.{Order}
@@ -46,12 +45,13 @@ settled_by past = option_map_or (λ p. p.many.items) past []
 abbrev pub settled_past : List ℕ → Heard → List ℕ
 settled_past had h = met_all had (wanted_by (said_by h))
 
--- the number of an element's first request: the first one that waits, if the script is done once, and else its next
--- one; 0 if the memory has no such element
+-- the number of an element's first request that waits, or of its next one; 0 if the memory has no such element
+abbrev pub open_had : Contents → ℕ → ℕ
+open_had m element = option_map_or first_open (slice_get m.windows element) 0
+
+-- the number of an element's first request: the first one that waits, if the script is done once, and else its next one
 abbrev pub first_asked : Bool → Contents → ℕ → ℕ
-first_asked once m element = if once
-    then option_map_or first_open (slice_get m.windows element) 0
-    else option_map_or next_number (slice_get m.windows element) 0
+first_asked once m element = if once then open_had m element else next_had m element
 
 -- ---- what it asks of an element
 
@@ -133,22 +133,54 @@ abbrev pub blocks_of : List ℕ → List Heard → List Wanted
 blocks_of had [] = []
 blocks_of had (h ∷ lines) = line_blocks had h ++ blocks_of (settled_past had h) lines
 
--- the same of a script
-abbrev pub blocks_asked : Bool → Contents → List ℕ → List Wanted
-blocks_asked once m text = blocks_of (settled_when once m) (script_heard text)
-
 -- the bases of the blocks that the memory has of a script, if it is done once
 abbrev pub bases_first : Bool → Contents → List ℕ → List ℕ
 bases_first once m text = if once then bases_had (numbers_had m) 0 (wanted_of text) else []
 
+-- ---- what a run does of it
+
+-- What a run does of a script: its lines, but for so many requests of each element. Its names stand for these bases
+-- already. An element's first request has this number, by the memory.
+pub record Scope : Type 0 where
+  pub lines : List Heard
+  pub settled : List ℕ
+  pub bases : List ℕ
+  pub first : Contents → ℕ → ℕ
+
+-- all of it, from each element's next number on
+abbrev pub all_of : List ℕ → Scope
+all_of text = record { lines = script_heard text; settled = []; bases = []; first = next_had }
+
+-- what is left of it on this memory, if it is done once: of each element the requests from the first one that waits on
+abbrev pub rest_of : Contents → List ℕ → Scope
+rest_of m text = record {
+  lines = script_heard text;
+  settled = numbers_settled m;
+  bases = bases_had (numbers_had m) 0 (wanted_of text);
+  first = open_had;
+}
+
+-- the one or the other
+abbrev pub scope_when : Bool → Contents → List ℕ → Scope
+scope_when once m text = record {
+  lines = script_heard text;
+  settled = settled_when once m;
+  bases = bases_first once m text;
+  first = first_asked once;
+}
+
+-- the blocks that it asks for
+abbrev pub blocks_asked : Scope → List Wanted
+blocks_asked s = blocks_of s.settled s.lines
+
 -- These commands are, confirmations aside, the first of those blocks' requests: element 0's, in their order, each with
 -- its next number. The others are left. Nothing comes behind a block that wasn't made.
-abbrev pub SetsUp : Bool → Contents → List ℕ → List Command → List Wanted → Type 0
-SetsUp once m text put left = Leads m (bases_first once m text) (blocks_asked once m text) put left
+abbrev pub SetsUp : Scope → Contents → List Command → List Wanted → Type 0
+SetsUp s m put left = Leads m s.bases (blocks_asked s) put left
 
 -- the bases that the script's names stand for then: behind those first ones come those in the blocks' answers
-abbrev pub bases_made : Bool → Contents → List ℕ → List Command → List ℕ
-bases_made once m text put = bases_after m (bases_first once m text) (blocks_asked once m text) put
+abbrev pub bases_made : Scope → Contents → List Command → List ℕ
+bases_made s m put = bases_after m s.bases (blocks_asked s) put
 
 -- ---- orders
 
@@ -186,9 +218,9 @@ pub record AreOrdersFrom (first : ℕ → ℕ) (had bases : List ℕ) (script : 
   pub none : (element : ℕ) → many ≤ element → part_of bases had element script ≡ []
   pub placed : ArePlaced bases had script
 
--- the same, under the numbers that this memory gives
-abbrev pub AreOrders : Bool → Contents → List ℕ → List ℕ → List Heard → List Ask → Type 0
-AreOrders once m had bases script orders = AreOrdersFrom (first_asked once m) had bases script orders
+-- the same of what a run does of it, under the numbers that this memory gives
+abbrev pub AreOrders : Scope → Contents → List ℕ → List Ask → Type 0
+AreOrders s m bases orders = AreOrdersFrom (s.first m) s.settled bases s.lines orders
 
 -- the number of an element's first request in a part, if the setup makes so many blocks: they are element 0's first
 abbrev pub first_behind : ℕ → ℕ → ℕ
@@ -207,8 +239,7 @@ IsOfAll once bases script (Some whole) = (once ≡ true) × AreAllOrders bases s
 -- The setup of a script led from the one memory to the other, and its names stand for these bases. These are its orders
 -- then.
 abbrev pub HasOrders : Bool → Contents → Contents → List ℕ → List ℕ → List Order → Type 0
-HasOrders once old new bases text orders =
-    AreOrders once new (settled_when once old) bases (script_heard text) (map ask_of orders)
+HasOrders once old new bases text orders = AreOrders (scope_when once old text) new bases (map ask_of orders)
 
 -- ---- while it is read
 

@@ -7,6 +7,7 @@ use Rattle.im_types.specs.declared.commands.Line.{Line}
 use Rattle.im_types.specs.declared.commands.Request.{Request}
 use Rattle.im_types.specs.Contents.{Contents, Window}
 use Rattle.im_types.specs.Plan.{FitsPlan}
+use Rattle.im_types.specs.Run.{after}
 use Rattle.im_types.specs.Window.{next_number}
 use Rattle.im_plans.specs.Runs.{HasServed}
 use Rattle.im_controller.specs.Planned.{AreOnPlan, EndsAsPlanned}
@@ -67,17 +68,16 @@ abbrev pub HasServedWhole : List Window → Option (List Ask) → Type 0
 HasServedWhole windows None = Unit {0}
 HasServedWhole windows (Some whole) = HasServed windows (plan_of whole)
 
--- A planned run of these orders went from the one memory to the other, with this trace, and left these commands in
--- doubt. The plan is of all requests of a script, if it goes on with one, and else of those of the orders.
-pub record RanByPlan (m : Contents) (whole : Option (List Ask)) (orders : List Ask) (trace : List Line)
-    (doubt : List Command) (end : Contents) (none : Type 0) : Type 0 where
-  pub fits : FitsIfNew whole m (plan_of (planned_orders whole orders))
+-- A run went by this plan from the one memory to the other, with this trace, and left these commands in doubt.
+pub record RanByPlan (Fits : Type 0) (plan : List Request) (m : Contents) (trace : List Line) (doubt : List Command)
+    (end : Contents) (none : Type 0) : Type 0 where
+  pub fits : Fits
   -- it ended as the plan says
-  pub ended : EndsAsPlanned m (plan_of (planned_orders whole orders)) trace end
+  pub ended : EndsAsPlanned m plan trace end
   -- the plan has the requests in doubt too
-  pub doubted : AreOnPlan (Some (plan_of (planned_orders whole orders))) doubt
+  pub doubted : AreOnPlan (Some plan) doubt
   -- all of the plan was served if nothing was refused
-  pub served : none → HasServed end.windows (plan_of (planned_orders whole orders))
+  pub served : none → HasServed end.windows plan
 
 -- it didn't begin: no request was served, nothing is in doubt, and something was refused
 pub record DidNotBegin (trace : List Line) (doubt : List Command) (none : Type 0) : Type 0 where
@@ -85,7 +85,13 @@ pub record DidNotBegin (trace : List Line) (doubt : List Command) (none : Type 0
   pub sure : doubt ≡ []
   pub refused : none → ⊥
 
--- a planned run of these orders ended as its plan says, or it didn't begin
-abbrev pub EndsOnPlan : Contents → Option (List Ask) → List Ask → List Line → List Command → Contents → Type 0 → Type 0
-EndsOnPlan m whole orders trace doubt end none =
-    RanByPlan m whole orders trace doubt end none ⊎ DidNotBegin trace doubt none
+-- a run by this plan ended as the plan says, or it didn't begin
+abbrev pub EndsOnPlan : Type 0 → List Request → Contents → List Line → List Command → Contents → Type 0 → Type 0
+EndsOnPlan Fits plan m trace doubt end none =
+    RanByPlan Fits plan m trace doubt end none ⊎ DidNotBegin trace doubt none
+
+-- The same of a run from this memory on, with this setup: the plan is of all requests of its orders, and fits the
+-- memory behind the setup.
+abbrev pub GoesByPlan : Contents → List Line → Type 0 → List Command → List Command → List Command → List Ask → Type 0
+GoesByPlan m trace none setup put doubt orders = EndsOnPlan (FitsPlan (after m setup) (plan_of orders)) (plan_of orders)
+    (after m setup) trace doubt (after m put) none

@@ -30,8 +30,8 @@ use Rattle.im_run.specs.declared.run.TheConstants.{STALLED}
 use Rattle.im_run.specs.declared.served.Did.{Did}
 use Rattle.im_run.specs.declared.served.Did.TheVariants.{Sent, Glanced}
 use Rattle.im_run.specs.Doing.{AreAllTold, HasToldScript}
-use Rattle.im_run.specs.Orders.{Ask, SetsUp}
-use Rattle.im_run.specs.Planned.{EndsOnPlan, HasServedWhole}
+use Rattle.im_run.specs.Orders.{Ask, Scope, SetsUp, all_of}
+use Rattle.im_run.specs.Planned.{EndsOnPlan, FitsIfNew, GoesByPlan, HasServedWhole, plan_of, planned_orders}
 use Rattle.im_run.specs.Tracing.{TraceState}
 
 -- the reason that a call of the disk failed
@@ -110,7 +110,8 @@ pub record ServersEnded {D : Type 0} (disk : Ghosts D) (planned : Bool) (whole :
     pub alone : none → AreCallsOf orders trace
     pub all_served : none → HasServedWhole engine.memory.windows whole
     pub as_planned : begun.engine.failed ≡ false → planned ≡ true
-        → EndsOnPlan begun.engine.memory whole orders trace doubt engine.memory none
+        → EndsOnPlan (FitsIfNew whole begun.engine.memory (plan_of (planned_orders whole orders)))
+        (plan_of (planned_orders whole orders)) begun.engine.memory trace doubt engine.memory none
 
 -- A session's servers of these orders ended with this trace, the session was closed, and this status was given.
 pub record EndedOn {D : Type 0} (disk : Ghosts D) (planned : Bool) (whole : Option (List Ask)) (orders : List Ask)
@@ -136,26 +137,21 @@ pub record Says (start : Contents) (setup put : List Command) (was is : Option (
 
 -- The setup of a script was ended, at some block, which may be in doubt: nothing was put behind it, nothing is told of
 -- the script, and the status is not 0.
-pub record HasEndedSetup (once : Bool) (start : Contents) (text : List ℕ) (setup doubt : List Command)
-    (trace : List Line) (status : ℕ) (did : List Did) : Type 0 where
+pub record HasEndedSetup (s : Scope) (start : Contents) (setup doubt : List Command) (trace : List Line) (status : ℕ)
+    (did : List Did) : Type 0 where
   pub left : List Wanted
-  pub began : SetsUp once start text (setup ++ doubt) left
+  pub began : SetsUp s start (setup ++ doubt) left
   pub unserved : trace ≡ []
   pub untold : did ≡ []
   pub refused : status ≡ 0 → ⊥
 
--- This is told of a script, of all that its parts ask for if the status is 0: its setup was served whole, and its parts
--- with this trace. Or its setup was ended.
-abbrev pub TellsScript : Bool → Bool → Contents → List ℕ → List Command → List Command → List Command → List Line → ℕ
-    → List Did → Type 0
-TellsScript once planned start text setup put doubt trace status did =
-    HasToldScript once planned start text setup put doubt trace (status ≡ 0) did
-    ⊎ HasEndedSetup once start text setup doubt trace status did
-
--- A script was run, once or anew, by a plan or freely, by a session that began there, and this status was given. The
--- session put these commands: those of the setup, and then the accepted ones of the servers' calls, which are legal
--- from the memory behind the setup. With status 0 or `STALLED` no call of the disk failed.
-pub record RunOn {D : Type 0} (disk : Ghosts D) (once planned : Bool) (text : List ℕ) (start : SessionStart D) (new : D)
+-- A session that began there did this of a script, and this status was given. It put these commands: those of the
+-- setup, and then the accepted ones of the servers' calls, which are legal from the memory behind the setup. With
+-- status 0 or `STALLED` no call of the disk failed. This is told of the script, of all that its parts ask for if the
+-- status is 0: its setup was served whole, and its parts. What else is told of the parts is `Also`, of the commands of
+-- the setup, of all that was put, of those in doubt, and of the parts' orders. Or its setup was ended.
+pub record RunOn {D : Type 0} (disk : Ghosts D) (s : Scope)
+    (Also : List Command → List Command → List Command → List Ask → Type 0) (start : SessionStart D) (new : D)
     (was is : Option (List ℕ)) (calls : TraceState) (status : ℕ) : Type 0 where
   pub put : List Command
   pub doubt : List Command
@@ -167,12 +163,25 @@ pub record RunOn {D : Type 0} (disk : Ghosts D) (once planned : Bool) (text : Li
   pub legal : IsLegal (after start.memory setup) calls.served
   pub put_is : put ≡ setup ++ accepted_in (after start.memory setup) calls.served
   pub printed : Says start.memory setup put was is status
-  pub tells : TellsScript once planned start.memory text setup put doubt calls.served status printed.did
+  pub tells : HasToldScript s (Also setup put doubt) start.memory setup calls.served (status ≡ 0) printed.did
+      ⊎ HasEndedSetup s start.memory setup doubt calls.served status printed.did
 
--- The image was opened, and a script was run on it, by a plan or freely; or the image was not opened. The disk is
--- honest at the end.
-abbrev pub RunsOn : {D : Type 0} → Ghosts D → Bool → List ℕ → D → D → Option (List ℕ) → Option (List ℕ) → TraceState
-    → ℕ → Type 0
-RunsOn {D} disk planned text old new was is calls status = disk.honest new
-    → NotOpened disk.now disk.past old new was is status ⊎ ((start : SessionStart D) × ((start.disk ≡ old)
-    × RunOn disk false planned text start new was is calls status))
+-- the image was opened, and a session began of which this is so; or it was not opened; the disk is honest at the end
+abbrev pub Opened : {D : Type 0} → Ghosts D → (SessionStart D → Type 0) → D → D → Option (List ℕ) → Option (List ℕ) → ℕ
+    → Type 0
+Opened {D} disk Came old new was is status = disk.honest new
+    → NotOpened disk.now disk.past old new was is status
+    ⊎ ((start : SessionStart D) × ((start.disk ≡ old) × Came start))
+
+-- all of a script was run
+abbrev pub RunsOn : {D : Type 0} → Ghosts D → List ℕ → D → D → Option (List ℕ) → Option (List ℕ) → TraceState → ℕ
+    → Type 0
+RunsOn disk text old new was is calls status = Opened disk
+    (λ start. RunOn disk (all_of text) (λ setup put doubt orders. Unit {0}) start new was is calls status) old new was
+    is status
+
+-- all of a script was run by the plan of its requests
+abbrev pub RunsPlanOn : {D : Type 0} → Ghosts D → List ℕ → D → D → Option (List ℕ) → Option (List ℕ) → TraceState → ℕ
+    → Type 0
+RunsPlanOn disk text old new was is calls status = Opened disk (λ start. RunOn disk (all_of text)
+    (GoesByPlan start.memory calls.served (status ≡ 0)) start new was is calls status) old new was is status

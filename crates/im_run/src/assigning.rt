@@ -41,7 +41,7 @@ pub(crate) fn make_workload(
         ≡ asks_among (first_asked asked.entry.once memory.now.contents) orders.items) }
     ensures whole { IfOk result (λ work. IsOfAll asked.entry.once bases.now (script_heard asked.entry.script.now)
         (asks_in work.whole)) }
-    ensures mode { IfOk result (λ work. work.mode ≡ asked.entry.mode) }
+    ensures planned { IfOk result (λ work. work.planned ≡ asked.entry.planned) }
 {
     let orders = match number_orders(alloc, memory, orders, asked.once) {
         Ok(orders) => orders,
@@ -55,7 +55,7 @@ pub(crate) fn make_workload(
             orders,
             whole,
             waits,
-            mode: asked.mode,
+            planned: asked.planned,
         }),
         Err(reason) => Err(reason),
     }

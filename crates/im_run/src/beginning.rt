@@ -203,13 +203,14 @@ pub fn begin<D: Disk + Drop, R: Wait>(
     alloc: Global,
     session: Session<D>,
     work: &Workload,
+    recorded: bool,
 ) -> Result<Opening<D>, (Reason, Session<D>)>
     ensures found { IfOk result (λ o. o.session ≡ session) }
-    ensures plan { IfOk result (λ o. work.now.mode.planned ≡ true
+    ensures plan { IfOk result (λ o. work.now.planned ≡ true
         → o.plan ≡ Some (plan_of (planned_orders (asks_in work.now.whole) (map ask_of work.now.orders.items)))) }
-    ensures fits { OnOk result (work.now.mode.planned ≡ true → FitsIfNew (asks_in work.now.whole) session.engine.memory
+    ensures fits { OnOk result (work.now.planned ≡ true → FitsIfNew (asks_in work.now.whole) session.engine.memory
         (plan_of (planned_orders (asks_in work.now.whole) (map ask_of work.now.orders.items)))) }
-    ensures recorded { IfOk result (λ o. o.book.recorded ≡ work.now.mode.recorded) }
+    ensures recorded { IfOk result (λ o. o.book.recorded ≡ recorded) }
     ensures there { IfOk result (λ _. AreThere session.engine.memory work.now.orders.items) }
     ensures same { IfErr result (λ e. e.1 ≡ session) }
 {
@@ -217,8 +218,8 @@ pub fn begin<D: Disk + Drop, R: Wait>(
     if let Some(element) = missing_element(session.memory(), orders) {
         return Err((Reason::Request(element, Refusal::NoElement), session));
     }
-    let room = room_if(work.mode.recorded, orders, session.memory().elements());
-    if work.mode.planned {
+    let room = room_if(recorded, orders, session.memory().elements());
+    if work.planned {
         return begin_by(rt, alloc, session, work, room);
     }
     begin_free(rt, alloc, session, room)

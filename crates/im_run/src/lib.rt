@@ -20,6 +20,7 @@ mod parts;
 mod planned;
 mod port_notes;
 mod run;
+mod script;
 mod served;
 mod sheet;
 mod stops;
@@ -31,8 +32,9 @@ mod wording;
 
 pub use context::RunContext;
 pub use once::run_once_on;
-pub use run::{STALLED, run_on};
-pub use sheet::{Assignment, RunMode};
+pub use run::STALLED;
+pub use script::{run_on, run_on_plan};
+pub use sheet::Assignment;
 pub use stops::{
     new_images_are_unrun, numbers_act_once_in_order, planned_scripts_have_one_end, run_over_stops,
 };

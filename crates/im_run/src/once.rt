@@ -7,8 +7,8 @@ ghost use Rattle.im_serial.specs.Serving.{seen_by};
 ghost use Rattle.im_run.specs.Once.{EndsOnce, RunsOnceOn};
 
 use crate::context::RunContext;
-use crate::opening::open_server;
 use crate::run::{STALLED, run_server};
+use crate::script::run_script;
 use crate::sheet::{Assignment, Commission};
 use crate::tracing::Trace;
 use im_disk::Disk;
@@ -45,9 +45,9 @@ fn refuse_rest<D: Disk, W: Write, N: Observer<News>>(
     (1, session.close())
 }
 
-// Prints what the memory of a server has of a script, and runs the rest. Returns the status, the session's disk, and
-// the trace.
-fn run_rest<
+/// Prints what the memory of a server has of a script, and runs the rest. Returns the status, the session's disk, and
+/// the trace.
+pub(crate) fn run_rest<
     D: Disk + Drop + Send,
     W: Write,
     N: Observer<News>,
@@ -57,15 +57,15 @@ fn run_rest<
 >(
     context: &RunContext<'_, G, V, R>,
     server: Server<D>,
-    asked: Assignment<'_, '_>,
+    asked: Commission<'_, '_>,
     out: &mut W,
     observer: &mut N,
 ) -> (u8, D, Trace)
     requires ready { HasServedNothing (seen_by server (W.contents out.old)) server.bases.items }
     ensures status { (result.0 ≤ 1) ⊎ (result.0 ≡ STALLED) }
-    ensures ends { EndsOnce D.Disk asked.entry.mode.planned asked.entry.script.now server.session.start result.1
+    ensures ends { EndsOnce D.Disk asked.entry.planned asked.entry.script.now server.session.start result.1
         (W.contents out.old) (W.contents out.new) result.2 result.0 }
-    ensures recorded { asked.entry.mode.recorded ≡ true → result.2.recorded ≡ true }
+    ensures recorded { context.now.recorded ≡ true → result.2.recorded ≡ true }
 {
     let alloc = context.alloc;
     let mut server = server;
@@ -76,7 +76,7 @@ fn run_rest<
             let asked = Commission {
                 script: asked.script,
                 once: true,
-                mode: asked.mode,
+                planned: asked.planned,
             };
             run_server(context, server, asked, out, observer)
         }
@@ -127,14 +127,15 @@ pub fn run_once_on<
     observer: &mut N,
 ) -> (u8, D, Trace)
     ensures status { (result.0 ≤ 1) ⊎ (result.0 ≡ STALLED) }
-    ensures run { RunsOnceOn D.Disk asked.entry.mode.planned asked.entry.script.now disk result.1 (W.contents out.old)
+    ensures run { RunsOnceOn D.Disk asked.entry.planned asked.entry.script.now disk result.1 (W.contents out.old)
         (W.contents out.new) result.2 result.0 }
-    ensures recorded { asked.entry.mode.recorded ≡ true → result.2.recorded ≡ true }
+    ensures recorded { context.now.recorded ≡ true → result.2.recorded ≡ true }
     ensures honest { D.honest result.1 → D.honest disk }
 {
-    let alloc = context.alloc;
-    match open_server(alloc, disk, out, observer) {
-        Ok(server) => run_rest(context, server, asked, out, observer),
-        Err((status, disk)) => (status, disk, Trace::new(alloc)),
-    }
+    let asked = Commission {
+        script: asked.script,
+        once: true,
+        planned: asked.planned,
+    };
+    run_script(context, disk, asked, out, observer)
 }

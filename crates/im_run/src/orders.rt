@@ -8,7 +8,7 @@ ghost use Rattle.im_serial.specs.Serving.{ServedBy};
 ghost use Rattle.im_run.specs.Orders.{AddsGlance, AddsRequest, ArePartsThere, BeginsAmong, HasAdded, HasHeard};
 ghost use Rattle.im_run.specs.Orders.{HasOrders, HasReadTo};
 ghost use Rattle.im_run.specs.Orders.{IsOfAll, ask_of, asks_among, asks_in, blocks_asked, blocks_of, first_asked};
-ghost use Rattle.im_run.specs.Orders.{line_blocks, script_heard, settled_by};
+ghost use Rattle.im_run.specs.Orders.{line_blocks, scope_when, script_heard, settled_by};
 
 use crate::assigning::{make_workload, with_parts};
 use crate::missing::missed_by;
@@ -239,13 +239,13 @@ pub fn read_orders<D: Disk, W: Write, N: Observer<News>>(
     observer: &mut N,
 ) -> (Result<Workload, Reason>, Vec<Line>)
     ensures served { ServedBy
-        (blocks_asked asked.entry.once server.old.session.engine.memory asked.entry.script.now) result.0 server.old
-        (W.contents out.old) server.new (W.contents out.new) }
+        (blocks_asked (scope_when asked.entry.once server.old.session.engine.memory asked.entry.script.now)) result.0
+        server.old (W.contents out.old) server.new (W.contents out.new) }
     ensures orders { IfOk result.0 (λ work. HasOrders asked.entry.once server.old.session.engine.memory
         server.new.session.engine.memory server.new.bases.items asked.entry.script.now work.orders.items) }
     ensures whole { IfOk result.0 (λ work. IsOfAll asked.entry.once server.new.bases.items
         (script_heard asked.entry.script.now) (asks_in work.whole)) }
-    ensures mode { IfOk result.0 (λ work. work.mode ≡ asked.entry.mode) }
+    ensures planned { IfOk result.0 (λ work. work.planned ≡ asked.entry.planned) }
     ensures there { OnOk result.0 (ArePartsThere (length server.old.session.engine.memory.windows)
         (script_heard asked.entry.script.now)) }
 {

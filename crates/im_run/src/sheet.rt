@@ -31,33 +31,24 @@ pub struct AllOrders {
     pub orders: Vec<Order>,
 }
 
-/// How a script is run.
-#[derive(Clone, Copy, Debug, PartialEq, Eq)]
-pub struct RunMode {
-    /// Whether its requests are a plan.
-    pub planned: bool,
-    /// Whether the servers' calls are recorded, so that they can be written as a trace: 48 bytes for each.
-    pub recorded: bool,
-}
-
-/// A script, and how it is run.
+/// A script that is run once, whatever stops it.
 #[derive(Clone, Copy)]
 pub struct Assignment<'s, 'a> {
     /// The script.
     pub script: &'s Script<'a>,
-    /// How it is run.
-    pub mode: RunMode,
+    /// Whether its requests are a plan.
+    pub planned: bool,
 }
 
-/// A script that is to be run, and whether it is done once: then what is settled of it isn't asked for anew.
+/// A script that is to be run, and how.
 #[derive(Clone, Copy)]
 pub struct Commission<'s, 'a> {
     /// The script.
     pub script: &'s Script<'a>,
-    /// Whether it is done once.
+    /// Whether it is done once: then what is settled of it isn't asked for anew.
     pub once: bool,
-    /// How it is run.
-    pub mode: RunMode,
+    /// Whether its requests are a plan.
+    pub planned: bool,
 }
 
 /// What the servers of a run do.
@@ -69,8 +60,8 @@ pub struct Workload {
     pub whole: Option<AllOrders>,
     /// The requests of earlier scripts that wait.
     pub waits: Vec<Waited>,
-    /// How it is run.
-    pub mode: RunMode,
+    /// Whether the requests are a plan.
+    pub planned: bool,
 }
 
 /// What was read of a script.

@@ -62,7 +62,7 @@ fn run_in<
     observer: &mut N,
 ) -> (u8, D)
     ensures status { (result.0 ≤ 1) ⊎ (result.0 ≡ STALLED) }
-    ensures keeps { KeepsRuns D.Disk asked.entry.mode.planned asked.entry.script.now disk result.1 result.0 }
+    ensures keeps { KeepsRuns D.Disk asked.entry.planned asked.entry.script.now disk result.1 result.0 }
 {
     let (status, disk, _trace) = run_once_on(context, disk, asked, out, observer);
     (status, disk)
@@ -98,9 +98,9 @@ pub fn run_over_stops<
         (LedBy (LeadTo limits)) }
     ensures served { (limits : Limits) → result.0 ≡ 0 → CarriesOver image.disk.moment (LedBy (LeadTo limits))
         result.1.moment (LedBy (HasAll limits asked.entry.script.now)) }
-    ensures planned { (limits : Limits) → asked.entry.mode.planned ≡ true
+    ensures planned { (limits : Limits) → asked.entry.planned ≡ true
         → CarriesPlanOver limits asked.entry.script.now image.disk.moment result.1.moment HasRunByPlan }
-    ensures ended { (limits : Limits) → asked.entry.mode.planned ≡ true → result.0 ≡ 0
+    ensures ended { (limits : Limits) → asked.entry.planned ≡ true → result.0 ≡ 0
         → CarriesPlanOver limits asked.entry.script.now image.disk.moment result.1.moment HasDoneByPlan }
 {
     let Interrupted { mut disk, stops } = image;

@@ -6,7 +6,7 @@ use crate::heard::Hearing;
 use crate::scripts::script_of;
 use im_disk::Mode;
 use im_report::inspect_on;
-use im_run::{Assignment, RunContext, RunMode, run_on, run_once_on, write_trace};
+use im_run::{Assignment, RunContext, run_on, run_on_plan, run_once_on, write_trace};
 use im_script::read_script_with_glances;
 use im_serving::{EarlierAnswer, Gate, Host, Open};
 use im_story::{Printout, Saying};
@@ -20,18 +20,18 @@ use std::sync::Mutex;
 #[derive(Clone, Copy)]
 pub struct How {
     once: bool,
-    mode: RunMode,
+    planned: bool,
+    recorded: bool,
 }
 
 impl How {
     // Reads the word of a call.
     fn of(call: &str) -> How {
-        let mode = RunMode {
+        How {
+            once: call.starts_with("once") || call.starts_with("again"),
             planned: call.ends_with("plan"),
             recorded: call == "trace",
-        };
-        let once = call.starts_with("once") || call.starts_with("again");
-        How { once, mode }
+        }
     }
 }
 
@@ -140,7 +140,7 @@ impl<'a> RunDesk<'a> {
         script: &str,
         gate: &G,
     ) -> u8 {
-        let (alloc, mode) = (self.place.alloc, how.mode);
+        let alloc = self.place.alloc;
         self.out = Printout::new(alloc);
         let Ok(script) = read_script_with_glances(alloc, script.as_bytes()) else {
             return 2;
@@ -152,19 +152,19 @@ impl<'a> RunDesk<'a> {
         let heard = Mutex::new(Vec::new(alloc));
         let hearing = Hearing { rt, heard: &heard };
         let (out, noted) = (&mut self.out, &mut self.noted);
-        let context = RunContext::new(rt, alloc, gate, hearing);
-        let asked = Assignment {
-            script: &script,
-            mode,
-        };
+        let context = RunContext::new(rt, alloc, gate, hearing, how.recorded);
+        let (script, planned) = (&script, how.planned);
         let (status, disk, trace) = if how.once {
+            let asked = Assignment { script, planned };
             run_once_on(&context, disk, asked, out, noted)
+        } else if planned {
+            run_on_plan(&context, disk, script, out, noted)
         } else {
-            run_on(&context, disk, asked, out, noted)
+            run_on(&context, disk, script, out, noted)
         };
         self.noted.note_told(heard.lock(rt).as_slice());
         self.place.lay_down(disk);
-        if mode.recorded {
+        if how.recorded {
             self.out = Printout::new(alloc);
             let is_written = write_trace(alloc, &trace, &mut self.out).is_ok();
             self.said.so(is_written, "")
@@ -187,7 +187,7 @@ impl<'a> RunDesk<'a> {
             Err(_) => self.serve(rt, how, script.said(), &Open),
         };
         self.said.text(self.out.text());
-        if !how.mode.recorded {
+        if !how.recorded {
             writeln!(self.said, "status {status}")
         }
     }

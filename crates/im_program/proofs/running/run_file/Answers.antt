@@ -6,30 +6,13 @@ use Rattle.im_program.proofs.Crosses.{FileDisk-row-send}
 use Rattle.im_program.proofs.SourceLemmas.{text_as}
 use Rattle.im_program.proofs.running.run_file.Goals as goal
 
-pub run_once_on-requires-send-D : goal.run_once_on-requires-send-D
-run_once_on-requires-send-D g c κs within =
+pub run_task-requires-send-D : goal.run_task-requires-send-D
+run_task-requires-send-D g c κs within =
     let disk = FileDisk-row-send (param 1 g.row.S) g.S.Start c.type_bounds.send-S in
     search (sendable, crosses) depth 40 fits 30000
-
-pub run_on-requires-send-D : goal.run_on-requires-send-D
-run_on-requires-send-D g c κs within =
-    let disk = FileDisk-row-send (param 1 g.row.S) g.S.Start c.type_bounds.send-S in
-    search (sendable, crosses) depth 40 fits 30000
-
-pub returns-then-running-clause-ran : goal.returns-then-running-clause-ran
-returns-then-running-clause-ran g c = rw c.if-running.true (record {
-  old = c.in_ok-disk.disk;
-  begins = c.in_ok-disk.ensures.now;
-  none = c.in_ok-disk.ensures.past;
-  text = c.in_ok-script.script;
-  read = text_as _ c.in_ok-text.text.items c.in_ok-script.script
-      (c.in_ok-script.ensures.text ∙ c.as_slice.ensures.value)
-      (rw c.parts-input.ensures.input at c.in_ok-text.ensures.text);
-  run = rw c.mode_of.ensures.planned at c.run_once_on.ensures.run;
-})
 
 pub returns-clause-ran : goal.returns-clause-ran
-returns-clause-ran g c = rw c.if-running.false (record {
+returns-clause-ran g c = record {
   old = c.in_ok-disk.disk;
   begins = c.in_ok-disk.ensures.now;
   none = c.in_ok-disk.ensures.past;
@@ -37,12 +20,9 @@ returns-clause-ran g c = rw c.if-running.false (record {
   read = text_as _ c.in_ok-text.text.items c.in_ok-script.script
       (c.in_ok-script.ensures.text ∙ c.as_slice.ensures.value)
       (rw c.parts-input.ensures.input at c.in_ok-text.ensures.text);
-  run = rw c.mode_of.ensures.planned at c.run_on.ensures.run;
-})
-
-pub returns-then-running-clause-recorded : goal.returns-then-running-clause-recorded
-returns-then-running-clause-recorded g c = λ asked.
-    c.run_once_on.ensures.recorded (c.mode_of.ensures.recorded ∙ asked)
+  run = c.run_task.ensures.run;
+}
 
 pub returns-clause-recorded : goal.returns-clause-recorded
-returns-clause-recorded g c = λ asked. c.run_on.ensures.recorded (c.mode_of.ensures.recorded ∙ asked)
+returns-clause-recorded g c = λ asked.
+    c.run_task.ensures.recorded (c.new-context.ensures ∙ c.is_some.ensures ∙ asked)

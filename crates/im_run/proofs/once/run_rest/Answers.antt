@@ -33,7 +33,7 @@ returns-in-Ok-clause-ends g c =
     let mid = seen_by s (g.W.Write.contents c.show_past.new.out) in
     let r = c.run_server in
     inr (rest_by g.D.Disk (wanted_of c.args.asked.script.now) old mid was.bases.items c.requires.ready s.bases.items
-    c.in-Ok.ensures.shown c.args.asked.mode.planned c.args.asked.script.now refl c.in-Ok.ensures.fit r.result.1
+    c.in-Ok.ensures.shown c.args.asked.planned c.args.asked.script.now refl c.in-Ok.ensures.fit r.result.1
     (g.W.Write.contents r.new.out) r.result.2 r.result.0 r.ensures.run)
 
 pub returns-in-Err-clause-ends : goal.returns-in-Err-clause-ends

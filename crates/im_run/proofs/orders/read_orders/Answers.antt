@@ -60,9 +60,9 @@ returns-in-Ok-set_up-clause-whole g c = if_ok_of _ c.with_parts.result c.make_wo
     (λ work whole. subst (λ (b : List ℕ). IsOfAll c.args.asked.once b (script_heard c.args.asked.script.now)
     (asks_in work.whole)) c.as_slice-bases.ensures.value whole))
 
-pub returns-in-Ok-set_up-clause-mode : goal.returns-in-Ok-set_up-clause-mode
-returns-in-Ok-set_up-clause-mode g c = if_ok_of _ c.with_parts.result c.make_workload-work.result
-    c.with_parts.ensures.work c.make_workload-work.ensures.mode
+pub returns-in-Ok-set_up-clause-planned : goal.returns-in-Ok-set_up-clause-planned
+returns-in-Ok-set_up-clause-planned g c = if_ok_of _ c.with_parts.result c.make_workload-work.result
+    c.with_parts.ensures.work c.make_workload-work.ensures.planned
 
 pub returns-in-Ok-set_up-clause-there : goal.returns-in-Ok-set_up-clause-there
 returns-in-Ok-set_up-clause-there g c =

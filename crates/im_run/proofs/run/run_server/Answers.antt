@@ -7,9 +7,9 @@ use Rattle.im_serial.specs.Noted.{notes}
 use Rattle.im_serial.specs.Serving.{EndedAt, GoingAt, seen_by, server_of}
 use Rattle.im_serial.proofs.AskedLemmas.{named_here, stands_here}
 use Rattle.im_serial.proofs.ScriptedLemmas.{as_of}
-use Rattle.im_run.specs.declared.sheet.RunMode.{RunMode}
-use Rattle.im_run.specs.Orders.{ask_of, asks_in}
-use Rattle.im_run.specs.Running.{EndedOn, RunOn}
+use Rattle.im_run.specs.Once.{RunWhen}
+use Rattle.im_run.specs.Orders.{ask_of, asks_in, scope_when}
+use Rattle.im_run.specs.Running.{EndedOn}
 use Rattle.im_run.specs.Tracing.{TraceState}
 use Rattle.im_run.proofs.BlocksLemmas.{begun, names_made, sets_up, setup_course}
 use Rattle.im_run.proofs.OrdersLemmas.{if_ok_at, match_ok}
@@ -25,10 +25,11 @@ returns-in-Ok-clause-run g c =
     let at = ap (λ (x : SessionState g.row.D.Denot). x.start) c.requires.ready.fresh in
     let held = g.W.Write.contents c.args.out.now in
     let once = c.args.asked.once in
-    let planned = c.args.asked.mode.planned in
+    let planned = c.args.asked.planned in
     let script = c.args.asked.script.now in
     let known = c.requires.bases in
-    let course = setup_course once m script server.bases.items known in
+    let scope = scope_when once m script in
+    let course = setup_course scope m server.bases.items known in
     let r = c.read_orders-read in
     let from = g.W.Write.contents r.new.out in
     let after = r.new.server in
@@ -41,21 +42,21 @@ returns-in-Ok-clause-run g c =
     let it = going.serving in
     let orders = map ask_of c.in-Ok.work.orders.items in
     let whole = asks_in c.in-Ok.work.whole in
-    let mode = if_ok_at _ r.result.0 c.in-Ok.work c.in-Ok.is r.ensures.mode in
+    let same = if_ok_at _ r.result.0 c.in-Ok.work c.in-Ok.is r.ensures.planned in
     let s = c.serve_on-status in
     let is = g.W.Write.contents s.new.out in
     let calls : TraceState =
     record { setup = r.result.1.items; served = s.result.2.items; recorded = s.result.2.recorded } in
-    subst (λ (x : SessionStart g.row.D.Denot). RunOn d once planned script x s.result.1 held is calls s.result.0) (sym
+    subst (λ (x : SessionStart g.row.D.Denot). RunWhen d once planned script x s.result.1 held is calls s.result.0) (sym
     at)
     (ended_run d once planned script start t bases whole orders there (notes after.waited.items
     after.places.marks.items) going.text held from is after.lines s.result.1 calls s.result.0 it going.printed
     (subst (λ (p : Bool). EndedOn d p whole orders t s.result.1 from after.lines is s.result.2.items s.result.0)
-    (ap (λ (m : RunMode). m.planned) mode) s.ensures.ended)
+    same s.ensures.ended)
     (if_ok_at _ r.result.0 c.in-Ok.work c.in-Ok.is r.ensures.orders)
     (if_ok_at _ r.result.0 c.in-Ok.work c.in-Ok.is r.ensures.whole)
-    (sets_up once m script server.bases.items known t.put [] (stands_here m there t.put it.reached))
-    (names_made once m script server.bases.items known t.put bases (named_here m there t.put it.named))
+    (sets_up scope m server.bases.items known t.put [] (stands_here m there t.put it.reached))
+    (names_made scope m server.bases.items known t.put bases (named_here m there t.put it.named))
     (match_ok _ r.result.0 c.in-Ok.work c.in-Ok.is r.ensures.there))
 
 pub returns-in-Err-clause-run : goal.returns-in-Err-clause-run
@@ -67,10 +68,11 @@ returns-in-Err-clause-run g c =
     let at = ap (λ (x : SessionState g.row.D.Denot). x.start) c.requires.ready.fresh in
     let held = g.W.Write.contents c.args.out.now in
     let once = c.args.asked.once in
-    let planned = c.args.asked.mode.planned in
+    let planned = c.args.asked.planned in
     let script = c.args.asked.script.now in
     let known = c.requires.bases in
-    let course = setup_course once m script server.bases.items known in
+    let scope = scope_when once m script in
+    let course = setup_course scope m server.bases.items known in
     let r = c.read_orders-read in
     let v = c.leave-session in
     let n = c.no_server-ending in
@@ -91,15 +93,9 @@ returns-in-Err-clause-run g c =
     (r.ensures.served.ends server.session.start held (Some course) []
     (begun course (seen_by server held) [] c.requires.ready refl))) in
     let over = ended.over in
-    subst (λ (x : SessionStart g.row.D.Denot). RunOn d once planned script x k.result.1 held is calls k.result.0) (sym
+    subst (λ (x : SessionStart g.row.D.Denot). RunWhen d once planned script x k.result.1 held is calls k.result.0) (sym
     at)
     (halted_run d once planned script start t (Some course) w ended.text held from is lines n.result.did.items
     k.result.1 calls k.result.0 over k.ensures.kept ended.printed n.ensures.none k.ensures.disk k.ensures.works
     (λ zero. n.ensures.refused (k.ensures.done zero)) k.ensures.printed c.new-served.ensures.items over.left
-    (sets_up once m script server.bases.items known (t.put ++ t.doubt) over.left over.leads))
-
-pub returns-in-Ok-clause-recorded : goal.returns-in-Ok-clause-recorded
-returns-in-Ok-clause-recorded g c = λ recorded.
-    let r = c.read_orders-read in
-    c.serve_on-status.ensures.recorded (ap (λ (m : RunMode). m.recorded)
-    (if_ok_at _ r.result.0 c.in-Ok.work c.in-Ok.is r.ensures.mode) ∙ recorded)
+    (sets_up scope m server.bases.items known (t.put ++ t.doubt) over.left over.leads))

@@ -32,7 +32,7 @@ returns-in-Ok-clause-ended g c =
     let k = c.close-status in
     let orders = map ask_of c.args.work.orders.items in
     let whole = asks_in c.args.work.whole in
-    let planned = c.args.work.mode.planned in
+    let planned = c.args.work.planned in
     let trace = s.result.1.items in
     let did = s.result.0.did.items in
     let engine = s.result.0.session.engine in
@@ -62,7 +62,7 @@ returns-in-Err-clause-ended g c =
     let trace = c.new.result.items in
     let did = n.result.did.items in
     let never : k.result.0 ≡ 0 → ⊥ = λ zero. n.ensures.refused (k.ensures.done zero) in
-    subst (λ (x : SessionState g.row.D.Denot). EndedOn g.D.Disk c.args.work.mode.planned whole orders x k.result.1 was
+    subst (λ (x : SessionState g.row.D.Denot). EndedOn g.D.Disk c.args.work.planned whole orders x k.result.1 was
     c.args.server.lines is trace k.result.0) (n.ensures.session ∙ c.in-Err.ensures.same ∙ v.ensures.session) (record {
       engine = t.engine;
       closed = k.ensures.disk;

@@ -7,6 +7,6 @@ use Rattle.im_session.specs.Carrying.{LedBy}
 abbrev pub invariant-loop-at : goal.invariant-loop-at
 invariant-loop-at g l = ((limits : Limits) → CarriesOver l.fn.image.disk.moment (LedBy (LeadTo limits)) l.disk.moment
     (LedBy (LeadTo limits)))
-    × ((limits : Limits) → l.asked.mode.planned ≡ true
+    × ((limits : Limits) → l.asked.planned ≡ true
     → CarriesOver l.fn.image.disk.moment (LedBy (HasRunByPlan limits l.asked.script.now)) l.disk.moment
     (LedBy (HasRunByPlan limits l.asked.script.now)))
