@@ -71,7 +71,6 @@ pub(crate) fn run_script<
     ensures run { RunsWhen D.Disk asked.entry.once asked.entry.planned asked.entry.script.now disk result.1
         (W.contents out.old) (W.contents out.new) result.2 result.0 }
     ensures recorded { context.now.recorded ≡ true → result.2.recorded ≡ true }
-    ensures honest { D.honest result.1 → D.honest disk }
 {
     let alloc = context.alloc;
     match open_server(alloc, disk, out, observer) {
@@ -132,7 +131,7 @@ pub(crate) fn run_script<
 /// - `run`, nobody else: with status 0 each line that the servers left in the trace is of a request of the script's
 ///   parts, under its number, or of a confirmation or a collect of an element that has a part.
 /// - `recorded`: the servers' calls are in the trace, if the context says so.
-/// - `honest`: the disk was honest at the start, if it is at the end. What `run` says holds of such a disk.
+/// - `run`, honesty: the disk was honest at the start, if it is at the end. All else holds of such a disk.
 pub fn run_on<
     D: Disk + Drop + Send,
     W: Write,
@@ -150,7 +149,6 @@ pub fn run_on<
     ensures status { (result.0 ≤ 1) ⊎ (result.0 ≡ STALLED) }
     ensures run { RunsOn D.Disk script.now disk result.1 (W.contents out.old) (W.contents out.new) result.2 result.0 }
     ensures recorded { context.now.recorded ≡ true → result.2.recorded ≡ true }
-    ensures honest { D.honest result.1 → D.honest disk }
 {
     let asked = Commission {
         script,
@@ -186,7 +184,6 @@ pub fn run_on_plan<
     ensures run { RunsPlanOn D.Disk script.now disk result.1 (W.contents out.old) (W.contents out.new) result.2
         result.0 }
     ensures recorded { context.now.recorded ≡ true → result.2.recorded ≡ true }
-    ensures honest { D.honest result.1 → D.honest disk }
 {
     let asked = Commission {
         script,
