@@ -1,5 +1,6 @@
 """What the sources of this repository contain, for the scripts beside this file: crates, functions with their clauses,
 lemmas."""
+import functools
 import re
 import shutil
 import subprocess
@@ -14,6 +15,8 @@ OWNER = re.compile(r"(?:pub )?(impl|trait)\b(?:<[^{]*?>)? *(?:[^{]* for )?(\w+)"
 CLAUSE = re.compile(r"\s*(requires|ensures)\*? *(\w*) *\{")
 TYPE = re.compile(r"^(?:pub(?:\([a-z]+\))? )?(?:struct|enum|trait) (\w+)", re.M)
 DEFINITION = re.compile(r"^(?:abbrev pub|unfoldable pub|pub record|pub data|pub) (?!mod |use )([^\s:({]+)", re.M)
+IMPORT = re.compile(r"^[ \t]*(?:(?:pub|unfoldable|ghost) )*use ([\w.]+?)\.?\{([^{}]*)\}", re.M)
+WORDS = "im_types", "specs.Types"  # The page that passes on the words that all crates share.
 LEMMA = re.compile(r"(|  )(?:(?:pub|abbrev|unfoldable) )*([^\s:(){},|]+) : ")
 
 
@@ -172,6 +175,33 @@ def split(text):
         else:
             parts[-1] += sign
     return parts
+
+
+def taken(text):
+    """Yields what a text brings in, name by name: the path of each, and the name that the text has for it."""
+    for of, names in IMPORT.findall(text):
+        for own, _, seen in (" ".join(it.split()).partition(" as ") for it in names.split(",") if it.strip()):
+            yield f"{of}.{own}", seen or own.rpartition(".")[2]
+
+
+@functools.lru_cache(maxsize=None)
+def passed_on(top=TOP):
+    """Returns what the page of shared words passes on: each name that it has with its path."""
+    crate, module = WORDS
+    page = top / "crates" / crate / f"{module.replace('.', '/')}.antt"
+    return {seen: own for own, seen in taken(page.read_text())} if page.is_file() else {}
+
+
+def imports(text, top=TOP):
+    """Yields what a file brings in from crates of this repository: the crate, the module there (`specs.Act`), its name
+    there, and the name that the file has for it. It looks through the page of shared words."""
+    page = f"Rattle.{'.'.join(WORDS)}."
+    for path, seen in taken(text):
+        if path.startswith(page):
+            path = passed_on(top).get(path.removeprefix(page), path)
+        root, crate, *module, own = path.split(".") if path.count(".") > 2 else ("", "", "", "")
+        if root == "Rattle":
+            yield crate, ".".join(module), own, seen
 
 
 def types(crate, top=TOP):

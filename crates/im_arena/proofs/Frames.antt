@@ -1,26 +1,19 @@
 -- Which records a move of a node changes.
-use Rattle.std.proofs.Common.{◌≡◌, ◌≢◌, ℕ, zero, suc, ◌+◌, ◌-◌, ◌<◌, ◌≤◌, false, List, [], ◌∷◌, map, length, get_or}
-use Rattle.std.proofs.Common.{set, take, slice_get, Some, None, Option, refl, sym, ap, ◌∙◌, inl, inr, arith}
-use Rattle.std.proofs.Common.{length-set}
-use Rattle.std.specs.Prelude.{option_map, unwrap_or}
-use Rattle.std.proofs.lemmas.Bool.{cases_eq, cases_lt, le-ltb}
+use Rattle.std.proofs.Common.{◌≡◌, ℕ, zero, suc, ◌+◌, ◌-◌, ◌<◌, ◌≤◌, false, ◌≢◌, List, [], ◌∷◌, map, length, get_or}
+use Rattle.std.proofs.Common.{take, set, slice_get, Some, None, Option, option_map, unwrap_or, sym, refl, ap, ◌∙◌, inl}
+use Rattle.std.proofs.Common.{inr, arith, length-set, get_or-set_other, get_or-take, get_or-set_same, le-ltb}
+use Rattle.std.proofs.lemmas.{Bool.cases_eq, Bool.cases_lt, List.get_or-map}
 use Rattle.std.proofs.lemmas.Option.{slice_get-get_or, slice_get-map, unwrap_or-slice_get}
-use Rattle.std.proofs.lemmas.List.{get_or-set_same, get_or-set_other, get_or-take, get_or-map}
-use Rattle.im_types.specs.declared.TheConstants.{NONE}
-use Rattle.im_types.specs.declared.operations.Waiter.{Waiter}
-use Rattle.im_arena.specs.declared.table.Node.{Node}
-use Rattle.im_types.specs.declared.records.NodeRecord.{NodeRecord}
-use Rattle.im_arena.specs.declared.table.Row.{Row}
-use Rattle.im_arena.specs.Lists.{Links, free_record, link_of, ends_at, first_in, last_in, next_in, node_at, list_at}
-use Rattle.im_arena.specs.Lists.{IsPushed, IsPopped}
-use Rattle.im_arena.specs.Table.{blank_node, blank_row, Span, record_if, record_of, ends_of, next_of, used_of}
-use Rattle.im_arena.specs.Table.{count_of, list_first, list_last, spans_of, Transferred, shown_table, IsArena}
-use Rattle.im_arena.specs.Chain.{place_from}
-use Rattle.im_arena.proofs.Moves.{place_from-same}
-use Rattle.im_arena.proofs.Tables.{span_at, last_within, last-some}
-use Rattle.im_arena.proofs.Views.{length-row, length-held, span_count}
-use Rattle.im_arena.proofs.Threads.{IsThreaded-shown, first_in-ends_of, first_is, last_is, used_at, within, row_span}
-use Rattle.im_arena.proofs.Threads.{used_next, length_is}
+use Rattle.im_types.specs.Types.{Waiter, NONE, NodeRecord}
+use Rattle.im_arena.proofs.{Moves.place_from-same, Tables.last-some, Tables.last_within, Tables.span_at}
+use Rattle.im_arena.proofs.Threads.{first_in-ends_of, first_is, IsThreaded-shown, last_is, length_is, row_span, used_at}
+use Rattle.im_arena.proofs.Threads.{used_next, within}
+use Rattle.im_arena.proofs.Views.{length-held, length-row, span_count}
+use Rattle.im_arena.specs.{Chain.place_from, declared.table.Node.Node, declared.table.Row.Row}
+use Rattle.im_arena.specs.Lists.{ends_at, first_in, free_record, IsPopped, IsPushed, last_in, link_of, Links, list_at}
+use Rattle.im_arena.specs.Lists.{next_in, node_at}
+use Rattle.im_arena.specs.Table.{blank_node, blank_row, count_of, ends_of, IsArena, list_first, list_last, next_of}
+use Rattle.im_arena.specs.Table.{record_if, record_of, shown_table, Span, spans_of, Transferred, used_of}
 
 -- what stands at another place stays
 pub slice_get-set_other : {X : Type 0} (xs : List X) (i j : ℕ) (x : X) → j ≢ i → slice_get (set xs i x) j

@@ -1,9 +1,8 @@
 -- A node moved from the front of one chain to the end of another.
-use Rattle.std.proofs.Common.{◌≡◌, ◌≢◌, ℕ, zero, suc, ◌+◌, ◌-◌, ◌<◌, Bool, [], ◌∷◌, ◌++◌, refl, sym, ap, subst, ◌∙◌}
-use Rattle.std.proofs.Common.{inl, inr, arith}
-use Rattle.std.specs.Prelude.{nat_lt}
+use Rattle.std.proofs.Common.{◌≡◌, ℕ, zero, suc, ◌+◌, ◌-◌, ◌<◌, Bool, ◌≢◌, [], ◌∷◌, ◌++◌, nat_lt, sym, refl, ap, ◌∙◌}
+use Rattle.std.proofs.Common.{subst, inl, inr, arith}
 use Rattle.std.proofs.lemmas.Bool.{cases_eq}
-use Rattle.im_arena.specs.Chain.{place_from, along, Chains}
+use Rattle.im_arena.specs.Chain.{along, Chains, place_from}
 
 -- links that agree on the way lead to one node
 pub place_from-same : (f g : ℕ → ℕ) (at j : ℕ) → ((i : ℕ) → i < j → g (place_from f at i) ≡ f (place_from f at i))

@@ -1,8 +1,7 @@
 -- A list without its first waiter leaves as many nodes free, or one more.
-use Rattle.std.proofs.Common.{ℕ, ◌-◌, ◌<◌, List, [], length, get_or, set, drop, arith, length-drop}
-use Rattle.std.specs.List.{sum_by}
+use Rattle.std.proofs.Common.{ℕ, ◌-◌, ◌<◌, List, [], length, get_or, drop, set, sum_by, arith, length-drop}
 use Rattle.std.proofs.lemmas.List.Sums.{sum_by-set}
-use Rattle.im_types.specs.declared.operations.Waiter.{Waiter}
+use Rattle.im_types.specs.Types.{Waiter}
 
 pub room_after_pop : (nodes : ℕ) (lists : List (List Waiter)) (list : ℕ) → list < length lists
     → 0 < nodes - sum_by length lists

@@ -1,22 +1,17 @@
 -- The table of a new arena: one row with all nodes in turn.
-use Rattle.std.proofs.Common.{◌≡◌, ◌≢◌, ℕ, zero, suc, ◌+◌, ◌-◌, ◌*◌, ◌<◌, ◌≤◌, List, [], length, get_or, take}
-use Rattle.std.proofs.Common.{replicate, refl, sym, ap, ◌∙◌, inl, inr, arith, length-set}
-use Rattle.std.specs.Prelude.{nat_lt}
-use Rattle.std.proofs.lemmas.Bool.{cases_eq, eq-eqb, le-ltb}
-use Rattle.std.proofs.lemmas.List.{take_all, get_or-take, length-take-le, get_or-set_same, get_or-set_other}
-use Rattle.std.proofs.lemmas.List.{get_or-replicate, length-replicate, length-map, ext_get_or}
-use Rattle.std.proofs.lemmas.List.Sums.{sum_by_more}
-use Rattle.std.proofs.lemmas.List.Folds.{sum_by-replicate}
-use Rattle.std.specs.List.{sum_by}
-use Rattle.im_types.specs.declared.TheConstants.{NONE}
-use Rattle.im_arena.specs.declared.table.Node.{Node}
-use Rattle.im_arena.specs.declared.table.Row.{Row}
-use Rattle.im_arena.specs.Chain.{place_from}
-use Rattle.im_arena.specs.Table.{Span, blank_row, blank_span, empty_row, full_row, start_rows, AreFree, next_of}
-use Rattle.im_arena.specs.Table.{used_of, list_first, list_last, count_of, span_of, spans_of, waiters_on, held, IsArena}
-use Rattle.im_arena.proofs.Moves.{place_from-last}
+use Rattle.std.proofs.Common.{◌≡◌, ℕ, zero, suc, ◌+◌, ◌-◌, ◌*◌, ◌<◌, ◌≤◌, ◌≢◌, List, [], length, get_or, take}
+use Rattle.std.proofs.Common.{replicate, nat_lt, sum_by, sym, refl, ap, ◌∙◌, inl, inr, arith, length-set}
+use Rattle.std.proofs.Common.{length-take-le, take_all, get_or-set_other, get_or-take, get_or-set_same, ext_get_or}
+use Rattle.std.proofs.Common.{le-ltb, eq-eqb}
+use Rattle.std.proofs.lemmas.{Bool.cases_eq, List.Folds.sum_by-replicate}
+use Rattle.std.proofs.lemmas.List.{get_or-replicate, length-map, length-replicate, Sums.sum_by_more}
+use Rattle.im_types.specs.Types.{NONE}
+use Rattle.im_arena.proofs.{Moves.place_from-last, Views.length-held, Views.list_at-held}
 use Rattle.im_arena.proofs.Tables.{eqb-no, span_at, steps-are}
-use Rattle.im_arena.proofs.Views.{list_at-held, length-held}
+use Rattle.im_arena.specs.{Chain.place_from, declared.table.Node.Node, declared.table.Row.Row}
+use Rattle.im_arena.specs.Table.{AreFree, blank_row, blank_span, count_of, empty_row, full_row, held, IsArena}
+use Rattle.im_arena.specs.Table.{list_first, list_last, next_of, Span, span_of, spans_of, start_rows, used_of}
+use Rattle.im_arena.specs.Table.{waiters_on}
 
 place_from-counts : (next : ℕ → ℕ) (n i : ℕ) → ((k : ℕ) → k + 1 < n → next k ≡ k + 1) → i < n → place_from next 0 i ≡ i
 place_from-counts next n zero h lt = refl

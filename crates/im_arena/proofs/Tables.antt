@@ -1,21 +1,15 @@
 -- A node moved between the rows of a table.
-use Rattle.std.proofs.Common.{◌≡◌, ◌≢◌, ℕ, zero, suc, ◌+◌, ◌-◌, ◌<◌, ◌≤◌, Bool, true, false, List, [], ◌∷◌, ◌++◌}
-use Rattle.std.proofs.Common.{length, get_or, set, eqb, refl, sym, ap, subst, ◌∙◌, inl, inr, arith, length-set}
-use Rattle.std.specs.Prelude.{nat_lt}
-use Rattle.std.proofs.lemmas.Bool.{cases_eq, eqb-true, eq-eqb}
-use Rattle.std.proofs.lemmas.List.{get_or-set_same, get_or-set_other, get_or-map, length-map, ext_get_or}
-use Rattle.std.proofs.lemmas.List.Sums.{sum_by-set, get_or-le-sum_by}
-use Rattle.std.specs.List.{sum_by}
-use Rattle.im_types.specs.declared.TheConstants.{NONE}
-use Rattle.im_types.specs.declared.operations.Waiter.{Waiter}
-use Rattle.im_arena.specs.declared.table.Node.{Node}
-use Rattle.im_arena.specs.declared.table.Row.{Row}
-use Rattle.im_arena.specs.Table.{Span, blank_node, blank_row, blank_span, waiter_in, next_of, used_of, waiter_of}
-use Rattle.im_arena.specs.Table.{list_first, list_last, count_of, row_at, steps_from, span_of, spans_of, Sound}
-use Rattle.im_arena.specs.Table.{Attached}
-use Rattle.im_arena.specs.Table.{Detached, Transferred}
-use Rattle.im_arena.specs.Chain.{place_from}
-use Rattle.im_arena.proofs.Moves.{place_from-last, Moves, Chains-moved, along_other, along_from, along_to}
+use Rattle.std.proofs.Common.{◌≡◌, ℕ, zero, suc, ◌+◌, ◌-◌, ◌<◌, ◌≤◌, Bool, true, false, eqb, ◌≢◌, List, [], ◌∷◌, ◌++◌}
+use Rattle.std.proofs.Common.{length, get_or, set, nat_lt, sum_by, sym, refl, ap, ◌∙◌, subst, inl, inr, arith}
+use Rattle.std.proofs.Common.{length-set, get_or-set_other, get_or-set_same, ext_get_or, eq-eqb, eqb-true}
+use Rattle.std.proofs.lemmas.Bool.{cases_eq}
+use Rattle.std.proofs.lemmas.List.{get_or-map, length-map, Sums.get_or-le-sum_by, Sums.sum_by-set}
+use Rattle.im_types.specs.Types.{Waiter, NONE}
+use Rattle.im_arena.proofs.Moves.{along_from, along_other, along_to, Chains-moved, Moves, place_from-last}
+use Rattle.im_arena.specs.{Chain.place_from, declared.table.Node.Node, declared.table.Row.Row}
+use Rattle.im_arena.specs.Table.{Attached, blank_node, blank_row, blank_span, count_of, Detached, list_first, list_last}
+use Rattle.im_arena.specs.Table.{next_of, row_at, Sound, Span, span_of, spans_of, steps_from, Transferred, used_of}
+use Rattle.im_arena.specs.Table.{waiter_in, waiter_of}
 
 pub eqb-no : (a b : ℕ) → a ≢ b → eqb a b ≡ false
 eqb-no a b apart = by_value (eqb a b) refl

@@ -1,26 +1,18 @@
 -- What is shown of the nodes of an arena.
-use Rattle.std.proofs.Common.{◌≡◌, ◌≢◌, ◌↔◌, ℕ, zero, suc, ◌+◌, ◌<◌, Bool, true, false, List, [], map, length, get_or}
-use Rattle.std.proofs.Common.{slice_get, Some, None, refl, sym, ap, ◌∙◌, inl, inr, arith, true≢false}
-use Rattle.std.proofs.lemmas.Bool.{cases_eq, eq-eqb, le-ltb, lt-ltb}
-use Rattle.std.proofs.lemmas.Option.{slice_get-get_or}
-use Rattle.std.proofs.lemmas.List.{get_or-take, get_or-map, length-take-le, length-map}
-use Rattle.im_types.specs.declared.TheConstants.{NONE}
-use Rattle.im_types.specs.declared.operations.Waiter.{Waiter}
-use Rattle.im_arena.specs.declared.table.Node.{Node}
-use Rattle.im_types.specs.declared.records.NodeRecord.{NodeRecord}
-use Rattle.im_types.specs.declared.records.NodeRecord.TheVariants.{Listed as ListNode}
-use Rattle.im_arena.specs.declared.table.Row.{Row}
-use Rattle.im_arena.specs.declared.table.Ends.{Ends}
-use Rattle.im_arena.specs.Chain.{place_from, along}
-use Rattle.im_arena.specs.Lists.{Links, list_at, Threads, free_record, link_of, first_in, last_in, ends_at, next_in}
-use Rattle.im_arena.specs.Lists.{node_at, IsThreaded}
-use Rattle.im_arena.specs.Table.{Span, blank_node, blank_row, blank_span, record_if, record_of, ends_of, next_of}
-use Rattle.im_arena.specs.Table.{used_of, waiter_of, list_first, list_last, count_of, span_of, spans_of, row_at}
-use Rattle.im_arena.specs.Table.{shown_table}
-use Rattle.im_arena.specs.Table.{IsArena}
-use Rattle.im_arena.proofs.Moves.{place_from-same}
-use Rattle.im_arena.proofs.Tables.{eqb-no, span_at, first_within, end_of}
-use Rattle.im_arena.proofs.Views.{length-along, list_at-held, length-held, span_count}
+use Rattle.std.proofs.Common.{◌≡◌, ℕ, zero, suc, ◌+◌, ◌<◌, Bool, true, false, ◌≢◌, ◌↔◌, List, [], map, length, get_or}
+use Rattle.std.proofs.Common.{slice_get, Some, None, sym, refl, ap, ◌∙◌, inl, inr, true≢false, arith, length-take-le}
+use Rattle.std.proofs.Common.{get_or-take, le-ltb, lt-ltb, eq-eqb}
+use Rattle.std.proofs.lemmas.{Bool.cases_eq, List.get_or-map, List.length-map, Option.slice_get-get_or}
+use Rattle.im_types.specs.Types.{Waiter, NONE, NodeRecord, ListNode}
+use Rattle.im_arena.proofs.{Moves.place_from-same, Tables.end_of, Tables.eqb-no, Tables.first_within, Tables.span_at}
+use Rattle.im_arena.proofs.Views.{length-along, length-held, list_at-held, span_count}
+use Rattle.im_arena.specs.Chain.{along, place_from}
+use Rattle.im_arena.specs.declared.table.{Ends.Ends, Node.Node, Row.Row}
+use Rattle.im_arena.specs.Lists.{ends_at, first_in, free_record, IsThreaded, last_in, link_of, Links, list_at, next_in}
+use Rattle.im_arena.specs.Lists.{node_at, Threads}
+use Rattle.im_arena.specs.Table.{blank_node, blank_row, blank_span, count_of, ends_of, IsArena, list_first, list_last}
+use Rattle.im_arena.specs.Table.{next_of, record_if, record_of, row_at, shown_table, Span, span_of, spans_of, used_of}
+use Rattle.im_arena.specs.Table.{waiter_of}
 
 ends_of-none : (r : Row) → r.first ≡ NONE → ends_of r ≡ None
 ends_of-none r e = rw (eq-eqb r.first NONE e) refl

@@ -1,24 +1,18 @@
 -- What callers see of a table.
-use Rattle.std.proofs.Common.{◌≡◌, ◌≢◌, ℕ, zero, suc, ◌+◌, ◌<◌, ◌≤◌, List, [], ◌∷◌, ◌++◌, map, length, get_or, set}
-use Rattle.std.proofs.Common.{take, drop, refl, sym, ap, subst, ◌∙◌, inl, inr, arith, length-set, slice_get, Some}
-use Rattle.std.proofs.Common.{None}
-use Rattle.std.proofs.lemmas.Option.{slice_get-get_or, slice_get_past}
-use Rattle.std.proofs.lemmas.Bool.{cases_eq}
-use Rattle.std.proofs.lemmas.List.{get_or-set_same, get_or-set_other, get_or-take, get_or-map, ext_get_or}
-use Rattle.std.proofs.lemmas.List.{length-append, length-take-le, length-map, take-map, take_all, get_or_read}
-use Rattle.std.proofs.lemmas.List.Sums.{sum_by_more, sum_by-cons}
-use Rattle.std.specs.List.{sum_by}
-use Rattle.im_types.specs.declared.TheConstants.{NONE}
-use Rattle.im_types.specs.declared.operations.Waiter.{Waiter}
-use Rattle.im_arena.specs.declared.table.Node.{Node}
-use Rattle.im_arena.specs.declared.table.Row.{Row}
-use Rattle.im_arena.specs.Chain.{along, place_from}
-use Rattle.im_arena.specs.Lists.{Lists, list_at, with_list, free}
-use Rattle.im_arena.specs.Table.{Span, blank_row, blank_span, blank_node, waiter_in, count_of, list_first, waiter_of}
-use Rattle.im_arena.specs.Table.{next_of, steps_from, span_of, spans_of, ends_of, waiters_on, row_at, held, Sound}
-use Rattle.im_arena.specs.Table.{IsArena, Transferred}
+use Rattle.std.proofs.Common.{◌≡◌, ℕ, zero, suc, ◌+◌, ◌<◌, ◌≤◌, ◌≢◌, List, [], ◌∷◌, ◌++◌, map, length, get_or, take}
+use Rattle.std.proofs.Common.{drop, set, slice_get, Some, None, sum_by, sym, refl, ap, ◌∙◌, subst, inl, inr, arith}
+use Rattle.std.proofs.Common.{length-append, length-set, length-take-le, take_all, get_or-set_other, get_or-take}
+use Rattle.std.proofs.Common.{get_or-set_same, ext_get_or}
+use Rattle.std.proofs.lemmas.{Bool.cases_eq, Option.slice_get-get_or, Option.slice_get_past}
+use Rattle.std.proofs.lemmas.List.{get_or-map, get_or_read, length-map, Sums.sum_by-cons, Sums.sum_by_more, take-map}
+use Rattle.im_types.specs.Types.{Waiter, NONE}
 use Rattle.im_arena.proofs.Moves.{place_from-last}
-use Rattle.im_arena.proofs.Tables.{span_at, end_of, count_within, two_counts}
+use Rattle.im_arena.proofs.Tables.{count_within, end_of, span_at, two_counts}
+use Rattle.im_arena.specs.{Chain.along, Chain.place_from, declared.table.Node.Node, declared.table.Row.Row}
+use Rattle.im_arena.specs.Lists.{free, list_at, Lists, with_list}
+use Rattle.im_arena.specs.Table.{blank_node, blank_row, blank_span, count_of, ends_of, held, IsArena, list_first}
+use Rattle.im_arena.specs.Table.{next_of, row_at, Sound, Span, span_of, spans_of, steps_from, Transferred, waiter_in}
+use Rattle.im_arena.specs.Table.{waiter_of, waiters_on}
 
 pub length-along : {X : Type 0} (item : ℕ → X) (next : ℕ → ℕ) (at n : ℕ) → length (along item next at n) ≡ n
 length-along item next at zero = refl

@@ -1,10 +1,9 @@
 -- Walks along a list.
-use Rattle.std.proofs.Common.{◌≡◌, ◌≢◌, ℕ, zero, suc, ◌<◌, List, ◌∷◌, length, refl, sym, ap, subst, ◌∙◌, arith}
-use Rattle.im_types.specs.declared.TheConstants.{NONE}
-use Rattle.im_arena.specs.declared.table.Node.{Node}
-use Rattle.im_arena.specs.Chain.{along, place_from}
-use Rattle.im_arena.specs.Table.{next_of, waiter_of, steps_from, waiters_from, IsWalk}
+use Rattle.std.proofs.Common.{◌≡◌, ℕ, zero, suc, ◌<◌, ◌≢◌, List, ◌∷◌, length, sym, refl, ap, ◌∙◌, subst, arith}
+use Rattle.im_types.specs.Types.{NONE}
 use Rattle.im_arena.proofs.Tables.{steps-are}
+use Rattle.im_arena.specs.{Chain.along, Chain.place_from, declared.table.Node.Node}
+use Rattle.im_arena.specs.Table.{IsWalk, next_of, steps_from, waiter_of, waiters_from}
 
 -- the first node, spelled otherwise
 pub IsWalk-same : (nodes : List Node) (at first : ℕ) → at ≡ first → IsWalk nodes first → IsWalk nodes at

@@ -1,5 +1,5 @@
 -- Chains of nodes, each node naming the next. (Own.)
-use Rattle.std.specs.Prelude.{◌≡◌, ◌≢◌, ℕ, zero, suc, ◌+◌, ◌<◌, ◌≤◌, Bool, List, [], ◌∷◌, nat_lt}
+use Rattle.std.specs.Prelude.{◌≡◌, ℕ, zero, suc, ◌+◌, ◌<◌, ◌≤◌, Bool, ◌≢◌, List, [], ◌∷◌, nat_lt}
 
 -- the node after this number of links
 abbrev pub place_from : (ℕ → ℕ) → ℕ → ℕ → ℕ

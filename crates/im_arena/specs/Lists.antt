@@ -1,14 +1,9 @@
 -- An arena as contracts see it: the waiters on its lists, and the links between its nodes, for a caller that shows the
 -- table of nodes. (Own.)
-use Rattle.std.specs.Prelude.{◌≡◌, ◌≢◌, ◌↔◌, ℕ, ◌+◌, ◌-◌, ◌<◌, List, [], ◌∷◌, ◌++◌, drop, length, Option, None, Some}
-use Rattle.std.specs.Prelude.{slice_get, slice_set, slice_index_or}
-use Rattle.std.specs.List.{sum_by}
-use Rattle.im_types.specs.declared.TheConstants.{NONE}
-use Rattle.im_types.specs.declared.operations.Waiter.{Waiter}
-use Rattle.im_types.specs.declared.records.NodeRecord.{NodeRecord}
-use Rattle.im_types.specs.declared.records.NodeRecord.TheVariants.{Free as FreeNode, Listed as ListNode}
-use Rattle.im_arena.specs.declared.table.Ends.{Ends}
-use Rattle.im_arena.specs.Chain.{place_from}
+use Rattle.std.specs.Prelude.{◌≡◌, ℕ, ◌+◌, ◌-◌, ◌<◌, ◌≢◌, ◌↔◌, List, [], ◌∷◌, ◌++◌, length, drop, slice_get}
+use Rattle.std.specs.Prelude.{slice_index_or, slice_set, Some, None, sum_by, Option}
+use Rattle.im_types.specs.Types.{Waiter, NONE, NodeRecord, ListNode, FreeNode}
+use Rattle.im_arena.specs.{Chain.place_from, declared.table.Ends.Ends}
 
 -- the number of nodes, and the waiters on each list
 pub record Lists : Type 0 where

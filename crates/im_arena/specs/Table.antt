@@ -1,17 +1,10 @@
 -- The lists in a table of nodes. (Own.)
-use Rattle.std.specs.Prelude.{◌≡◌, ◌≢◌, ℕ, zero, suc, ◌+◌, ◌-◌, ◌<◌, ◌≤◌, Bool, true, false, List, map, length}
-use Rattle.std.specs.Prelude.{slice_index_or, slice_set, [], ◌++◌, ◌∷◌, take, Option, None, Some, ◌==◌, if◌then◌else◌}
-use Rattle.std.specs.Prelude.{replicate}
-use Rattle.std.specs.List.{sum_by}
-use Rattle.im_types.specs.declared.TheConstants.{NONE}
-use Rattle.im_types.specs.declared.operations.Waiter.{Waiter}
-use Rattle.im_arena.specs.declared.table.Node.{Node}
-use Rattle.im_types.specs.declared.records.NodeRecord.{NodeRecord}
-use Rattle.im_types.specs.declared.records.NodeRecord.TheVariants.{Listed as ListNode}
-use Rattle.im_arena.specs.declared.table.Row.{Row}
-use Rattle.im_arena.specs.declared.table.Ends.{Ends}
-use Rattle.im_arena.specs.Chain.{along, place_from, Chains}
-use Rattle.im_arena.specs.Lists.{Lists, Shown, free_record}
+use Rattle.std.specs.Prelude.{◌≡◌, ℕ, zero, suc, ◌+◌, ◌-◌, ◌<◌, ◌≤◌, Bool, true, false, ◌≢◌, List, [], ◌∷◌, ◌++◌, map}
+use Rattle.std.specs.Prelude.{length, take, replicate, if◌then◌else◌, ◌==◌, slice_index_or, slice_set, Some, None}
+use Rattle.std.specs.Prelude.{sum_by, Option}
+use Rattle.im_types.specs.Types.{Waiter, NONE, NodeRecord, ListNode}
+use Rattle.im_arena.specs.{Chain.along, Chain.Chains, Chain.place_from, Lists.free_record, Lists.Lists, Lists.Shown}
+use Rattle.im_arena.specs.declared.table.{Ends.Ends, Node.Node, Row.Row}
 
 -- a node that holds no waiter
 abbrev pub blank_node : Node

@@ -1,14 +1,12 @@
 //! Lists of waiters, all in one table of nodes.
 #![tactic(auto)]
 
-ghost use Rattle.std.specs.Prelude.{◌≡◌, ◌+◌, ◌∷◌, ◌++◌, ◌<◌, ◌↔◌, [], ℕ, length, drop, slice_get, IsTrue, IfOk};
-ghost use Rattle.std.specs.Prelude.{IfNone, IfSome, IsOkUnless, replicate, false};
-ghost use Rattle.std.specs.List.{sum_by};
-ghost use Rattle.im_types.specs.Records.{IsLink, FitsNode};
-ghost use Rattle.im_arena.specs.Lists.{list_at, with_list, link_of, free, IsThreaded, last_in, ends_at};
-ghost use Rattle.im_arena.specs.Lists.{IsPushed, IsPopped};
+ghost use Rattle.std.specs.Prelude.{◌≡◌, ℕ, ◌+◌, ◌<◌, false, ◌↔◌, [], ◌∷◌, ◌++◌, length, drop, replicate, IfSome};
+ghost use Rattle.std.specs.Prelude.{IfNone, IfOk, IsOkUnless, IsTrue, slice_get, sum_by};
+ghost use Rattle.im_types.specs.Types.{NoMemory, IsLink, FitsNode};
+ghost use Rattle.im_arena.specs.Lists.{ends_at, free, IsPopped, IsPushed, IsThreaded, last_in, link_of, list_at};
+ghost use Rattle.im_arena.specs.Lists.{with_list};
 ghost use Rattle.im_arena.specs.Table.{AreFree, start_rows};
-ghost use Rattle.im_types.specs.declared.refusals.Refusal.TheVariants.{NoMemory};
 
 mod pairs;
 mod table;
@@ -50,7 +48,7 @@ impl Model for Arena {
 
     ghost Value = { Shown };
 
-    ghost use Rattle.im_arena.specs.Table.{shown_table, IsArena};
+    ghost use Rattle.im_arena.specs.Table.{IsArena, shown_table};
 
     ghost view = { λ a. shown_table a.nodes.items a.rows.items a.lists };
 

@@ -1,6 +1,6 @@
 //! Calls on two lists in turn, through the public calls of an arena alone.
-ghost use Rattle.std.specs.Prelude.{◌≡◌, ◌≢◌, ℕ, ◌<◌, ◌∷◌, ◌++◌, [], length, drop, slice_get, IfSome, IfNone};
-ghost use Rattle.im_arena.specs.Lists.{list_at, free, IsHandedOver};
+ghost use Rattle.std.specs.Prelude.{◌≡◌, ℕ, ◌<◌, ◌≢◌, [], ◌∷◌, ◌++◌, length, drop, IfSome, IfNone, slice_get};
+ghost use Rattle.im_arena.specs.Lists.{free, IsHandedOver, list_at};
 
 use crate::Arena;
 use im_types::Waiter;

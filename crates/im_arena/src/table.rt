@@ -1,9 +1,9 @@
 // The table of nodes, and the rows of nodes in it.
-ghost use Rattle.std.specs.Prelude.{◌≡◌, ◌≢◌, ℕ, ◌+◌, ◌<◌, length, nat_lt};
-ghost use Rattle.im_types.specs.Records.{IsLink, FitsNode};
+ghost use Rattle.std.specs.Prelude.{◌≡◌, ℕ, ◌+◌, ◌<◌, ◌≢◌, length, nat_lt};
+ghost use Rattle.im_types.specs.Types.{IsLink, FitsNode};
 ghost use Rattle.im_arena.specs.Lists.{link_of};
-ghost use Rattle.im_arena.specs.Table.{Sound, Attached, Detached, Transferred, count_of, spans_of, used_node};
-ghost use Rattle.im_arena.specs.Table.{free_node, waiter_in, record_of, ends_of, empty_row, full_row};
+ghost use Rattle.im_arena.specs.Table.{Attached, count_of, Detached, empty_row, ends_of, free_node, full_row};
+ghost use Rattle.im_arena.specs.Table.{record_of, Sound, spans_of, Transferred, used_node, waiter_in};
 
 use im_types::{NONE, NodeRecord, Waiter};
 

@@ -1,8 +1,7 @@
 //! A walk along a list.
-ghost use Rattle.im_types.specs.declared.operations.Waiter.{Waiter as WaiterSpec};
-ghost use Rattle.im_arena.specs.Table.{waiters_from, IsWalk};
-ghost use Rattle.std.specs.Prelude.{◌≡◌, List, []};
-ghost use Rattle.std.specs.Iterator.{YieldsFirst, item_count};
+ghost use Rattle.std.specs.{Prelude.◌≡◌, Prelude.List, Prelude.[], Iterator.item_count, Iterator.YieldsFirst};
+ghost use Rattle.im_types.specs.Types.{Waiter as WaiterSpec};
+ghost use Rattle.im_arena.specs.Table.{IsWalk, waiters_from};
 
 use crate::table::Node;
 use im_types::{NONE, Waiter};
@@ -16,10 +15,9 @@ pub struct Waiters<'a> {
 }
 
 impl<'a> Model for Waiters<'a> {
-    ghost use Rattle.im_arena.specs.Table.{waiters_from, IsWalk};
     ghost use Rattle.std.specs.Prelude.{◌≡◌, List, []};
-    ghost use Rattle.im_types.specs.declared.operations.Waiter.{Waiter};
-    ghost use Rattle.im_arena.specs.Table.{waiters_from, IsWalk};
+    ghost use Rattle.im_types.specs.Types.{Waiter};
+    ghost use Rattle.im_arena.specs.Table.{IsWalk, waiters_from};
 
     ghost Value = { List Waiter };
 

@@ -1,7 +1,7 @@
 // Workloads on one block of all cells, and on who waits for them. Each call is of the next cell. Past the last cell
 // each call is refused.
-ghost use Rattle.std.specs.Prelude.{◌≡◌, ◌<◌, List, Option, length, IfOk};
-ghost use Rattle.im_cell.specs.declared.slots.Slot.{Slot};
+ghost use Rattle.std.specs.Prelude.{◌≡◌, ◌<◌, List, length, IfOk, Option};
+ghost use Rattle.im_cell.specs.declared.Slot.{Slot};
 ghost use Rattle.im_istore.specs.Agreement.{Agree, AgreeBut};
 
 use im_arena::Arena;

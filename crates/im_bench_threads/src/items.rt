@@ -1,5 +1,5 @@
 //! Items through a pipe, from one thread to another.
-ghost use Rattle.std.specs.Prelude.{◌≡◌, [], false};
+ghost use Rattle.std.specs.Prelude.{◌≡◌, false, []};
 
 use im_pipes::{Inlet, Outlet, Received, pipe};
 use im_serving::{Intent, PIPE};

@@ -1,6 +1,6 @@
 //! Reads of a pane, alone and beside the thread that shows, and the cost of a show.
 ghost use Rattle.std.specs.Prelude.{◌≡◌};
-ghost use Rattle.im_types.specs.Changes.{is_below};
+ghost use Rattle.im_types.specs.Types.{is_below};
 
 use crate::joining::join_all;
 use im_glass::{Glance, Pane, PaneName, Unnamed, open};

@@ -1,5 +1,5 @@
 -- What holds of an image holds of it in a box.
-use Rattle.std.proofs.Common.{◌≡◌, Option, Some, IfSome, Result, Ok, Err, IfOk, sym, subst}
+use Rattle.std.proofs.Common.{◌≡◌, IfSome, IfOk, Some, Ok, Err, Option, Result, sym, subst}
 
 pub in_box : {B V E : Type 0} (r : Result B E) (value : B → V) (i : V) (P : V → Type 0) → IfOk r (λ b. value b ≡ i)
     → P i → IfOk r (λ b. P (value b))

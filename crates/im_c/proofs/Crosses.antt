@@ -1,10 +1,10 @@
 -- The contents of a handle may go to another thread.
 use denote.Param.Send.{IsSend, sendable}
+use Rattle.core.proofs.snapshot.Sent.{snapshot_send}
 use Rattle.std.proofs.Crossing.{crosses}
 use Rattle.im_memory.specs.contracts.memory.Memory as Memory
 use Rattle.im_checkpoint.specs.contracts.checkpoint.Checkpoint as Checkpoint
 use Rattle.im_listed.specs.contracts.listed.Listed as Listed
-use Rattle.core.proofs.snapshot.Sent.{snapshot_send}
 use Rattle.im_noted.proofs.NoteList.TheLaws.TheKnot as noted
 use Rattle.im_listed.specs.contracts.image.Image as Image
 

@@ -1,9 +1,6 @@
 -- Why a caller's bytes aren't read.
-use Rattle.std.proofs.Common.{◌≡◌, ◌⊎◌, inl, inr, ⊎_elim, ℕ, List, Some, Err, sym, subst}
-use Rattle.im_types.specs.declared.refusals.Refusal.{Refusal}
-use Rattle.im_types.specs.declared.refusals.Refusal.TheVariants.{NoMemory, Device}
-use Rattle.im_types.specs.Header.{header_fault, layout_in}
-use Rattle.im_types.specs.Meaning.{Reads}
+use Rattle.std.proofs.Common.{◌≡◌, ℕ, ◌⊎◌, List, Some, Err, sym, subst, inl, inr, ⊎_elim}
+use Rattle.im_types.specs.Types.{Refusal, Device, NoMemory, header_fault, layout_in, Reads}
 use Rattle.im_c.specs.Telling.{IsFlawOf, IsHeaderFlawOf}
 
 -- what reading an honest disk finds

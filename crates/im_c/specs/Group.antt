@@ -1,16 +1,10 @@
 -- A group of commands on an image, for C.
-use Rattle.std.specs.Prelude.{◌≡◌, ℕ, ◌<◌, ◌≤◌, true, false, List, [], ◌∷◌, ◌++◌, ◌+◌, ◌-◌, length, map, replicate}
-use Rattle.std.specs.Prelude.{Option, Some, None, Ok, Err}
-use Rattle.im_types.specs.declared.commands.Command.{Command}
-use Rattle.im_types.specs.declared.groups.Served.{Served}
-use Rattle.im_types.specs.declared.groups.Served.TheVariants.{Unserved, Done, Refused}
-use Rattle.im_types.specs.declared.refusals.Refusal.TheVariants.{Device}
-use Rattle.im_types.specs.Refusals.{number_of}
+use Rattle.std.specs.Prelude.{◌≡◌, ℕ, ◌+◌, ◌-◌, ◌<◌, ◌≤◌, true, false, List, [], ◌∷◌, ◌++◌, map, length, replicate}
+use Rattle.std.specs.Prelude.{Some, None, Ok, Err, Option}
+use Rattle.im_types.specs.Types.{Command, Served, Unserved, Done, Refused, Device, number_of}
 use Rattle.im_listed.specs.Image.{ImageState, ServesFirst}
-use Rattle.im_c.specs.declared.plain.LtCommand.{LtCommand}
-use Rattle.im_c.specs.declared.plain.LtOutcome.{LtOutcome}
-use Rattle.im_c.specs.Plain.{meant, outcome_of, refused}
-use Rattle.im_c.specs.Image.{idle_after}
+use Rattle.im_c.specs.declared.plain.{LtCommand.LtCommand, LtOutcome.LtOutcome}
+use Rattle.im_c.specs.{Image.idle_after, Plain.meant, Plain.outcome_of, Plain.refused}
 
 -- a list of the command, if there is one
 abbrev pub listed : Option Command → List Command

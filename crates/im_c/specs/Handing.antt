@@ -1,5 +1,5 @@
 -- What a call does with the contents of a handle that it takes and hands out again.
-use Rattle.std.specs.Prelude.{◌≡◌, Option, IsSome, IfSome}
+use Rattle.std.specs.Prelude.{◌≡◌, IfSome, IsSome, Option}
 
 -- The contents stay, and have this property.
 pub record ShowsHeld {T : Type 0} (old new : Option T) (P : T → Type 0) : Type 0 where

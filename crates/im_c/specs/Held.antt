@@ -1,11 +1,8 @@
 -- What a handle owns: the same as a `Box`, or nothing.
 use base.Fml.{Fml, ftrue}
-use Rattle.std.specs.declared.option.Option.{Option}
-use Rattle.std.specs.Prelude.{None, Some}
-use denote.RawPtr.{Ptr}
-use Rattle.std.specs.Box.Ownership.{box_owns}
-use Rattle.std.specs.Global.{Global}
+use Rattle.std.specs.{Prelude.Some, Prelude.None, Box.Ownership.box_owns, declared.option.Option.Option, Global.Global}
 use Rattle.std_heap.specs.contracts.GlobalAllocator.TheImpl.{ghosts}
+use denote.RawPtr.{Ptr}
 use Rattle.im_memory.specs.contracts.memory.Memory as Memory
 use Rattle.im_listed.specs.contracts.image.Image as Image
 

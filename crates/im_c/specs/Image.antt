@@ -1,29 +1,15 @@
 -- The calls of an image, for C.
-use Rattle.std.specs.Prelude.{◌≡◌, ℕ, true, false, List, length, replicate, Some, None, Option, Result, Ok, Err}
-use Rattle.im_types.specs.declared.commands.Command.{Command}
-use Rattle.im_types.specs.declared.commands.Outcome.{Outcome}
-use Rattle.im_types.specs.declared.refusals.Refusal.{Refusal}
-use Rattle.im_types.specs.declared.refusals.Refusal.TheVariants.{Device}
-use Rattle.im_types.specs.Refusals.{number_of}
-use Rattle.im_types.specs.Agreement.{address_of}
-use Rattle.im_types.specs.Bytes.{op_code, op_value}
-use Rattle.im_types.specs.Contents.{kept_for}
-use Rattle.im_types.specs.declared.operations.Kept.{Kept}
-use Rattle.im_types.specs.Window.{ask, bounds}
-use Rattle.im_types.specs.Layout.{Sizes, image_length, layout_in_use}
-use Rattle.im_disk.specs.Moment.{Moment}
-use Rattle.im_checkpoint.specs.declared.checkpoint.TurnDone.{TurnDone}
-use Rattle.im_checkpoint.specs.declared.checkpoint.TurnDone.TheVariants.{Idle, Began, Page, Synced, InForce, Swept}
-use Rattle.im_engine.specs.State.{MeansState, MeansEither, with_command}
+use Rattle.std.specs.Prelude.{◌≡◌, ℕ, true, false, List, length, replicate, Some, None, Ok, Err, Option, Result}
+use Rattle.im_types.specs.Types.{Kept, Command, Outcome, Refusal, Device, number_of, kept_for, address_of, ask, bounds}
+use Rattle.im_types.specs.Types.{layout_in_use, Sizes, image_length, op_code, op_value}
+use Rattle.{im_disk.specs.Moment.Moment, im_checkpoint.specs.declared.TurnDone.TurnDone}
+use Rattle.im_checkpoint.specs.declared.TurnDone.TheVariants.{Began, Idle, InForce, Page, Swept, Synced}
 use Rattle.im_engine.specs.Answered.{Answered, SweepAnswered, TurnAnswered}
-use Rattle.im_listed.specs.Listing.{FileStep, Puts, Settles}
-use Rattle.im_listed.specs.History.{given}
-use Rattle.im_listed.specs.Image.{ImageState, Carries, begun_in}
-use Rattle.im_c.specs.declared.plain.LtCommand.{LtCommand}
-use Rattle.im_c.specs.declared.plain.LtOutcome.{LtOutcome}
-use Rattle.im_c.specs.declared.plain.LtBounds.{LtBounds}
-use Rattle.im_c.specs.declared.plain.LtStep.{LtStep}
-use Rattle.im_c.specs.Plain.{meant, outcome_of, entry_outcome, refused, no_call}
+use Rattle.im_engine.specs.State.{MeansEither, MeansState, with_command}
+use Rattle.im_listed.specs.{History.given, Listing.FileStep, Listing.Puts, Listing.Settles}
+use Rattle.im_listed.specs.Image.{begun_in, Carries, ImageState}
+use Rattle.im_c.specs.declared.plain.{LtBounds.LtBounds, LtCommand.LtCommand, LtOutcome.LtOutcome, LtStep.LtStep}
+use Rattle.im_c.specs.Plain.{entry_outcome, meant, no_call, outcome_of, refused}
 
 -- a file with the length of an image, each byte of which is in doubt
 abbrev pub blank_image : Sizes → Moment

@@ -1,11 +1,8 @@
 -- A command on a memory, for C.
 use Rattle.std.specs.Prelude.{◌≡◌, Some, None}
-use Rattle.im_types.specs.declared.commands.Command.{Command}
-use Rattle.im_types.specs.Step.{step}
-use Rattle.im_memory.specs.State.{MemoryState}
-use Rattle.im_c.specs.declared.plain.LtCommand.{LtCommand}
-use Rattle.im_c.specs.declared.plain.LtOutcome.{LtOutcome}
-use Rattle.im_c.specs.Plain.{meant, outcome_of, no_call}
+use Rattle.{im_types.specs.Types.Command, im_types.specs.Types.step, im_memory.specs.State.MemoryState}
+use Rattle.im_c.specs.declared.plain.{LtCommand.LtCommand, LtOutcome.LtOutcome}
+use Rattle.im_c.specs.Plain.{meant, no_call, outcome_of}
 
 -- the outcome of a command, and what the memory becomes
 pub record Steps (old : MemoryState) (c : LtCommand) (out : LtOutcome) (new : MemoryState) : Type 0 where

@@ -1,15 +1,8 @@
 -- Commands and outcomes in C's form.
-use Rattle.std.specs.Prelude.{ℕ, Option, Result, Ok, Err}
-use Rattle.im_types.specs.declared.commands.Command.{Command}
-use Rattle.im_types.specs.declared.commands.Outcome.{Outcome}
-use Rattle.im_types.specs.declared.commands.Outcome.TheVariants.{Entry as Tells, Confirmed}
-use Rattle.im_types.specs.declared.refusals.Refusal.{Refusal}
-use Rattle.im_types.specs.declared.operations.Entry.{Entry}
-use Rattle.im_types.specs.Bytes.{entry_code, entry_number}
-use Rattle.im_types.specs.Refusals.{number_of}
-use Rattle.im_types.specs.Slot.{op_of, command_of}
-use Rattle.im_c.specs.declared.plain.LtCommand.{LtCommand}
-use Rattle.im_c.specs.declared.plain.LtOutcome.{LtOutcome}
+use Rattle.std.specs.Prelude.{ℕ, Ok, Err, Option, Result}
+use Rattle.im_types.specs.Types.{Entry, Command, Outcome, Tells, Confirmed, Refusal, number_of, entry_code}
+use Rattle.im_types.specs.Types.{entry_number, op_of, command_of}
+use Rattle.im_c.specs.declared.plain.{LtCommand.LtCommand, LtOutcome.LtOutcome}
 
 -- the command that is meant, with the codes of the journal
 abbrev pub meant : LtCommand → Option Command

@@ -1,5 +1,5 @@
 -- The sizes of an image, for C.
-use Rattle.im_types.specs.Layout.{Sizes}
+use Rattle.im_types.specs.Types.{Sizes}
 use Rattle.im_c.specs.declared.plain.LtLimits.{LtLimits}
 
 -- the sizes in C's form

@@ -1,17 +1,11 @@
 -- Faults, texts and names, for C.
-use Rattle.std.specs.Prelude.{◌≡◌, ◌⊎◌, ℕ, ◌<◌, ◌≤◌, List, [], ◌++◌, ◌==◌, codes, drop, length, Some, Err}
-use Rattle.std.specs.Prelude.{if◌then◌else◌}
-use Rattle.im_types.specs.declared.refusals.Refusal.{Refusal}
-use Rattle.im_types.specs.declared.refusals.Refusal.TheVariants.{Gap, Forgotten, WindowFull, Mismatch, NoElement}
-use Rattle.im_types.specs.declared.refusals.Refusal.TheVariants.{NotAnswered, JournalFull, Device, Failed, NoMemory}
-use Rattle.im_types.specs.declared.refusals.Refusal.TheVariants.{TraceFull, WrongLength, NoHeader, BadHeader, BadPage}
-use Rattle.im_types.specs.declared.refusals.Refusal.TheVariants.{BadRecord, BadLimits, BadScript, Stalled, OffPlan}
-use Rattle.im_types.specs.declared.refusals.Refusal.TheVariants.{OldVersion, NotBlank, BadPlan, PaneGone}
-use Rattle.im_types.specs.Refusals.{number_of}
-use Rattle.im_types.specs.Header.{header_fault, layout_in}
-use Rattle.im_types.specs.Meaning.{Reads}
-use Rattle.im_listed.specs.Image.{IsFaultOf}
-use Rattle.im_report.specs.Inspecting.{Tells}
+use Rattle.std.specs.Prelude.{◌≡◌, ℕ, ◌<◌, ◌≤◌, ◌⊎◌, List, [], ◌++◌, length, drop, if◌then◌else◌, ◌==◌, Some, Err}
+use Rattle.std.specs.Prelude.{codes}
+use Rattle.im_types.specs.Types.{Refusal, Gap, Forgotten, WindowFull, Mismatch, NoElement, NotAnswered, JournalFull}
+use Rattle.im_types.specs.Types.{Device, Failed, NoMemory, TraceFull, WrongLength, NoHeader, BadHeader, BadPage}
+use Rattle.im_types.specs.Types.{BadRecord, BadLimits, BadScript, Stalled, OffPlan, OldVersion, NotBlank, BadPlan}
+use Rattle.im_types.specs.Types.{PaneGone, number_of, header_fault, layout_in, Reads}
+use Rattle.{im_listed.specs.Image.IsFaultOf, im_report.specs.Inspecting.Tells}
 
 -- the number of the refusal of these bytes: their first fault, or want of memory
 abbrev pub TellsFault : List ℕ → ℕ → Type 0

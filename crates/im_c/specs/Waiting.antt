@@ -1,8 +1,6 @@
 -- The requests that wait at a cell, for C.
-use Rattle.std.specs.Prelude.{◌≡◌, ℕ, true, false, List, ◌++◌, length, map, min, take, drop}
-use Rattle.im_types.specs.declared.operations.Waiter.{Waiter}
-use Rattle.im_types.specs.Contents.{waiters_at}
-use Rattle.im_listed.specs.Image.{ImageState}
+use Rattle.std.specs.Prelude.{◌≡◌, ℕ, min, true, false, List, ◌++◌, map, length, take, drop}
+use Rattle.{im_types.specs.Types.Waiter, im_types.specs.Types.waiters_at, im_listed.specs.Image.ImageState}
 use Rattle.im_c.specs.declared.plain.LtWaiter.{LtWaiter}
 
 -- a request that waits, in C's form

@@ -1,10 +1,8 @@
 //! A group of commands on an image, for C.
-ghost use Rattle.std.specs.Prelude.{◌≡◌, ◌↔◌, ◌<◌, ◌≤◌, ◌+◌, ◌++◌, [], length, map, replicate, IsSome, IsTrue};
-ghost use Rattle.im_types.specs.declared.TheConstants.{MAX_GROUP};
-ghost use Rattle.im_c.specs.Handing.{Becomes};
-ghost use Rattle.im_c.specs.Plain.{meant};
-ghost use Rattle.im_c.specs.Group.{IsGroup, ServesGroup, first_unknown, listed, all_meant};
-ghost use Rattle.im_c.specs.Group.{unserved, outcome_served, outcomes_of};
+ghost use Rattle.std.specs.Prelude.{◌≡◌, ◌+◌, ◌<◌, ◌≤◌, ◌↔◌, [], ◌++◌, map, length, replicate, IsSome, IsTrue};
+ghost use Rattle.im_types.specs.Types.{MAX_GROUP};
+ghost use Rattle.im_c.specs.{Group.all_meant, Group.first_unknown, Group.IsGroup, Group.listed, Group.outcome_served};
+ghost use Rattle.im_c.specs.{Group.outcomes_of, Group.ServesGroup, Group.unserved, Handing.Becomes, Plain.meant};
 
 use crate::image::LtImage;
 use crate::plain::{LtCommand, LtOutcome, NO_CALL, UNSERVED, meant, outcome_of, refused};

@@ -1,20 +1,13 @@
 //! The handle of an image for C, and how it is made, opened and closed. C reads the file, and carries out the writes
 //! and syncs.
-ghost use Rattle.std.specs.Prelude.{◌≡◌, ◌≢◌, ◌⊎◌, ◌∷◌, [], false};
-ghost use Rattle.std.specs.Prelude.{Ok, Some, Err, IsSome, IfSome, IfOk, IfErr};
+ghost use Rattle.std.specs.Prelude.{◌≡◌, false, ◌≢◌, ◌⊎◌, [], ◌∷◌, IfSome, IfOk, IfErr, IsSome, Some, Ok, Err};
 ghost use Rattle.std.specs.declared.option.Option.{Option};
-ghost use Rattle.im_types.specs.Contents.{empty_contents};
-ghost use Rattle.im_types.specs.Layout as layout;
-ghost use Rattle.im_types.specs.Layout.{layout_in_use, sizes_of};
-ghost use Rattle.im_types.specs.Sizes.{AreLimits};
-ghost use Rattle.im_disk.specs.Since.{LeavesNow};
-ghost use Rattle.im_engine.specs.State.{MeansState, IsFound};
+ghost use Rattle.im_types.specs.Types.{AreLimits, empty_contents, layout_in_use, sizes_of};
+ghost use Rattle.{im_disk.specs.Since.LeavesNow, im_engine.specs.State.IsFound, im_engine.specs.State.MeansState};
+ghost use Rattle.im_listed.specs.{History.given, Listing.carried, Listing.Settles};
 ghost use Rattle.im_listed.specs.Image.{ImageState, IsFaultOf, IsWant, steps_of};
-ghost use Rattle.im_listed.specs.Listing.{Settles, carried};
-ghost use Rattle.im_listed.specs.History.{given};
-ghost use Rattle.im_c.specs.Held.{holds_image};
-ghost use Rattle.im_c.specs.Telling.{TellsFault};
-ghost use Rattle.im_c.specs.Image.{blank_image};
+ghost use Rattle.im_c.specs.{Held.holds_image, Image.blank_image, Telling.TellsFault};
+ghost use Rattle.im_types.specs.Layout as layout;
 
 use crate::parts::BoxParts;
 use im_listed::Image;

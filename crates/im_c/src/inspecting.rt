@@ -1,7 +1,7 @@
 //! The report of the image in a caller's bytes, for C.
-ghost use Rattle.std.specs.Prelude.{◌≡◌, ◌≢◌, [], Some, IfOk, IfErr};
+ghost use Rattle.std.specs.Prelude.{◌≡◌, ◌≢◌, [], IfOk, IfErr, Some};
 ghost use Rattle.im_report.specs.Inspecting.{Tells};
-ghost use Rattle.im_c.specs.Telling.{IsFlawOf, TellsFlaw, IsReported, PutsText};
+ghost use Rattle.im_c.specs.Telling.{IsFlawOf, IsReported, PutsText, TellsFlaw};
 
 use im_image::inspect;
 use im_listed::Listed;

@@ -1,7 +1,7 @@
 //! What an image for C keeps, and how far it has come. C calls these to look; nothing changes.
 ghost use Rattle.std.specs.Prelude.{◌≡◌, IsSome};
 ghost use Rattle.im_c.specs.Handing.{ShowsHeld};
-ghost use Rattle.im_c.specs.Image.{CollectsFrom, ShowsWindow, TellsAsked, asked_as, window_of};
+ghost use Rattle.im_c.specs.Image.{asked_as, CollectsFrom, ShowsWindow, TellsAsked, window_of};
 
 use crate::image::LtImage;
 use crate::plain::{LtBounds, LtCommand, LtOutcome, entry_outcome};

@@ -1,15 +1,9 @@
 //! A memory with no disk, for C.
-ghost use Rattle.std.specs.Prelude.{◌≡◌, ◌≢◌, ◌⊎◌, Some, IsSome, IfSome, IfOk, IfErr};
+ghost use Rattle.std.specs.Prelude.{◌≡◌, ◌≢◌, ◌⊎◌, IfSome, IfOk, IfErr, IsSome, Some};
 ghost use Rattle.std.specs.declared.option.Option.{Option};
-ghost use Rattle.im_types.specs.Contents.{empty_contents};
-ghost use Rattle.im_types.specs.Window.{ask};
-ghost use Rattle.im_types.specs.Sizes.{AreLimits};
-ghost use Rattle.im_types.specs.Slot.{op_of};
+ghost use Rattle.im_types.specs.Types.{AreLimits, empty_contents, ask, op_of};
 ghost use Rattle.im_memory.specs.State.{MemoryState};
-ghost use Rattle.im_c.specs.Held.{holds_memory};
-ghost use Rattle.im_c.specs.Handing.{ShowsHeld, Becomes};
-ghost use Rattle.im_c.specs.Memory.{Steps};
-ghost use Rattle.im_c.specs.Plain.{entry_outcome};
+ghost use Rattle.im_c.specs.{Handing.Becomes, Handing.ShowsHeld, Held.holds_memory, Memory.Steps, Plain.entry_outcome};
 
 use crate::parts::BoxParts;
 use crate::plain::{

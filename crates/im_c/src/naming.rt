@@ -1,6 +1,6 @@
 //! The names of refusals and answers, for C.
 ghost use Rattle.std.specs.Prelude.{◌≡◌, length};
-ghost use Rattle.im_c.specs.Telling.{PutsText, answer_name, refusal_name};
+ghost use Rattle.im_c.specs.Telling.{answer_name, PutsText, refusal_name};
 
 use crate::inspecting::put_text;
 use crate::plain::{NO_CALL, UNSERVED};

@@ -1,8 +1,7 @@
 //! Commands and outcomes in C's form.
 ghost use Rattle.std.specs.Prelude.{◌≡◌, Some, Ok};
-ghost use Rattle.im_types.specs.Bytes.{entry_code, entry_number};
-ghost use Rattle.im_types.specs.Slot.{op_of};
-ghost use Rattle.im_c.specs.Plain.{meant, outcome_of, entry_outcome, refused};
+ghost use Rattle.im_types.specs.Types.{entry_code, entry_number, op_of};
+ghost use Rattle.im_c.specs.Plain.{entry_outcome, meant, outcome_of, refused};
 
 use im_types::codes::op_of;
 use im_types::{Command, Entry, Op, Outcome, Refusal, Reply, Request};

@@ -1,6 +1,6 @@
 //! What a program in C does: it formats a file, is stopped on the way through the steps of a take, and opens the file
 //! again.
-ghost use Rattle.std.specs.Prelude.{IsSome, IfSome};
+ghost use Rattle.std.specs.Prelude.{IfSome, IsSome};
 
 use crate::{
     LtCommand, LtImage, LtOutcome, LtStep, lt_close, lt_format, lt_held_collect, lt_held_count,

@@ -2,7 +2,7 @@
 //! steps that they leave.
 ghost use Rattle.std.specs.Prelude.{◌≡◌, IsSome};
 ghost use Rattle.im_c.specs.Handing.{Becomes};
-ghost use Rattle.im_c.specs.Image.{ServesOne, SweepsBy, Turns, sweep_outcome, turn_code, turn_outcome, turn_page};
+ghost use Rattle.im_c.specs.Image.{ServesOne, sweep_outcome, SweepsBy, turn_code, turn_outcome, turn_page, Turns};
 
 use crate::image::LtImage;
 use crate::plain::{LtCommand, LtOutcome, NO_CALL, meant, outcome_of, refused};

@@ -1,9 +1,7 @@
 //! The sizes of the image in a caller's bytes, for C.
 ghost use Rattle.std.specs.Prelude.{◌≡◌, ◌≢◌, IfOk, IfErr};
-ghost use Rattle.im_types.specs.Header.{header_of};
-ghost use Rattle.im_types.specs.Layout.{sizes_of};
-ghost use Rattle.im_c.specs.Telling.{IsHeaderFlawOf, TellsHeaderFlaw};
-ghost use Rattle.im_c.specs.Sizes.{sizes_told};
+ghost use Rattle.im_types.specs.Types.{sizes_of, header_of};
+ghost use Rattle.im_c.specs.{Sizes.sizes_told, Telling.IsHeaderFlawOf, Telling.TellsHeaderFlaw};
 
 use crate::plain::LtLimits;
 use im_image::{Versions, read_header};

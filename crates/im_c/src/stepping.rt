@@ -1,10 +1,8 @@
 //! The writes and syncs that the last call on an image left. C carries them out, one after another, or says that it
 //! couldn't.
-ghost use Rattle.std.specs.Prelude.{◌≡◌, IsSome, length, map, slice_get, true};
-ghost use Rattle.im_listed.specs.Image.{steps_of};
-ghost use Rattle.im_listed.specs.Listing.{task_of};
-ghost use Rattle.im_c.specs.Handing.{Becomes, ShowsHeld};
-ghost use Rattle.im_c.specs.Image.{Copies, CopiesBytes, step_told};
+ghost use Rattle.std.specs.Prelude.{◌≡◌, true, map, length, IsSome, slice_get};
+ghost use Rattle.im_listed.specs.{Image.steps_of, Listing.task_of};
+ghost use Rattle.im_c.specs.{Handing.Becomes, Handing.ShowsHeld, Image.Copies, Image.CopiesBytes, Image.step_told};
 
 use crate::image::LtImage;
 use crate::plain::{LtStep, NO_CALL};

@@ -1,6 +1,6 @@
 //! The versions of the library and of the layout, for C.
 ghost use Rattle.std.specs.Prelude.{◌≡◌};
-ghost use Rattle.im_types.specs.Layout.{layout_in_use};
+ghost use Rattle.im_types.specs.Types.{layout_in_use};
 
 /// Returns the library's version: 10,000 for each major one, 100 for each minor one, and 1 for each patch. It is
 /// `LT_VERSION_NUMBER` of the header.

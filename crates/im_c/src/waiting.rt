@@ -1,8 +1,7 @@
 //! The requests that wait at a cell, for C.
-ghost use Rattle.std.specs.Prelude.{◌≡◌, length, map, min, IsSome};
-ghost use Rattle.im_types.specs.Contents.{waiters_at};
-ghost use Rattle.im_c.specs.Handing.{ShowsHeld};
-ghost use Rattle.im_c.specs.Waiting.{TellsWaiters, first_places, waiter_told};
+ghost use Rattle.std.specs.Prelude.{◌≡◌, min, map, length, IsSome};
+ghost use Rattle.im_types.specs.Types.{waiters_at};
+ghost use Rattle.im_c.specs.{Handing.ShowsHeld, Waiting.first_places, Waiting.TellsWaiters, Waiting.waiter_told};
 
 use crate::image::LtImage;
 use crate::plain::LtWaiter;

@@ -1,22 +1,18 @@
 -- A table over cells that were read: who waits is counted, and the free cells become holes.
-use Rattle.std.proofs.Common.{◌≡◌, ◌≢◌, ℕ, ◌+◌, ◌-◌, ◌<◌, ◌≤◌, ◌^◌, List, length, set, replicate, true}
-use Rattle.std.proofs.Common.{rules, false, cond, Option, None, Some, inl, inr, refl, sym, ap, ◌∙◌, subst, arith, length-set}
-use Rattle.std.specs.Prelude.{is_none, IsSome}
-use Rattle.std.proofs.lemmas.Bool.{cases_lt, cases_eq}
-use Rattle.std.proofs.lemmas.List.{get_or_past, get_or-set_same, get_or-set_other, get_or-replicate, length-replicate}
-use Rattle.im_types.specs.declared.operations.Block.{Block}
-use Rattle.im_types.specs.Place.{fill}
-use Rattle.im_laws.proofs.BlockLemmas.{length-fill, get_or-fill_in}
-use Rattle.im_laws.proofs.Tests.{true_false, some_none}
-use Rattle.im_holes.specs.Holes.{holder_at}
-use Rattle.im_holes.proofs.Giving.{fill-out}
+use Rattle.std.proofs.Common.{◌≡◌, ℕ, ◌+◌, ◌-◌, ◌^◌, ◌<◌, ◌≤◌, true, false, cond, ◌≢◌, List, length, set, replicate}
+use Rattle.std.proofs.Common.{is_none, IsSome, Some, None, Option, sym, refl, ap, ◌∙◌, subst, inl, inr, arith}
+use Rattle.std.proofs.Common.{length-set, get_or-set_other, get_or-set_same, rules}
+use Rattle.std.proofs.lemmas.Bool.{cases_eq, cases_lt}
+use Rattle.std.proofs.lemmas.List.{get_or-replicate, get_or_past, length-replicate}
+use Rattle.im_types.specs.Types.{Block, fill}
+use Rattle.im_laws.proofs.{BlockLemmas.get_or-fill_in, BlockLemmas.length-fill, Tests.some_none, Tests.true_false}
+use Rattle.im_holes.{proofs.Giving.fill-out, proofs.Kept.lt-not, proofs.Kept.lt-yes, specs.Holes.holder_at}
+use Rattle.im_cell.proofs.Counted.{count-few, count-more, count-none}
+use Rattle.im_cell.proofs.Tables.{at-base, counts-moved, counts-same}
 use Rattle.im_cell.specs.declared.slots.Slot.{Slot}
-use Rattle.im_cell.specs.Slots.{slot_at, slot_block, block_in, is_waiting_slot, HoldsBlocks}
-use Rattle.im_cell.specs.Table.{count_from, waits_at, waits_before, HasCounts, base_in, moved, CanMove, IsHeldBy}
-use Rattle.im_cell.specs.Table.{IsFreeTo}
-use Rattle.im_cell.proofs.Counted.{count-none, count-few, count-more}
-use Rattle.im_holes.proofs.Kept.{lt-yes, lt-not}
-use Rattle.im_cell.proofs.Tables.{at-base, counts-same, counts-moved}
+use Rattle.im_cell.specs.Slots.{block_in, HoldsBlocks, is_waiting_slot, slot_at, slot_block}
+use Rattle.im_cell.specs.Table.{base_in, CanMove, count_from, HasCounts, IsFreeTo, IsHeldBy, moved, waits_at}
+use Rattle.im_cell.specs.Table.{waits_before}
 
 -- no cell is counted yet
 pub counts-begun : (slots : List (Option Slot)) (holes : List (Option ℕ)) → HoldsBlocks slots

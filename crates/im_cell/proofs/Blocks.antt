@@ -1,20 +1,14 @@
 -- Blocks stay whole.
-use Rattle.std.proofs.Common.{◌≡◌, inl, inr, ⊎_elim, ℕ, zero, suc, ◌+◌, ◌<◌, ◌≤◌, List, [], ◌∷◌, ◌++◌, take}
-use Rattle.std.proofs.Common.{replicate, length, get_or, set, Some, None, refl, sym, ap, ◌∙◌, subst, arith, length-set}
-use Rattle.std.specs.Prelude.{Option}
-use Rattle.std.proofs.lemmas.Bool.{cases_lt, cases_eq}
-use Rattle.std.proofs.lemmas.List.{get_or-set_same, get_or-set_other, get_or_past, take_more, get_or-replicate}
-use Rattle.std.proofs.lemmas.List.{length-replicate}
-use Rattle.im_types.specs.declared.operations.Block.{Block}
-use Rattle.im_types.specs.declared.operations.Kind.{Kind}
-use Rattle.im_types.specs.Place.{place, fill, change_each}
-use Rattle.im_laws.proofs.PlaceLemmas.{get_or-fill, get_or-change_each, place-free}
-use Rattle.im_laws.proofs.BlockLemmas.{length-fill, get_or-fill_in, length-change_each, place-fits}
-use Rattle.im_types.specs.declared.cells.Cell.{Cell}
-use Rattle.im_types.specs.declared.cells.Cell.TheVariants.{Empty}
-use Rattle.im_types.specs.declared.records.CellRecord.{CellRecord}
+use Rattle.std.proofs.Common.{◌≡◌, ℕ, zero, suc, ◌+◌, ◌<◌, ◌≤◌, List, [], ◌∷◌, ◌++◌, length, get_or, take, set}
+use Rattle.std.proofs.Common.{replicate, Some, None, Option, sym, refl, ap, ◌∙◌, subst, inl, inr, ⊎_elim, arith}
+use Rattle.std.proofs.Common.{length-set, get_or-set_other, get_or-set_same}
+use Rattle.std.proofs.lemmas.Bool.{cases_eq, cases_lt}
+use Rattle.std.proofs.lemmas.List.{get_or-replicate, get_or_past, length-replicate, take_more}
+use Rattle.im_types.specs.Types.{Kind, Block, Cell, CellEmpty as Empty, place, fill, change_each, CellRecord}
+use Rattle.im_laws.proofs.BlockLemmas.{get_or-fill_in, length-change_each, length-fill, place-fits}
+use Rattle.im_laws.proofs.PlaceLemmas.{get_or-change_each, get_or-fill, place-free}
 use Rattle.im_cell.specs.declared.slots.Slot.{Slot}
-use Rattle.im_cell.specs.Slots.{slot_at, block_in, slot_block, with_cell, new_slot, empty_slot, HoldsBlocks}
+use Rattle.im_cell.specs.Slots.{block_in, empty_slot, HoldsBlocks, new_slot, slot_at, slot_block, with_cell}
 
 -- something is not nothing
 some_none : {X : Type 0} (x : X) → Some x ≡ None → ⊥

@@ -1,26 +1,17 @@
 -- What a table keeps where a block is made, given back or emptied.
-use Rattle.std.proofs.Common.{◌≡◌, ℕ, ◌+◌, ◌<◌, ◌≤◌, List, length, take, drop, true, false}
-use Rattle.std.proofs.Common.{Option, None, Some, inl, inr, refl, sym, ap, ◌∙◌, arith}
-use Rattle.std.specs.Prelude.{is_none}
-use Rattle.std.specs.List.{list_any}
-use Rattle.std.proofs.lemmas.Bool.{cases_lt}
-use Rattle.im_types.specs.declared.operations.Block.{Block}
-use Rattle.im_types.specs.declared.operations.Kind.{Kind}
-use Rattle.im_types.specs.declared.cells.Cell.TheVariants.{Empty}
-use Rattle.im_types.specs.Place.{place, fill}
-use Rattle.im_laws.proofs.Tests.{true_or_false, true_false, some_none, some_same}
+use Rattle.std.proofs.Common.{◌≡◌, ℕ, ◌+◌, ◌<◌, ◌≤◌, true, false, List, length, take, drop, is_none, Some, None, Option}
+use Rattle.std.proofs.Common.{sym, refl, ap, ◌∙◌, inl, inr, arith}
+use Rattle.std.{proofs.lemmas.Bool.cases_lt, specs.List.list_any}
+use Rattle.im_types.specs.Types.{Kind, Block, CellEmpty as Empty, place, fill}
+use Rattle.im_laws.proofs.BlockLemmas.{get_or-fill_in, length-fill, place-fits}
 use Rattle.im_laws.proofs.PlaceLemmas.{place-free}
-use Rattle.im_laws.proofs.BlockLemmas.{length-fill, get_or-fill_in, place-fits}
-use Rattle.im_holes.specs.Holes.{holder_at, AreHeld, AreTakenFrom}
-use Rattle.im_holes.proofs.Giving.{fill-out}
-use Rattle.im_cell.specs.declared.slots.Slot.{Slot}
-use Rattle.im_cell.specs.Slots.{slot_at, slot_block, block_in, new_slot, empty_slot, is_waiting_slot, HoldsBlocks}
-use Rattle.im_cell.specs.Table.{count_from, waits_at, IsTable}
-use Rattle.im_cell.proofs.Blocks.{HasBlocks-placed, HasBlocks-released, HasBlocks-emptied}
-use Rattle.im_cell.proofs.Kept.{beside-fill}
-use Rattle.im_cell.proofs.Counted.{count-same, count-none, none-counted, none-within, some-within, place-like}
-use Rattle.im_cell.proofs.Tables.{none-some, some-held, one-block}
-use Rattle.im_cell.proofs.Tables.{counts-same}
+use Rattle.im_laws.proofs.Tests.{some_none, some_same, true_false, true_or_false}
+use Rattle.im_holes.{proofs.Giving.fill-out, specs.Holes.AreHeld, specs.Holes.AreTakenFrom, specs.Holes.holder_at}
+use Rattle.im_cell.proofs.Blocks.{HasBlocks-emptied, HasBlocks-placed, HasBlocks-released}
+use Rattle.im_cell.proofs.Counted.{count-none, count-same, none-counted, none-within, place-like, some-within}
+use Rattle.im_cell.proofs.{Kept.beside-fill, Tables.counts-same, Tables.none-some, Tables.one-block, Tables.some-held}
+use Rattle.im_cell.specs.{declared.slots.Slot.Slot, Table.count_from, Table.IsTable, Table.waits_at}
+use Rattle.im_cell.specs.Slots.{block_in, empty_slot, HoldsBlocks, is_waiting_slot, new_slot, slot_at, slot_block}
 
 -- both have the same place for a block
 pub place-table : (slots : List (Option Slot)) (holes : List (Option ℕ)) (n : ℕ) → IsTable slots holes

@@ -1,14 +1,10 @@
 -- How many cells of a block are waited for.
-use Rattle.std.proofs.Common.{◌≡◌, ◌≢◌, ℕ, zero, suc, ◌+◌, ◌-◌, ◌<◌, ◌≤◌, List, [], ◌∷◌, length, take, drop, get_or}
-use Rattle.std.proofs.Common.{Bool, true, false, cond, Option, None, Some, inl, inr, refl, sym, ap, ◌∙◌, arith}
-use Rattle.std.specs.Prelude.{◌||◌, not, is_none, option_map}
-use Rattle.std.proofs.Math.Bool.{beq}
-use Rattle.std.specs.List.{list_any}
-use Rattle.std.proofs.lemmas.Bool.{cases_eq}
-use Rattle.std.proofs.lemmas.List.{get_or-drop, length-drop}
-use Rattle.im_types.specs.Place.{place, begins_free}
-use Rattle.im_laws.proofs.Tests.{true_false}
-use Rattle.im_cell.specs.Table.{one_if, count_from}
+use Rattle.std.proofs.Common.{◌≡◌, ℕ, zero, suc, ◌+◌, ◌-◌, ◌<◌, ◌≤◌, Bool, true, false, cond, not, ◌||◌, ◌≢◌, List, []}
+use Rattle.std.proofs.Common.{◌∷◌, length, get_or, take, drop, is_none, Some, None, Option, option_map, sym, refl, ap}
+use Rattle.std.proofs.Common.{◌∙◌, inl, inr, arith, length-drop, get_or-drop}
+use Rattle.std.{proofs.lemmas.Bool.cases_eq, proofs.Math.Bool.beq, specs.List.list_any}
+use Rattle.{im_types.specs.Types.begins_free, im_types.specs.Types.place, im_laws.proofs.Tests.true_false}
+use Rattle.im_cell.specs.Table.{count_from, one_if}
 
 -- two truth values that are told apart
 pub differ-yes : (a b : Bool) → not (beq a b) ≡ true → b ≡ a → ⊥

@@ -1,8 +1,7 @@
 -- A list in which some elements are made the same, one after the other.
-use Rattle.std.proofs.Common.{ℕ, ◌+◌, ◌<◌, ◌≤◌, List, length, set, inl, inr, ap, ◌∙◌, refl, arith}
+use Rattle.std.proofs.Common.{ℕ, ◌+◌, ◌<◌, ◌≤◌, List, length, set, slice_index_or, refl, ap, ◌∙◌, inl, inr, arith}
+use Rattle.std.proofs.Common.{get_or-set_other, get_or-set_same}
 use Rattle.std.proofs.lemmas.Bool.{cases_eq}
-use Rattle.std.proofs.lemmas.List.{get_or-set_same, get_or-set_other}
-use Rattle.std.specs.Prelude.{slice_index_or}
 use Rattle.im_cell.specs.Cells.{IsFilled}
 
 module _ {X : Type 0} (d : X) (old : List X) where

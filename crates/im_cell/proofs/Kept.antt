@@ -1,26 +1,16 @@
 -- The slots of cells, by what is kept for each.
-use Rattle.std.proofs.Common.{◌≡◌, ℕ, zero, suc, ◌+◌, ◌-◌, ◌<◌, ◌≤◌, List, [], ◌∷◌, length, set, get_or, Option, None, Some}
-use Rattle.std.proofs.Common.{Bool, inl, inr, refl, sym, ap, ◌∙◌, subst, arith}
-use Rattle.std.specs.Prelude.{IsSome}
-use Rattle.std.proofs.lemmas.Bool.{cases_lt}
-use Rattle.std.proofs.lemmas.List.{get_or_past, ext_get_or}
-use Rattle.im_types.specs.Place.{fill}
-use Rattle.im_types.specs.declared.operations.Kind.{Kind}
-use Rattle.im_types.specs.declared.operations.Kind.TheVariants.{I, M}
-use Rattle.im_types.specs.declared.cells.Cell.{Cell}
-use Rattle.im_types.specs.declared.cells.Cell.TheVariants.{Empty, Waiting, Full, Clashed}
-use Rattle.im_laws.proofs.Tests.{some_none}
-use Rattle.im_laws.proofs.PlaceLemmas.{get_or-fill}
-use Rattle.im_laws.proofs.BlockLemmas.{length-fill, get_or-fill_in}
-use Rattle.im_cell.specs.declared.slots.Slot.{Slot}
-use Rattle.im_cell.specs.declared.state.Extent.{Extent}
-use Rattle.im_cell.specs.declared.state.State.{State}
-use Rattle.im_cell.specs.declared.state.State.TheVariants.{Free, EmptyI, WaitingI, FullI, ClashedI, EmptyM, WaitingM}
-use Rattle.im_cell.specs.declared.state.State.TheVariants.{FullM, ClashedM}
-use Rattle.im_cell.specs.declared.state.TheConstants.{NOWHERE}
-use Rattle.im_cell.specs.Slots.{slot_at, new_slot, with_cell}
-use Rattle.im_cell.specs.Cells.{block_by_extent, state_slot, state_for, value_of, tag_kind, slots_in, IsFilled}
-use Rattle.im_cell.specs.Table.{base_in}
+use Rattle.std.proofs.Common.{◌≡◌, ℕ, zero, suc, ◌+◌, ◌-◌, ◌<◌, ◌≤◌, Bool, List, [], ◌∷◌, length, get_or, set, IsSome}
+use Rattle.std.proofs.Common.{Some, None, Option, sym, refl, ap, ◌∙◌, subst, inl, inr, arith, ext_get_or}
+use Rattle.std.proofs.lemmas.{Bool.cases_lt, List.get_or_past}
+use Rattle.im_types.specs.Types.{Kind, I, M, Cell, CellEmpty as Empty, CellWaiting as Waiting, CellFull as Full}
+use Rattle.im_types.specs.Types.{CellClashed as Clashed, fill}
+use Rattle.im_laws.proofs.BlockLemmas.{get_or-fill_in, length-fill}
+use Rattle.im_laws.proofs.{PlaceLemmas.get_or-fill, Tests.some_none}
+use Rattle.im_cell.specs.Cells.{block_by_extent, IsFilled, slots_in, state_for, state_slot, tag_kind, value_of}
+use Rattle.im_cell.specs.declared.{slots.Slot.Slot, state.Extent.Extent, state.State.State, state.TheConstants.NOWHERE}
+use Rattle.im_cell.specs.declared.state.State.TheVariants.{ClashedI, ClashedM, EmptyI, EmptyM, Free, FullI, FullM}
+use Rattle.im_cell.specs.declared.state.State.TheVariants.{WaitingI, WaitingM}
+use Rattle.im_cell.specs.{Slots.new_slot, Slots.slot_at, Slots.with_cell, Table.base_in}
 
 pub length-slots : (states : List State) (values : List ℕ) (extents : List Extent) → length values ≡ length states
     → length extents ≡ length states → length (slots_in states values extents) ≡ length states

@@ -1,8 +1,7 @@
 -- The place as the least base.
-use Rattle.std.proofs.Common.{◌≡◌, ℕ, zero, suc, ◌<◌, List, [], ◌∷◌, Some, None, Bool, true, false, cond, refl, ap}
-use Rattle.std.proofs.Common.{rules, ◌∙◌, sym, arith}
-use Rattle.std.specs.Prelude.{Option, option_map, IfSome}
-use Rattle.im_types.specs.Place.{begins_free, is_free, place, IsLeastFree}
+use Rattle.std.proofs.Common.{◌≡◌, ℕ, zero, suc, ◌<◌, Bool, true, false, cond, List, [], ◌∷◌, IfSome, Some, None}
+use Rattle.std.proofs.Common.{Option, option_map, sym, refl, ap, ◌∙◌, arith, rules}
+use Rattle.im_types.specs.Types.{begins_free, is_free, place, IsLeastFree}
 
 module _ {X : Type 0} where
   least_step : (n : ℕ) (x : Option X) (xs : List (Option X)) → ((b : ℕ) → place n xs ≡ Some b → IsLeastFree xs n b)

@@ -1,15 +1,11 @@
 -- The records of cells, by what is kept for each.
-use Rattle.std.proofs.Common.{◌≡◌, ℕ, zero, suc, ◌<◌, List, [], ◌∷◌, ◌++◌, length, map, get_or}
-use Rattle.std.proofs.Common.{replicate, None, refl, sym, ap, ◌∙◌, arith}
-use Rattle.im_types.specs.declared.records.CellRecord.{CellRecord}
-use Rattle.im_types.specs.declared.records.CellRecord.TheVariants.{Free as FreeCell}
-use Rattle.im_cell.specs.declared.state.Extent.{Extent}
-use Rattle.im_cell.specs.declared.state.State.{State}
-use Rattle.im_cell.specs.declared.state.State.TheVariants.{Free, EmptyI, WaitingI, FullI, ClashedI, EmptyM, WaitingM}
-use Rattle.im_cell.specs.declared.state.State.TheVariants.{FullM, ClashedM}
-use Rattle.im_cell.specs.declared.state.TheConstants.{NOWHERE}
-use Rattle.im_cell.specs.Slots.{shown_slot}
-use Rattle.im_cell.specs.Cells.{state_slot, slots_in, record_shown, rows_in}
+use Rattle.std.proofs.Common.{◌≡◌, ℕ, zero, suc, ◌<◌, List, [], ◌∷◌, ◌++◌, map, length, get_or, replicate, None, sym}
+use Rattle.std.proofs.Common.{refl, ap, ◌∙◌, arith}
+use Rattle.im_types.specs.Types.{CellRecord, FreeCell}
+use Rattle.im_cell.specs.{Cells.record_shown, Cells.rows_in, Cells.slots_in, Cells.state_slot, Slots.shown_slot}
+use Rattle.im_cell.specs.declared.state.{Extent.Extent, State.State, TheConstants.NOWHERE}
+use Rattle.im_cell.specs.declared.state.State.TheVariants.{ClashedI, ClashedM, EmptyI, EmptyM, Free, FullI, FullM}
+use Rattle.im_cell.specs.declared.state.State.TheVariants.{WaitingI, WaitingM}
 
 pub length-rows : (states : List State) (values : List ℕ) (extents : List Extent) (lasts : List ℕ)
     → length values ≡ length states → length extents ≡ length states → length lasts ≡ length states

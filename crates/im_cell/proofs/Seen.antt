@@ -1,21 +1,16 @@
 -- Cells in units, in which one record may stand for all.
-use Rattle.std.proofs.Common.{◌≡◌, ◌≢◌, ℕ, zero, suc, ◌+◌, ◌-◌, ◌*◌, ◌/◌, ◌%◌, ◌<◌, ◌≤◌, List, [], ◌∷◌, length, set}
-use Rattle.std.proofs.Common.{Bool, true, false, Option, None, inl, inr, refl, sym, ap, ◌∙◌, arith}
-use Rattle.std.proofs.Common.{length-set, replicate}
-use Rattle.std.specs.Prelude.{min, max}
-use Rattle.std.proofs.lemmas.Bool.{cases_lt, cases_eq}
-use Rattle.std.proofs.lemmas.List.{get_or-set_same, get_or-set_other, get_or_past, ext_get_or, get_or-replicate}
-use Rattle.std.proofs.lemmas.List.{length-replicate}
-use Rattle.im_types.specs.Place.{fill}
-use Rattle.im_laws.proofs.BlockLemmas.{length-fill, get_or-fill_in}
-use Rattle.im_cell.specs.declared.slots.Slot.{Slot}
-use Rattle.im_cell.specs.declared.unit.TheConstants.{UNIT}
-use Rattle.im_cell.specs.declared.unit.Unit.{Unit}
-use Rattle.im_cell.specs.declared.unit.Unit.TheVariants.{Each, Free, BlockI, BlockM}
-use Rattle.im_cell.specs.Slots.{slot_at}
-use Rattle.im_cell.specs.Cells.{IsFilled}
-use Rattle.im_cell.specs.Units.{unit_at, is_own, common_slot, slot_by, shown_from, shown_units}
+use Rattle.std.proofs.Common.{◌≡◌, ℕ, zero, suc, ◌+◌, ◌-◌, ◌*◌, ◌/◌, ◌%◌, ◌<◌, ◌≤◌, min, max, Bool, true, false, ◌≢◌}
+use Rattle.std.proofs.Common.{List, [], ◌∷◌, length, set, replicate, None, Option, sym, refl, ap, ◌∙◌, inl, inr, arith}
+use Rattle.std.proofs.Common.{length-set, get_or-set_other, get_or-set_same, ext_get_or}
+use Rattle.std.proofs.lemmas.Bool.{cases_eq, cases_lt}
+use Rattle.std.proofs.lemmas.List.{get_or-replicate, get_or_past, length-replicate}
+use Rattle.im_types.specs.Types.{fill}
+use Rattle.im_laws.proofs.BlockLemmas.{get_or-fill_in, length-fill}
 use Rattle.im_cell.proofs.Kept.{beside-fill}
+use Rattle.im_cell.specs.{Cells.IsFilled, declared.slots.Slot.Slot, Slots.slot_at}
+use Rattle.im_cell.specs.declared.unit.{TheConstants.UNIT, Unit.Unit}
+use Rattle.im_cell.specs.declared.unit.Unit.TheVariants.{BlockI, BlockM, Each, Free}
+use Rattle.im_cell.specs.Units.{common_slot, is_own, shown_from, shown_units, slot_by, unit_at}
 
 length-shown_from : (i : ℕ) (units : List Unit) (slots : List (Option Slot)) → length (shown_from i units slots)
     ≡ length slots

@@ -1,20 +1,15 @@
 -- What a table keeps, as its cells change.
-use Rattle.std.proofs.Common.{◌≡◌, ◌≢◌, ℕ, suc, ◌+◌, ◌-◌, ◌<◌, ◌≤◌, List, length, set}
-use Rattle.std.proofs.Common.{Bool, true, false, Option, None, Some, inl, inr, refl, sym, ap, ◌∙◌}
-use Rattle.std.proofs.Common.{rules, subst, arith, length-set}
-use Rattle.std.specs.Prelude.{is_none, IsSome}
-use Rattle.std.proofs.lemmas.Bool.{cases_lt, cases_eq}
-use Rattle.std.proofs.lemmas.List.{get_or_past, get_or-set_same, get_or-set_other}
-use Rattle.im_types.specs.declared.operations.Block.{Block}
-use Rattle.im_types.specs.declared.cells.Cell.{Cell}
-use Rattle.im_laws.proofs.Tests.{true_false, some_none, some_same}
-use Rattle.im_holes.specs.Holes.{holder_at}
+use Rattle.std.proofs.Common.{◌≡◌, ℕ, suc, ◌+◌, ◌-◌, ◌<◌, ◌≤◌, Bool, true, false, ◌≢◌, List, length, set, is_none}
+use Rattle.std.proofs.Common.{IsSome, Some, None, Option, sym, refl, ap, ◌∙◌, subst, inl, inr, arith, length-set}
+use Rattle.std.proofs.Common.{get_or-set_other, get_or-set_same, rules}
+use Rattle.std.proofs.lemmas.{Bool.cases_eq, Bool.cases_lt, List.get_or_past}
+use Rattle.{im_types.specs.Types.Block, im_types.specs.Types.Cell, im_holes.specs.Holes.holder_at}
+use Rattle.im_laws.proofs.Tests.{some_none, some_same, true_false}
+use Rattle.im_cell.proofs.{Blocks.HasBlocks-set, Counted.count-few, Counted.count-more, Counted.count-same}
 use Rattle.im_cell.specs.declared.slots.Slot.{Slot}
-use Rattle.im_cell.specs.Slots.{slot_at, slot_block, block_in, new_slot, with_cell, is_waiting_slot, HoldsBlocks}
-use Rattle.im_cell.specs.Slots.{cell_waits}
-use Rattle.im_cell.specs.Table.{count_from, waits_at, HasCounts, base_in, moved, CanMove, IsTable}
-use Rattle.im_cell.proofs.Blocks.{HasBlocks-set}
-use Rattle.im_cell.proofs.Counted.{count-same, count-few, count-more}
+use Rattle.im_cell.specs.Slots.{block_in, cell_waits, HoldsBlocks, is_waiting_slot, new_slot, slot_at, slot_block}
+use Rattle.im_cell.specs.Slots.{with_cell}
+use Rattle.im_cell.specs.Table.{base_in, CanMove, count_from, HasCounts, IsTable, moved, waits_at}
 
 -- of a cell that is free in the one and not in the other
 pub none-some : {X : Type 0} (o : Option X) → is_none o ≡ false → IsSome o

@@ -1,19 +1,11 @@
 -- The parts that are kept for a cell, and the cell that they stand for. (Own.)
-use Rattle.std.specs.Prelude.{◌≡◌, ℕ, ◌%◌, ◌^◌, ◌<◌, ◌≤◌, slice_index_or, List, [], ◌∷◌, Option, None}
-use Rattle.im_types.specs.declared.operations.Block.{Block}
-use Rattle.im_types.specs.declared.operations.Kind.{Kind}
-use Rattle.im_types.specs.declared.operations.Kind.TheVariants.{I, M}
-use Rattle.im_types.specs.declared.cells.Cell.{Cell}
-use Rattle.im_types.specs.declared.cells.Cell.TheVariants.{Empty, Waiting, Full, Clashed}
-use Rattle.im_types.specs.declared.records.PresenceTag.TheVariants.{Empty as TagEmpty, Waiting as TagWaiting}
-use Rattle.im_types.specs.declared.records.PresenceTag.TheVariants.{Full as TagFull, Clashed as TagClashed}
-use Rattle.im_types.specs.declared.records.CellRecord.{CellRecord}
-use Rattle.im_types.specs.declared.records.CellRecord.TheVariants.{Free as FreeCell, Held as BlockCell}
-use Rattle.im_cell.specs.declared.slots.Slot.{Slot}
-use Rattle.im_cell.specs.declared.state.Extent.{Extent}
-use Rattle.im_cell.specs.declared.state.State.{State}
-use Rattle.im_cell.specs.declared.state.State.TheVariants.{Free, EmptyI, WaitingI, FullI, ClashedI, EmptyM, WaitingM}
-use Rattle.im_cell.specs.declared.state.State.TheVariants.{FullM, ClashedM}
+use Rattle.std.specs.Prelude.{◌≡◌, ℕ, ◌%◌, ◌^◌, ◌<◌, ◌≤◌, List, [], ◌∷◌, slice_index_or, None, Option}
+use Rattle.im_types.specs.Types.{Kind, Block, I, M, Cell, CellEmpty as Empty, CellWaiting as Waiting, CellFull as Full}
+use Rattle.im_types.specs.Types.{CellClashed as Clashed, CellRecord, TagEmpty, TagWaiting, TagFull, TagClashed}
+use Rattle.im_types.specs.Types.{FreeCell, BlockCell}
+use Rattle.im_cell.specs.declared.{slots.Slot.Slot, state.Extent.Extent, state.State.State}
+use Rattle.im_cell.specs.declared.state.State.TheVariants.{ClashedI, ClashedM, EmptyI, EmptyM, Free, FullI, FullM}
+use Rattle.im_cell.specs.declared.state.State.TheVariants.{WaitingI, WaitingM}
 use Rattle.im_cell.specs.Slots.{new_slot}
 
 -- the block of this kind at this place

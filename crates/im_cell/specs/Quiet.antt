@@ -1,9 +1,8 @@
 -- A block whose cells nobody waits for. (Own.)
-use Rattle.std.specs.Prelude.{◌≡◌, ℕ, List, Option, Some, true, false, take, drop}
+use Rattle.std.specs.Prelude.{◌≡◌, ℕ, true, false, List, take, drop, Some, Option}
 use Rattle.std.specs.List.{list_any}
-use Rattle.im_types.specs.declared.operations.Block.{Block}
-use Rattle.im_cell.specs.declared.slots.Slot.{Slot}
-use Rattle.im_cell.specs.Slots.{slot_block, is_waiting_slot, is_releasable}
+use Rattle.im_types.specs.Types.{Block}
+use Rattle.im_cell.specs.{declared.slots.Slot.Slot, Slots.is_releasable, Slots.is_waiting_slot, Slots.slot_block}
 
 -- the block begins here, and no request waits for any of its cells
 pub record IsQuietBlock (slots : List (Option Slot)) (base : ℕ) (block : Block) : Type 0 where

@@ -1,16 +1,10 @@
 -- A table of cells as a contract sees it: a slot for each address, None for a free cell. (Own.)
-use Rattle.std.specs.Prelude.{◌≡◌, ℕ, ◌+◌, ◌<◌, ◌≤◌, List, length, Bool, true, false, not, Option, None, Some}
-use Rattle.std.specs.Prelude.{slice_index_or, take, drop, if◌then◌else◌, ◌==◌}
+use Rattle.std.specs.Prelude.{◌≡◌, ℕ, ◌+◌, ◌<◌, ◌≤◌, Bool, true, false, not, List, length, take, drop, if◌then◌else◌}
+use Rattle.std.specs.Prelude.{◌==◌, slice_index_or, Some, None, Option}
 use Rattle.std.specs.List.{list_any}
-use Rattle.im_types.specs.declared.operations.Block.{Block}
-use Rattle.im_types.specs.declared.operations.Kind.{Kind}
-use Rattle.im_types.specs.declared.records.PresenceTag.{PresenceTag}
-use Rattle.im_types.specs.declared.records.PresenceTag.TheVariants.{Empty as TagEmpty, Waiting as TagWaiting}
-use Rattle.im_types.specs.declared.records.PresenceTag.TheVariants.{Full as TagFull, Clashed as TagClashed}
-use Rattle.im_types.specs.declared.records.CellRecord.{CellRecord}
-use Rattle.im_types.specs.declared.records.CellRecord.TheVariants.{Free as FreeCell, Held as BlockCell}
-use Rattle.im_types.specs.declared.cells.Cell.{Cell}
-use Rattle.im_types.specs.declared.cells.Cell.TheVariants.{Empty, Waiting, Full, Clashed}
+use Rattle.im_types.specs.Types.{Kind, Block, Cell, CellEmpty as Empty, CellWaiting as Waiting, CellFull as Full}
+use Rattle.im_types.specs.Types.{CellClashed as Clashed, PresenceTag, CellRecord, TagEmpty, TagWaiting, TagFull}
+use Rattle.im_types.specs.Types.{TagClashed, FreeCell, BlockCell}
 use Rattle.im_cell.specs.declared.slots.Slot.{Slot}
 
 -- the slot at an address; None in no block and past the last cell

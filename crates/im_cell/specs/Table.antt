@@ -1,10 +1,9 @@
 -- A table: the slots of its cells, and the holes among them. (Own.)
-use Rattle.std.specs.Prelude.{◌≡◌, ℕ, zero, suc, ◌+◌, ◌-◌, ◌<◌, ◌≤◌, ◌^◌, List, length, Bool, true, false, Option, None}
-use Rattle.std.specs.Prelude.{Some, IsSome, is_none, nat_lt, if◌then◌else◌}
-use Rattle.im_types.specs.declared.operations.Block.{Block}
-use Rattle.im_holes.specs.Holes.{holder_at}
+use Rattle.std.specs.Prelude.{◌≡◌, ℕ, zero, suc, ◌+◌, ◌-◌, ◌^◌, ◌<◌, ◌≤◌, Bool, true, false, List, length, is_none}
+use Rattle.std.specs.Prelude.{if◌then◌else◌, IsSome, nat_lt, Some, None, Option}
+use Rattle.{im_types.specs.Types.Block, im_holes.specs.Holes.holder_at}
 use Rattle.im_cell.specs.declared.slots.Slot.{Slot}
-use Rattle.im_cell.specs.Slots.{slot_at, slot_block, is_waiting_slot, HoldsBlocks}
+use Rattle.im_cell.specs.Slots.{HoldsBlocks, is_waiting_slot, slot_at, slot_block}
 
 -- 1 if a test holds, else 0
 abbrev pub one_if : Bool → ℕ

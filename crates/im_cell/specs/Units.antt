@@ -1,13 +1,9 @@
 -- Units of cells. One record may stand for all cells of a unit. (Own.)
-use Rattle.std.specs.Prelude.{ℕ, suc, ◌/◌, List, [], ◌∷◌, Bool, true, false, Option, None, slice_index_or}
-use Rattle.im_types.specs.declared.cells.Cell.TheVariants.{Empty}
-use Rattle.im_types.specs.declared.operations.Kind.TheVariants.{I, M}
-use Rattle.im_cell.specs.declared.slots.Slot.{Slot}
-use Rattle.im_cell.specs.declared.unit.Unit.{Unit}
-use Rattle.im_cell.specs.declared.unit.Unit.TheVariants.{Each, Free, BlockI, BlockM}
-use Rattle.im_cell.specs.declared.unit.TheConstants.{UNIT}
-use Rattle.im_cell.specs.Slots.{new_slot}
-use Rattle.im_cell.specs.Cells.{block_by_extent}
+use Rattle.std.specs.Prelude.{ℕ, suc, ◌/◌, Bool, true, false, List, [], ◌∷◌, slice_index_or, None, Option}
+use Rattle.im_types.specs.Types.{I, M, CellEmpty as Empty}
+use Rattle.im_cell.specs.{Cells.block_by_extent, declared.slots.Slot.Slot, Slots.new_slot}
+use Rattle.im_cell.specs.declared.unit.{TheConstants.UNIT, Unit.Unit}
+use Rattle.im_cell.specs.declared.unit.Unit.TheVariants.{BlockI, BlockM, Each, Free}
 
 -- a unit; past the last unit each cell has its own record
 abbrev pub unit_at : List Unit → ℕ → Unit

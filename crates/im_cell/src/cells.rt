@@ -1,10 +1,8 @@
 //! The records of the cells, one for each cell.
-ghost use Rattle.std.specs.Prelude.{◌≡◌, ◌-◌, ◌<◌, ◌≤◌, true, false, None, length, slice_set, IsSome};
-ghost use Rattle.im_types.specs.Place.{fill};
-ghost use Rattle.im_cell.specs.Slots.{slot_at, with_cell, is_waiting_slot};
-ghost use Rattle.im_cell.specs.Cells.{slots_in, IsFilled};
-ghost use Rattle.im_cell.specs.Table.{base_in};
-ghost use Rattle.im_cell.specs.Units.{common_slot};
+ghost use Rattle.std.specs.Prelude.{◌≡◌, ◌-◌, ◌<◌, ◌≤◌, true, false, length, IsSome, slice_set, None};
+ghost use Rattle.im_types.specs.Types.{fill};
+ghost use Rattle.im_cell.specs.{Cells.IsFilled, Cells.slots_in, Table.base_in, Units.common_slot};
+ghost use Rattle.im_cell.specs.Slots.{is_waiting_slot, slot_at, with_cell};
 
 use crate::slots::Slot;
 use crate::state::{Extent, NOWHERE, State, state_of, value_in};
@@ -21,9 +19,8 @@ pub(crate) struct Cells {
 }
 
 impl Model for Cells {
-    ghost use Rattle.std.specs.Prelude.{List, Option, ◌≡◌, length};
-    ghost use Rattle.im_cell.specs.declared.slots.Slot.{Slot};
-    ghost use Rattle.im_cell.specs.Cells.{slots_in};
+    ghost use Rattle.std.specs.Prelude.{◌≡◌, List, length, Option};
+    ghost use Rattle.im_cell.specs.{Cells.slots_in, declared.slots.Slot.Slot};
 
     ghost Value = { List (Option Slot) };
 

@@ -1,10 +1,10 @@
 //! The number of waited-for cells of each block. It is kept as the number of the block's first cell.
-ghost use Rattle.std.specs.Prelude.{◌≡◌, ℕ, ◌+◌, ◌<◌, ◌^◌, length, true, false, replicate, Some, None, slice_set};
-ghost use Rattle.im_holes.specs.Holes.{holder_at};
-ghost use Rattle.im_cell.specs.Slots.{slot_at, slot_block, with_cell, is_waiting_slot, HoldsBlocks};
-ghost use Rattle.std.specs.Prelude.{IsSome, take, drop};
+ghost use Rattle.std.specs.Prelude.{◌≡◌, ℕ, ◌+◌, ◌^◌, ◌<◌, true, false, length, take, drop, replicate, IsSome};
+ghost use Rattle.std.specs.Prelude.{slice_set, Some, None};
 ghost use Rattle.std.specs.List.{list_any};
-ghost use Rattle.im_cell.specs.Table.{CanMove, moved, waits_at, waits_before, HasCounts, IsTable, IsHeldBy, IsFreeTo};
+ghost use Rattle.im_holes.specs.Holes.{holder_at};
+ghost use Rattle.im_cell.specs.Slots.{HoldsBlocks, is_waiting_slot, slot_at, slot_block, with_cell};
+ghost use Rattle.im_cell.specs.Table.{CanMove, HasCounts, IsFreeTo, IsHeldBy, IsTable, moved, waits_at, waits_before};
 
 use crate::cells::Cells;
 use crate::state::is_waited_for;

@@ -1,9 +1,8 @@
 //! Cells that are made alike: whole units at once, and cell by cell in a unit that is cut.
-ghost use Rattle.std.specs.Prelude.{◌≡◌, ◌≢◌, ℕ, ◌-◌, ◌*◌, ◌/◌, ◌%◌, ◌<◌, ◌≤◌, ◌^◌, false, length, slice_set, IsSome};
-ghost use Rattle.im_types.specs.Place.{fill};
-ghost use Rattle.im_cell.specs.Slots.{slot_at, with_cell, is_waiting_slot};
-ghost use Rattle.im_cell.specs.Cells.{IsFilled};
-ghost use Rattle.im_cell.specs.Units.{common_slot, is_own, unit_at, shown_units};
+ghost use Rattle.std.specs.Prelude.{◌≡◌, ℕ, ◌-◌, ◌*◌, ◌/◌, ◌%◌, ◌^◌, ◌<◌, ◌≤◌, false, ◌≢◌, length, IsSome, slice_set};
+ghost use Rattle.im_types.specs.Types.{fill};
+ghost use Rattle.im_cell.specs.{Cells.IsFilled, Slots.is_waiting_slot, Slots.slot_at, Slots.with_cell};
+ghost use Rattle.im_cell.specs.Units.{common_slot, is_own, shown_units, unit_at};
 
 use crate::cells::Cells;
 use crate::slots::Slot;

@@ -1,7 +1,7 @@
 //! The part of a cell that is kept in one byte, and the place of its block.
-ghost use Rattle.std.specs.Prelude.{◌≡◌, ℕ, Some, is_none};
-ghost use Rattle.im_cell.specs.Slots.{new_slot, is_waiting_slot, cell_waits, with_cell};
-ghost use Rattle.im_cell.specs.Cells.{block_by_extent, state_slot, state_for, value_of, tag_kind};
+ghost use Rattle.std.specs.Prelude.{◌≡◌, ℕ, is_none, Some};
+ghost use Rattle.im_cell.specs.Cells.{block_by_extent, state_for, state_slot, tag_kind, value_of};
+ghost use Rattle.im_cell.specs.Slots.{cell_waits, is_waiting_slot, new_slot, with_cell};
 
 use crate::slots::Slot;
 use im_types::{Block, Cell, Kind};

@@ -1,9 +1,7 @@
 //! Units of cells. One record may stand for all cells of a unit.
 ghost use Rattle.std.specs.Prelude.{◌≡◌, ℕ, false};
-ghost use Rattle.im_types.specs.declared.cells.Cell.TheVariants.{Empty};
-ghost use Rattle.im_cell.specs.Slots.{new_slot};
-ghost use Rattle.im_cell.specs.Cells.{state_slot};
-ghost use Rattle.im_cell.specs.Units.{common_slot, is_own};
+ghost use Rattle.im_types.specs.Types.{CellEmpty as Empty};
+ghost use Rattle.im_cell.specs.{Cells.state_slot, Slots.new_slot, Units.common_slot, Units.is_own};
 
 use crate::slots::Slot;
 use crate::state::{Extent, NOWHERE, State};

@@ -1,10 +1,9 @@
 //! The slots of all cells.
-ghost use Rattle.std.specs.Prelude.{◌≡◌, ◌+◌, ◌-◌, ◌*◌, ◌/◌, ◌<◌, ◌≤◌, ◌^◌, false, length, replicate, slice_set};
-ghost use Rattle.std.specs.Prelude.{IsSome};
-ghost use Rattle.im_types.specs.Place.{fill};
-ghost use Rattle.im_cell.specs.Slots.{slot_at, with_cell, is_waiting_slot};
-ghost use Rattle.im_cell.specs.Table.{base_in};
-ghost use Rattle.im_cell.specs.Units.{common_slot, is_own};
+ghost use Rattle.std.specs.Prelude.{◌≡◌, ◌+◌, ◌-◌, ◌*◌, ◌/◌, ◌^◌, ◌<◌, ◌≤◌, false, length, replicate, IsSome};
+ghost use Rattle.std.specs.Prelude.{slice_set};
+ghost use Rattle.im_types.specs.Types.{fill};
+ghost use Rattle.im_cell.specs.Slots.{is_waiting_slot, slot_at, with_cell};
+ghost use Rattle.im_cell.specs.{Table.base_in, Units.common_slot, Units.is_own};
 
 use crate::cells::Cells;
 use crate::filling::{fill_shown, own_slot, set_among_same, unit_of};
@@ -21,10 +20,8 @@ pub(crate) struct CellUnits {
 }
 
 impl Model for CellUnits {
-    ghost use Rattle.std.specs.Prelude.{List, Option, ◌≤◌, ◌<◌, ◌*◌, ◌^◌, length};
-    ghost use Rattle.im_cell.specs.declared.slots.Slot.{Slot};
-    ghost use Rattle.im_cell.specs.declared.unit.TheConstants.{UNIT};
-    ghost use Rattle.im_cell.specs.Units.{shown_units};
+    ghost use Rattle.std.specs.Prelude.{◌*◌, ◌^◌, ◌<◌, ◌≤◌, List, length, Option};
+    ghost use Rattle.im_cell.specs.{declared.slots.Slot.Slot, declared.unit.TheConstants.UNIT, Units.shown_units};
 
     ghost Value = { List (Option Slot) };
 

@@ -1,14 +1,8 @@
 -- Cells one after another: those that are waited for, and those that are full.
-use Rattle.std.proofs.Common.{◌≡◌, ℕ, zero, suc, ◌+◌, ◌-◌, ◌<◌, ◌≤◌, List, ◌++◌, sym, ap, ◌∙◌, take, drop, length}
-use Rattle.std.proofs.Common.{append-nil, arith}
-use Rattle.std.specs.Prelude.{Option, None, Bool, ◌||◌}
-use Rattle.std.specs.List.{list_any}
-use Rattle.std.proofs.Math.Seq.{drop-cons}
-use Rattle.std.proofs.lemmas.List.{drop_all}
-use Rattle.im_types.specs.declared.changes.Change.{Change}
-use Rattle.im_types.specs.Contents.{Held, Contents, held_at}
-use Rattle.im_types.specs.Act.{is_waiting_cell}
-use Rattle.im_types.specs.Changes.{fills_from, opening}
+use Rattle.std.proofs.Common.{◌≡◌, ℕ, zero, suc, ◌+◌, ◌-◌, ◌<◌, ◌≤◌, Bool, ◌||◌, List, ◌++◌, length, take, drop, None}
+use Rattle.std.proofs.Common.{Option, sym, ap, ◌∙◌, append-nil, arith}
+use Rattle.std.{proofs.lemmas.List.drop_all, proofs.Math.Seq.drop-cons, specs.List.list_any}
+use Rattle.im_types.specs.Types.{Held, Contents, held_at, is_waiting_cell, fills_from, opening, Change}
 
 abbrev pub waits_in : List (Option Held) → ℕ → ℕ → Bool
 waits_in cells a n = list_any is_waiting_cell (take n (drop a cells))

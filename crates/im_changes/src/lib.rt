@@ -2,14 +2,11 @@
 //! Contracts name the definitions of `im_types`.
 #![tactic(auto)]
 
-ghost use Rattle.std.specs.Prelude.{◌≡◌, ◌+◌, ◌≤◌, ◌++◌, Option, true, drop, take, length, option_map, OnOk, IfOk};
-ghost use Rattle.std.specs.Prelude.{IfSome};
+ghost use Rattle.std.specs.Prelude.{◌≡◌, ◌+◌, ◌≤◌, true, ◌++◌, length, take, drop, IfSome, IfOk, OnOk, Option};
+ghost use Rattle.std.specs.Prelude.{option_map};
 ghost use Rattle.std.specs.List.{AllByRecursion, list_any};
-ghost use Rattle.im_types.specs.Contents.{Held, held_at, full_in};
-ghost use Rattle.im_types.specs.Act.{block_with_base, is_waiting_cell};
-ghost use Rattle.im_types.specs.Presences.{presence_in};
-ghost use Rattle.im_types.specs.Changes.{is_below, store_change_in, emptying_change, change_of, change_by};
-ghost use Rattle.im_types.specs.Changes.{fill_at, opening};
+ghost use Rattle.im_types.specs.Types.{Held, held_at, full_in, presence_in, block_with_base, is_waiting_cell, is_below};
+ghost use Rattle.im_types.specs.Types.{store_change_in, emptying_change, change_of, change_by, fill_at, opening};
 
 use im_memory::Memory;
 use im_types::{Block, Cell, Change, Command, Kind, Op};

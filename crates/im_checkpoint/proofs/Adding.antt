@@ -1,24 +1,16 @@
 -- What a command names, and a set with these pages more.
-use Rattle.std.proofs.Common.{◌≡◌, ⊎_elim, ℕ, zero, suc, ◌+◌, ◌≤◌, Bool, true, false, List, [], ◌∷◌, length}
-use Rattle.std.proofs.Common.{replicate, Option, None, Some, refl, sym, ◌∙◌, ap, arith}
-use Rattle.std.specs.Prelude.{◌||◌}
+use Rattle.std.proofs.Common.{◌≡◌, ℕ, zero, suc, ◌+◌, ◌≤◌, Bool, true, false, ◌||◌, List, [], ◌∷◌, length, replicate}
+use Rattle.std.proofs.Common.{Some, None, Option, sym, refl, ap, ◌∙◌, ⊎_elim, arith}
 use Rattle.std.proofs.lemmas.Bool.{cases_lt}
-use Rattle.im_types.specs.declared.operations.Block.{Block}
-use Rattle.im_types.specs.declared.operations.Op.{Op}
-use Rattle.im_types.specs.declared.operations.Op.TheVariants.{Alloc, Release, Reset, Fetch, Store, Take, Put}
-use Rattle.im_types.specs.declared.commands.Command.{Command}
-use Rattle.im_types.specs.declared.commands.Command.TheVariants.{Request as Asks, Confirm}
-use Rattle.im_types.specs.Contents.{Contents, Held, held_at}
-use Rattle.im_types.specs.Place.{place}
-use Rattle.im_types.specs.Act.{block_with_base}
-use Rattle.im_pages.specs.Places.{page_of_cell, page_of_session}
-use Rattle.im_pages.specs.PageSets.{has, with_page, with_pages, union, size_of}
+use Rattle.im_types.specs.Types.{Op, Block, Alloc, Release, Reset, Fetch, Store, Take, Put, Command, Asks, Confirm}
+use Rattle.im_types.specs.Types.{Held, Contents, held_at, place, block_with_base}
+use Rattle.im_pages.{proofs.SetLemmas.length-union, specs.Places.page_of_cell, specs.Places.page_of_session}
+use Rattle.im_pages.specs.PageSets.{has, size_of, union, with_page, with_pages}
+use Rattle.im_memory.specs.Covering.{block_pages, Covers, HasBlockMore, IsAlone, IsOfBlock, most_pages, with_block}
+use Rattle.im_memory.specs.Covering.{with_cells, with_new}
 use Rattle.im_memory.specs.State.{MemoryState}
-use Rattle.im_memory.specs.Covering.{Covers, HasBlockMore, IsOfBlock, IsAlone, block_pages, most_pages}
-use Rattle.im_memory.specs.Covering.{with_cells, with_new, with_block}
-use Rattle.im_checkpoint.specs.Turns.{HasOwn, AddsPages}
-use Rattle.im_checkpoint.proofs.Copying.{has_union, past, within_union, size_union, size_none}
-use Rattle.im_pages.proofs.SetLemmas.{length-union}
+use Rattle.im_checkpoint.proofs.Copying.{has_union, past, size_none, size_union, within_union}
+use Rattle.im_checkpoint.specs.Turns.{AddsPages, HasOwn}
 
 length-with : (set : List Bool) (page : ℕ) → length (with_page set page) ≡ length set
 length-with [] page = refl

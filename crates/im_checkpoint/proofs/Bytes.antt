@@ -1,12 +1,9 @@
 -- Parts of files that agree but for a range, and areas by their pages.
-use Rattle.std.proofs.Common.{◌≡◌, ◌⊎◌, inl, inr, ⊎_elim, ℕ, ◌+◌, ◌-◌, ◌*◌, ◌<◌, ◌≤◌, List, length, get_or, drop}
-use Rattle.std.proofs.Common.{slice_range, refl, sym, ◌∙◌, ap, arith, length-take, length-drop, get_or-take}
-use Rattle.std.proofs.Common.{get_or-drop}
-use Rattle.std.proofs.lemmas.List.{ext_get_or}
-use Rattle.im_types.specs.Layout.{record_at}
-use Rattle.im_disk.specs.Moment.{overlaid}
-use Rattle.im_disk.specs.Since.{SameBut}
-use Rattle.im_disk.proofs.OverlayLemmas.{length-overlaid, overlaid_outside, overlaid_inside}
+use Rattle.std.proofs.Common.{◌≡◌, ℕ, ◌+◌, ◌-◌, ◌*◌, ◌<◌, ◌≤◌, ◌⊎◌, List, length, get_or, drop, slice_range, sym, refl}
+use Rattle.std.proofs.Common.{ap, ◌∙◌, inl, inr, ⊎_elim, arith, length-drop, length-take, get_or-drop, get_or-take}
+use Rattle.std.proofs.Common.{ext_get_or}
+use Rattle.{im_types.specs.Types.record_at, im_disk.specs.Moment.overlaid, im_disk.specs.Since.SameBut}
+use Rattle.im_disk.proofs.OverlayLemmas.{length-overlaid, overlaid_inside, overlaid_outside}
 
 -- files that agree but for a range
 

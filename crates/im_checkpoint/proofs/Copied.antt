@@ -1,12 +1,10 @@
 -- A page is copied behind the others, or over its copy.
-use Rattle.std.proofs.Common.{replicate, ◌≡◌, ◌≢◌, ⊎_elim, ℕ, zero, suc, ◌+◌, ◌<◌, ◌≤◌, List, [], ◌∷◌, ◌++◌, map}
-use Rattle.std.proofs.Common.{length, set, refl, sym, ap, ◌∙◌, subst, arith, length-set}
-use Rattle.im_checkpoint.specs.declared.page_copies.CopyPlace.{CopyPlace}
-use Rattle.im_checkpoint.specs.declared.page_copies.CopyPlace.TheVariants.{Nowhere, At}
+use Rattle.std.proofs.Common.{◌≡◌, ℕ, zero, suc, ◌+◌, ◌<◌, ◌≤◌, ◌≢◌, List, [], ◌∷◌, ◌++◌, map, length, set, replicate}
+use Rattle.std.proofs.Common.{sym, refl, ap, ◌∙◌, subst, ⊎_elim, arith, length-set, get_or-set_other, get_or-set_same}
 use Rattle.std.proofs.lemmas.Bool.{cases_eq}
-use Rattle.std.proofs.lemmas.List.{length-replicate, get_or-set_same, get_or-set_other, get_or_append_left, get_or_at}
-use Rattle.std.proofs.lemmas.List.{get_or-map, length_push, map-set}
-use Rattle.im_checkpoint.specs.Copied.{blank_page, copy_at, copy_of, taken, copy_place, AreCopies}
+use Rattle.std.proofs.lemmas.List.{get_or-map, get_or_append_left, get_or_at, length-replicate, length_push, map-set}
+use Rattle.im_checkpoint.specs.Copied.{AreCopies, blank_page, copy_at, copy_of, copy_place, taken}
+use Rattle.im_checkpoint.specs.declared.page_copies.CopyPlace.{CopyPlace, TheVariants.At, TheVariants.Nowhere}
 
 -- ---- how many pages have a place
 

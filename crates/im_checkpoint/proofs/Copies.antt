@@ -1,29 +1,20 @@
 -- What is known of the pages of both areas, from turn to turn and from command to command.
-use Rattle.std.proofs.Common.{◌≡◌, ◌≢◌, ⊎_elim, ℕ, zero, ◌-◌, ◌<◌, ◌≤◌, Bool, true, false, true≢false, List, [], ◌∷◌}
-use Rattle.std.proofs.Common.{◌++◌, length, replicate, refl, sym, ◌∙◌, ap, subst, arith, length-append}
-use Rattle.std.specs.Prelude.{◌||◌, slice_index_or}
-use Rattle.std.specs.List.{Contains}
-use Rattle.std.proofs.lemmas.Bool.{cases_eq}
-use Rattle.std.proofs.lemmas.List.{get_or-replicate, get_or_default, take-append-le}
-use Rattle.im_types.specs.declared.commands.Command.{Command}
-use Rattle.im_types.specs.Journal.{IsBoundary}
-use Rattle.im_types.specs.Contents.{Contents}
-use Rattle.im_types.specs.Layout.{Sizes, layout_in_use, page_bytes, area_bytes, area_pages, area_of, record_at, ring_of}
-use Rattle.im_types.specs.Header.{Header, header_place, is_open_header}
-use Rattle.im_types.specs.Pages.{Records, Shows}
-use Rattle.im_types.specs.Meaning.{accept_each}
-use Rattle.im_laws.proofs.Tests.{true_or_false, or_left, or_right}
-use Rattle.im_journal.specs.Holding.{KeepsBoundaries}
-use Rattle.im_pages.specs.PageSets.{has, union, pages_from}
-use Rattle.im_pages.proofs.SetLemmas.{length-union, read-union, listed, lists-each, contains_rest, contains_more}
-use Rattle.im_image.specs.Encoding.{IsAreaPage, SameOn}
-use Rattle.im_image.proofs.Encoding.{area-shows}
-use Rattle.im_meaning.specs.Images.{other}
-use Rattle.im_checkpoint.specs.Copied.{copy_of}
-use Rattle.im_checkpoint.specs.Step.{Step, NoCheckpoint, PagesLeft, PagesDone, Synced, left_in}
-use Rattle.im_checkpoint.specs.Turns.{next_header}
-use Rattle.im_checkpoint.specs.Keeping.{Paged, has_changed, changed_lately, own_page, other_area, other_page, Stand}
-use Rattle.im_checkpoint.specs.Keeping.{IsTakenAt, IsWriting, IsResting, KeepsStep}
+use Rattle.std.proofs.Common.{◌≡◌, ℕ, zero, ◌-◌, ◌<◌, ◌≤◌, Bool, true, false, ◌||◌, ◌≢◌, List, [], ◌∷◌, ◌++◌, length}
+use Rattle.std.proofs.Common.{replicate, slice_index_or, Contains, sym, refl, ap, ◌∙◌, subst, ⊎_elim, true≢false, arith}
+use Rattle.std.proofs.Common.{length-append}
+use Rattle.std.proofs.lemmas.{Bool.cases_eq, List.get_or-replicate, List.get_or_default, List.take-append-le}
+use Rattle.im_types.specs.Types.{Command, Contents, layout_in_use, Sizes, page_bytes, area_pages, area_bytes, ring_of}
+use Rattle.im_types.specs.Types.{area_of, record_at, Header, header_place, is_open_header, IsBoundary, Records, Shows}
+use Rattle.im_types.specs.Types.{accept_each}
+use Rattle.im_laws.proofs.Tests.{or_left, or_right, true_or_false}
+use Rattle.im_pages.proofs.SetLemmas.{contains_more, contains_rest, length-union, listed, lists-each, read-union}
+use Rattle.im_pages.specs.PageSets.{has, pages_from, union}
+use Rattle.{im_journal.specs.Holding.KeepsBoundaries, im_meaning.specs.Images.other}
+use Rattle.im_image.{proofs.Encoding.area-shows, specs.Encoding.IsAreaPage, specs.Encoding.SameOn}
+use Rattle.im_checkpoint.specs.{Copied.copy_of, Turns.next_header}
+use Rattle.im_checkpoint.specs.Keeping.{changed_lately, has_changed, IsResting, IsTakenAt, IsWriting, KeepsStep}
+use Rattle.im_checkpoint.specs.Keeping.{other_area, other_page, own_page, Paged, Stand}
+use Rattle.im_checkpoint.specs.Step.{left_in, NoCheckpoint, PagesDone, PagesLeft, Step, Synced}
 
 pub SameOn-itself : (s : Sizes) (r : Records) (p : ℕ) → SameOn s r r p
 SameOn-itself s r p = record { to = λ bytes it. it; from = λ bytes it. it }

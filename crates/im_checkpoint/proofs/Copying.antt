@@ -1,27 +1,19 @@
 -- Pages that are copied before a command acts.
-use Rattle.std.proofs.Common.{◌≡◌, ◌≢◌, ⊎_elim, ℕ, zero, suc, ◌+◌, ◌<◌, ◌≤◌, Bool, true, false, true≢false, List, []}
-use Rattle.std.proofs.Common.{◌∷◌, length, replicate, refl, sym, ◌∙◌, ap, subst, arith}
-use Rattle.std.specs.Prelude.{◌||◌}
-use Rattle.std.proofs.lemmas.Bool.{cases_lt, cases_eq}
-use Rattle.std.proofs.lemmas.List.{get_or_default, get_or_past}
-use Rattle.im_types.specs.declared.commands.Command.{Command}
-use Rattle.im_types.specs.Layout.{Sizes, layout_in_use, area_pages}
-use Rattle.im_types.specs.Pages.{Records}
+use Rattle.std.proofs.Common.{◌≡◌, ℕ, zero, suc, ◌+◌, ◌<◌, ◌≤◌, Bool, true, false, ◌||◌, ◌≢◌, List, [], ◌∷◌, length}
+use Rattle.std.proofs.Common.{replicate, sym, refl, ap, ◌∙◌, subst, ⊎_elim, true≢false, arith}
+use Rattle.std.proofs.lemmas.{Bool.cases_eq, Bool.cases_lt, List.get_or_default, List.get_or_past}
+use Rattle.im_types.specs.Types.{Command, layout_in_use, Sizes, area_pages, Records}
 use Rattle.im_laws.proofs.Tests.{or_right}
-use Rattle.im_memory.specs.State.{MemoryState}
-use Rattle.im_memory.specs.Touched.{touched, ChangesOnly}
-use Rattle.im_pages.specs.Places.{AgreeOnPage}
-use Rattle.im_pages.specs.PageSets.{has, union, size_of, IsNext, HasNoneFrom, IsWithin}
-use Rattle.im_pages.proofs.SetLemmas.{length-union, read-union}
-use Rattle.im_image.specs.Encoding.{IsAreaPage}
-use Rattle.im_image.proofs.Outside.{outside-stays}
-use Rattle.im_checkpoint.specs.declared.checkpoint.Phase.{Phase}
-use Rattle.im_checkpoint.specs.declared.checkpoint.Phase.TheVariants.{NoCheckpoint as None_yet, PagesLeft as Some_left}
-use Rattle.im_checkpoint.specs.declared.checkpoint.Phase.TheVariants.{PagesDone as All_written, Synced as On_disk}
-use Rattle.im_checkpoint.specs.Copied.{copy_of}
-use Rattle.im_checkpoint.specs.Step.{PagedCheckpoint, step_by_phase, left_in}
-use Rattle.im_checkpoint.specs.Keeping.{paged, Prepares}
+use Rattle.im_pages.{proofs.SetLemmas.length-union, proofs.SetLemmas.read-union, specs.Places.AgreeOnPage}
+use Rattle.im_pages.specs.PageSets.{has, HasNoneFrom, IsNext, IsWithin, size_of, union}
+use Rattle.im_memory.specs.{State.MemoryState, Touched.ChangesOnly, Touched.touched}
+use Rattle.im_image.{proofs.Outside.outside-stays, specs.Encoding.IsAreaPage}
 use Rattle.im_checkpoint.proofs.Copies.{IsPrepared}
+use Rattle.im_checkpoint.specs.{Copied.copy_of, declared.checkpoint.Phase.Phase, Keeping.paged, Keeping.Prepares}
+use Rattle.im_checkpoint.specs.declared.checkpoint.Phase.TheVariants.{NoCheckpoint as None_yet}
+use Rattle.im_checkpoint.specs.declared.checkpoint.Phase.TheVariants.{PagesDone as All_written, PagesLeft as Some_left}
+use Rattle.im_checkpoint.specs.declared.checkpoint.Phase.TheVariants.{Synced as On_disk}
+use Rattle.im_checkpoint.specs.Step.{left_in, PagedCheckpoint, step_by_phase}
 
 -- the named pages below one are copied
 pub record HasCopied (s : Sizes) (r : Records) (named left recent : List Bool) (from at : ℕ)

@@ -1,27 +1,19 @@
 -- What the writes of a checkpoint's turns leave of a file that keeps a memory.
-use Rattle.std.proofs.Common.{◌≡◌, inl, inr, ℕ, zero, suc, ◌+◌, ◌-◌, ◌*◌, ◌<◌, ◌≤◌, ◌==◌, Bool, true, false, List, []}
-use Rattle.std.proofs.Common.{◌∷◌, length, get_or, take, drop, Option, None, Some, Ok, sym, ◌∙◌, ap, subst, arith}
-use Rattle.std.proofs.Common.{if◌then◌else◌}
-use Rattle.im_types.specs.declared.commands.Command.{Command}
-use Rattle.im_types.specs.Bytes.{open_gate}
-use Rattle.im_types.specs.Contents.{Contents}
-use Rattle.im_types.specs.Step.{step, is_accepted}
-use Rattle.im_types.specs.Slot.{sequence_of}
-use Rattle.im_types.specs.Journal.{Ring, Tail, slot, tail}
-use Rattle.im_types.specs.Layout.{layout_in_use, area_at, area_bytes, area_of, journal_at, image_length, ring_of}
-use Rattle.im_types.specs.Header.{Header, header_place, is_open_header, generation_in}
-use Rattle.im_types.specs.Meaning.{Reads, accept_each}
+use Rattle.std.proofs.Common.{◌≡◌, ℕ, zero, suc, ◌+◌, ◌-◌, ◌*◌, ◌<◌, ◌≤◌, Bool, true, false, List, [], ◌∷◌, length}
+use Rattle.std.proofs.Common.{get_or, take, drop, if◌then◌else◌, ◌==◌, Some, None, Ok, Option, sym, ap, ◌∙◌, subst, inl}
+use Rattle.std.proofs.Common.{inr, arith}
+use Rattle.im_types.specs.Types.{Command, Contents, step, is_accepted, layout_in_use, area_bytes, area_at, journal_at}
+use Rattle.im_types.specs.Types.{image_length, ring_of, area_of, open_gate, Header, header_place, is_open_header}
+use Rattle.im_types.specs.Types.{generation_in, sequence_of, Ring, Tail, slot, tail, accept_each, Reads}
 use Rattle.im_disk.specs.Since.{SameBut}
-use Rattle.im_journal.specs.Holding.{JournalState, Holds, KeepsBoundaries}
-use Rattle.im_journal.proofs.Slots.{slot_inside, same_slot}
-use Rattle.im_journal.proofs.Tails.{tail_elsewhere, boundaries_elsewhere}
-use Rattle.im_meaning.specs.Images.{other, IsBelow, IsImage}
-use Rattle.im_meaning.proofs.Meanings.{image_reads}
-use Rattle.im_meaning.proofs.Writes.{write_in_other_area, write_in_other_header, write_behind_closed_gate}
-use Rattle.im_meaning.proofs.Writes.{write_lower_gate}
-use Rattle.im_checkpoint.specs.Keeping.{MeansWith, other_area, Keeps}
+use Rattle.im_journal.proofs.{Slots.same_slot, Slots.slot_inside, Tails.boundaries_elsewhere, Tails.tail_elsewhere}
+use Rattle.im_journal.specs.Holding.{Holds, JournalState, KeepsBoundaries}
+use Rattle.im_meaning.proofs.{Meanings.image_reads, Writes.write_behind_closed_gate, Writes.write_in_other_area}
+use Rattle.im_meaning.proofs.{Writes.write_in_other_header, Writes.write_lower_gate}
+use Rattle.im_meaning.specs.Images.{IsBelow, IsImage, other}
 use Rattle.im_checkpoint.proofs.Bytes.{range_byte, range_length, range_outside}
-use Rattle.im_checkpoint.proofs.Headers.{IsGood, good, area_from, area_to, area_before, place_to}
+use Rattle.im_checkpoint.proofs.Headers.{area_before, area_from, area_to, good, IsGood, place_to}
+use Rattle.im_checkpoint.specs.Keeping.{Keeps, MeansWith, other_area}
 
 -- commands that are accepted, from a later one on
 pub accept_later : (k : ℕ) (shown taken m : Contents) (commands : List Command) → accept_each shown (take k commands)

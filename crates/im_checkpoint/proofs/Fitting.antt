@@ -1,18 +1,15 @@
 -- After a turn the memory and the journal are still those of the checkpoint's image, and a checkpoint has a turn less
 -- to go.
-use Rattle.std.proofs.Common.{◌≡◌, ◌⊎◌, inl, inr, ⊎_elim, ℕ, zero, suc, ◌+◌, ◌<◌, ◌≤◌, Bool, true, false, ◌&&◌}
-use Rattle.std.proofs.Common.{nat_lt, List, [], ◌∷◌, length, Result, Ok, Err, IfOk, refl, sym, ◌∙◌, ap, subst, arith}
+use Rattle.std.proofs.Common.{◌≡◌, ℕ, zero, suc, ◌+◌, ◌<◌, ◌≤◌, Bool, true, false, ◌&&◌, ◌⊎◌, List, [], ◌∷◌, length}
+use Rattle.std.proofs.Common.{IfOk, nat_lt, Ok, Err, Result, sym, refl, ap, ◌∙◌, subst, inl, inr, ⊎_elim, arith}
 use Rattle.std.proofs.lemmas.Bool.Decides.{nat_tests}
-use Rattle.im_laws.proofs.Tests.{true_or_false}
-use Rattle.im_types.specs.Contents.{Contents}
-use Rattle.im_types.specs.Header.{Header}
+use Rattle.im_types.specs.Types.{Contents, Header}
+use Rattle.{im_laws.proofs.Tests.true_or_false, im_pages.specs.PageSets.pages_from}
 use Rattle.im_journal.specs.Holding.{JournalState, to_sweep, with_room}
-use Rattle.im_pages.specs.PageSets.{pages_from}
-use Rattle.im_checkpoint.specs.declared.checkpoint.TurnDone.{TurnDone}
-use Rattle.im_checkpoint.specs.Step.{Step, NoCheckpoint, PagesLeft, PagesDone, Synced, CheckpointState}
-use Rattle.im_checkpoint.specs.Step.{PagedCheckpoint, IsUnderWay, pages_step, turns_left, changed_in}
-use Rattle.im_checkpoint.specs.Turns.{Turned, Moved, is_due, next_header}
-use Rattle.im_checkpoint.specs.Keeping.{IsBetween, StepFits, Fits, ComesTo}
+use Rattle.im_checkpoint.specs.{declared.checkpoint.TurnDone.TurnDone, Keeping.ComesTo, Keeping.Fits, Keeping.IsBetween}
+use Rattle.im_checkpoint.specs.{Keeping.StepFits, Turns.is_due, Turns.Moved, Turns.next_header, Turns.Turned}
+use Rattle.im_checkpoint.specs.Step.{changed_in, CheckpointState, IsUnderWay, NoCheckpoint, PagedCheckpoint, pages_step}
+use Rattle.im_checkpoint.specs.Step.{PagesDone, PagesLeft, Step, Synced, turns_left}
 
 -- where a call is done, what follows from it
 pub once_more : {T E : Type 0} {P Q : T → Type 0} (r : Result T E) → IfOk r P → ((x : T) → P x → Q x) → IfOk r Q

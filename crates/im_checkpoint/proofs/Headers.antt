@@ -1,14 +1,10 @@
 -- The header in force, and the one that follows it.
-use Rattle.std.proofs.Common.{◌≡◌, ◌⊎◌, inl, inr, ℕ, zero, suc, ◌+◌, ◌-◌, ◌*◌, ◌<◌, ◌≤◌, ◌==◌, ◌&&◌, nat_le, Bool}
-use Rattle.std.proofs.Common.{true, List, refl, ◌∙◌, ap, subst, arith}
-use Rattle.im_types.proofs.Tests.{and_both}
-use Rattle.im_types.specs.declared.TheConstants.{LAST}
-use Rattle.im_types.specs.Layout.{layout_in_use, are_sizes}
-use Rattle.im_types.specs.Sizes.{AreLimits}
-use Rattle.im_types.specs.Header.{Header, header_in, header_place, is_header}
-use Rattle.im_laws.proofs.Tests.{eq_by_test}
+use Rattle.std.proofs.Common.{◌≡◌, ℕ, zero, suc, ◌+◌, ◌-◌, ◌*◌, ◌<◌, ◌≤◌, Bool, true, ◌&&◌, ◌⊎◌, List, nat_le, ◌==◌}
+use Rattle.std.proofs.Common.{refl, ap, ◌∙◌, subst, inl, inr, arith}
+use Rattle.im_types.specs.Types.{LAST, AreLimits, layout_in_use, are_sizes, Header, header_in, is_header, header_place}
+use Rattle.{im_types.proofs.Tests.and_both, im_laws.proofs.Tests.eq_by_test}
+use Rattle.im_meaning.specs.Images.{Follows, InForce}
 use Rattle.im_image.proofs.Headers.{le_is, le_true, same_itself, sizes_in_range}
-use Rattle.im_meaning.specs.Images.{InForce, Follows}
 use Rattle.im_checkpoint.specs.Turns.{next_header}
 
 joined : (a b : Bool) → a ≡ true → b ≡ true → (a && b) ≡ true

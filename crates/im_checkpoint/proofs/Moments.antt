@@ -1,30 +1,24 @@
 -- What each device call of a turn may leave.
-use Rattle.std.proofs.Common.{◌≡◌, inl, ⊎_elim, ℕ, zero, ◌+◌, ◌-◌, ◌*◌, ◌<◌, ◌≤◌, ◌==◌, true, false, List, [], ◌∷◌}
-use Rattle.std.proofs.Common.{length, refl, sym, ◌∙◌, ap, subst, arith}
-use Rattle.im_types.specs.Bytes.{open_gate}
-use Rattle.im_types.specs.Contents.{Contents}
-use Rattle.im_types.specs.Journal.{IsBoundary}
-use Rattle.im_types.specs.Layout.{layout_in_use, area_at, area_bytes, area_pages}
-use Rattle.im_types.specs.Header.{header_place, header_body, is_open_header}
-use Rattle.im_disk.specs.Moment.{Moment, Left, Torn, Shaken, MayTick, overlaid, written, synced}
+use Rattle.std.proofs.Common.{◌≡◌, ℕ, zero, ◌+◌, ◌-◌, ◌*◌, ◌<◌, ◌≤◌, true, false, List, [], ◌∷◌, length, ◌==◌, sym}
+use Rattle.std.proofs.Common.{refl, ap, ◌∙◌, subst, inl, ⊎_elim, arith}
+use Rattle.im_types.specs.Types.{Contents, layout_in_use, area_pages, area_bytes, area_at, open_gate, header_body}
+use Rattle.im_types.specs.Types.{header_place, is_open_header, IsBoundary}
+use Rattle.{im_laws.proofs.Tests.true_false, im_meaning.specs.Images.other, im_image.proofs.Headers.same_itself}
+use Rattle.im_disk.proofs.SinceLemmas.{leaves_start, leaves_step, left_settled, left_sync, left_torn}
+use Rattle.im_disk.specs.Gate.{HasThere, IsClosed, IsShut, MayWrite}
+use Rattle.im_disk.specs.Moment.{Left, MayTick, Moment, overlaid, Shaken, synced, Torn, written}
 use Rattle.im_disk.specs.Since.{Leaves, LeavesNow, SameBut}
-use Rattle.im_disk.specs.Gate.{IsShut, HasThere, IsClosed, MayWrite}
-use Rattle.im_disk.proofs.SinceLemmas.{leaves_start, leaves_step, left_sync, left_torn, left_settled}
-use Rattle.im_laws.proofs.Tests.{true_false}
-use Rattle.im_journal.specs.Holding.{JournalState, Holds}
-use Rattle.im_meaning.specs.Images.{other}
-use Rattle.im_checkpoint.specs.Step.{Step, NoCheckpoint, PagesLeft, PagesDone, Synced, CheckpointState, pages_step}
-use Rattle.im_checkpoint.specs.Turns.{next_header, begun_at}
-use Rattle.im_checkpoint.specs.Keeping.{Paged, MeansWith, IsWriting, KeepsStep, Keeps, IsCalm, IsKept}
-use Rattle.im_checkpoint.proofs.Bytes.{same_all, same_back, same_then, same_wider, same_overlaid}
-use Rattle.im_image.proofs.Headers.{same_itself}
-use Rattle.im_checkpoint.proofs.Headers.{area_from, place_to}
-use Rattle.im_checkpoint.proofs.Files.{Still, gate_is, still_means, keeps_at, still_in_area, still_gate, area_stays}
-use Rattle.im_checkpoint.proofs.Files.{size}
-use Rattle.im_checkpoint.proofs.Copies.{IsPageFor, page_written, writing_moved}
-use Rattle.im_checkpoint.proofs.Pages.{page_fits, page_still, this_page, apart_page, own_area, shut_but, shut_gate}
-use Rattle.im_checkpoint.proofs.Pages.{shut_still}
-use Rattle.im_checkpoint.proofs.Takeover.{shut_torn, whole_there, next_kept, next_rests}
+use Rattle.im_journal.specs.Holding.{Holds, JournalState}
+use Rattle.im_checkpoint.proofs.{Bytes.same_all, Bytes.same_back, Bytes.same_overlaid, Bytes.same_then}
+use Rattle.im_checkpoint.proofs.{Bytes.same_wider, Copies.IsPageFor, Copies.page_written, Copies.writing_moved}
+use Rattle.im_checkpoint.proofs.{Files.area_stays, Files.gate_is, Files.keeps_at, Files.size, Files.Still}
+use Rattle.im_checkpoint.proofs.{Files.still_gate, Files.still_in_area, Files.still_means, Headers.area_from}
+use Rattle.im_checkpoint.proofs.{Headers.place_to, Pages.apart_page, Pages.own_area, Pages.page_fits, Pages.page_still}
+use Rattle.im_checkpoint.proofs.{Pages.shut_but, Pages.shut_gate, Pages.shut_still, Pages.this_page, Takeover.next_kept}
+use Rattle.im_checkpoint.proofs.{Takeover.next_rests, Takeover.shut_torn, Takeover.whole_there}
+use Rattle.im_checkpoint.specs.Keeping.{IsCalm, IsKept, IsWriting, Keeps, KeepsStep, MeansWith, Paged}
+use Rattle.im_checkpoint.specs.Step.{CheckpointState, NoCheckpoint, pages_step, PagesDone, PagesLeft, Step, Synced}
+use Rattle.im_checkpoint.specs.Turns.{begun_at, next_header}
 
 -- where nothing is in doubt every state is calm
 calm_all : (s : Step) (now : Moment) → now.ranges ≡ [] → IsCalm s now

@@ -1,17 +1,13 @@
 -- The fields of a checkpoint as its state.
-use Rattle.std.proofs.Common.{◌≡◌, ℕ, Bool, false, List, [], ◌∷◌, length, replicate, refl, sym, ◌∙◌, ap, subst}
-use Rattle.im_types.specs.Contents.{Contents}
-use Rattle.im_types.specs.Header.{Header}
-use Rattle.im_disk.specs.Moment.{Moment}
-use Rattle.im_journal.specs.Holding.{JournalState}
-use Rattle.im_memory.specs.State.{MemoryState}
-use Rattle.im_pages.specs.PageSets.{union}
-use Rattle.im_checkpoint.specs.declared.checkpoint.Phase.{Phase}
-use Rattle.im_checkpoint.specs.declared.checkpoint.Phase.TheVariants.{NoCheckpoint as None_yet, PagesLeft as Some_left}
-use Rattle.im_checkpoint.specs.declared.checkpoint.Phase.TheVariants.{PagesDone as All_written, Synced as On_disk}
-use Rattle.im_checkpoint.specs.Step.{Step, NoCheckpoint, PagesLeft, PagesDone, Synced, PagedCheckpoint, pages_step}
-use Rattle.im_checkpoint.specs.Step.{left_in, step_by_phase, IsPagesLeft, IsPagesDone, IsSynced}
-use Rattle.im_checkpoint.specs.Keeping.{paged, IsKept}
+use Rattle.std.proofs.Common.{◌≡◌, ℕ, Bool, false, List, [], ◌∷◌, length, replicate, sym, refl, ap, ◌∙◌, subst}
+use Rattle.{im_types.specs.Types.Contents, im_types.specs.Types.Header, im_pages.specs.PageSets.union}
+use Rattle.{im_disk.specs.Moment.Moment, im_journal.specs.Holding.JournalState, im_memory.specs.State.MemoryState}
+use Rattle.im_checkpoint.specs.{declared.checkpoint.Phase.Phase, Keeping.IsKept, Keeping.paged}
+use Rattle.im_checkpoint.specs.declared.checkpoint.Phase.TheVariants.{NoCheckpoint as None_yet}
+use Rattle.im_checkpoint.specs.declared.checkpoint.Phase.TheVariants.{PagesDone as All_written, PagesLeft as Some_left}
+use Rattle.im_checkpoint.specs.declared.checkpoint.Phase.TheVariants.{Synced as On_disk}
+use Rattle.im_checkpoint.specs.Step.{IsPagesDone, IsPagesLeft, IsSynced, left_in, NoCheckpoint, PagedCheckpoint}
+use Rattle.im_checkpoint.specs.Step.{pages_step, PagesDone, PagesLeft, Step, step_by_phase, Synced}
 
 -- a set with no page adds none
 pub union_none : (set : List Bool) → union (replicate (length set) false) set ≡ set

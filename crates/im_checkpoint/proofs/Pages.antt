@@ -1,20 +1,15 @@
 -- A page that is written, and the other header's gate.
-use Rattle.std.proofs.Common.{◌≡◌, ◌≢◌, inl, inr, ⊎_elim, ℕ, ◌+◌, ◌-◌, ◌*◌, ◌<◌, ◌≤◌, ◌==◌, true, false, List, []}
-use Rattle.std.proofs.Common.{◌∷◌, length, get_or, slice_range, sym, ◌∙◌, ap, arith}
+use Rattle.std.proofs.Common.{◌≡◌, ℕ, ◌+◌, ◌-◌, ◌*◌, ◌<◌, ◌≤◌, true, false, ◌≢◌, List, [], ◌∷◌, length, get_or, ◌==◌}
+use Rattle.std.proofs.Common.{slice_range, sym, ap, ◌∙◌, inl, inr, ⊎_elim, arith}
 use Rattle.std.proofs.lemmas.Bool.{cases_lt}
-use Rattle.im_types.specs.Bytes.{open_gate}
-use Rattle.im_types.specs.Contents.{Contents}
-use Rattle.im_types.specs.Layout.{layout_in_use, area_at, area_bytes, area_pages, area_of}
-use Rattle.im_types.specs.Header.{Header, header_place, is_open_header}
-use Rattle.im_disk.specs.Moment.{overlaid}
-use Rattle.im_disk.specs.Since.{SameBut}
-use Rattle.im_disk.proofs.OverlayLemmas.{overlaid_inside}
-use Rattle.im_journal.specs.Holding.{JournalState}
-use Rattle.im_meaning.specs.Images.{other}
+use Rattle.im_types.specs.Types.{Contents, layout_in_use, area_pages, area_bytes, area_at, area_of, open_gate, Header}
+use Rattle.im_types.specs.Types.{header_place, is_open_header}
+use Rattle.im_disk.{proofs.OverlayLemmas.overlaid_inside, specs.Moment.overlaid, specs.Since.SameBut}
+use Rattle.{im_journal.specs.Holding.JournalState, im_meaning.specs.Images.other}
+use Rattle.im_checkpoint.proofs.Bytes.{page_of_area, range_outside, range_written, same_overlaid}
+use Rattle.im_checkpoint.proofs.Files.{area_fits, facts, gate_is, size, Still, still_gate, still_in_area}
+use Rattle.im_checkpoint.proofs.Headers.{area_apart, area_before, place_to}
 use Rattle.im_checkpoint.specs.Keeping.{Keeps, other_page}
-use Rattle.im_checkpoint.proofs.Bytes.{same_overlaid, range_outside, range_written, page_of_area}
-use Rattle.im_checkpoint.proofs.Headers.{area_before, area_apart, place_to}
-use Rattle.im_checkpoint.proofs.Files.{Still, size, facts, still_in_area, still_gate, gate_is, area_fits}
 
 -- the next page is written
 module _ (h : Header) (m : Contents) (j : JournalState) (file : List ℕ) (it : Keeps h m j file) (i : ℕ)

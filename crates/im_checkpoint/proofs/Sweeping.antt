@@ -1,29 +1,22 @@
 -- Gates that a sweep may have closed.
-use Rattle.std.proofs.Common.{◌≡◌, inl, refl, Result, Ok, Err, OnOk, MatchResult, ℕ, ◌+◌, ◌*◌, ◌≤◌, List, [], length}
-use Rattle.std.proofs.Common.{slice_range, Option, None, Some, sym, ◌∙◌, ap, subst, arith}
-use Rattle.im_types.specs.declared.commands.Command.{Command}
-use Rattle.im_types.specs.declared.refusals.Refusal.{Refusal}
-use Rattle.im_types.specs.Contents.{Contents}
-use Rattle.im_types.specs.Journal.{Ring, Tail, tail}
-use Rattle.im_types.specs.Layout.{layout_in_use, area_at, area_bytes, area_of, journal_at, ring_of}
-use Rattle.im_types.specs.Header.{Header, header_in, header_place, is_open_header, spells_header}
-use Rattle.im_types.specs.Pages.{Shows}
-use Rattle.im_disk.specs.Moment.{Moment}
-use Rattle.im_disk.specs.Since.{SameBut}
-use Rattle.im_disk.proofs.SinceLemmas.{left_now, left_settled, leaves_start}
-use Rattle.im_journal.specs.Holding.{JournalState, AllHold, with_room, KeepsBoundaries, SameRun, MaySweep, IsSweptBy}
-use Rattle.im_journal.specs.Holding.{Sweeps}
-use Rattle.im_meaning.specs.Images.{other, IsBelow, InForce, IsImage}
-use Rattle.im_checkpoint.specs.declared.checkpoint.Phase.{Phase}
-use Rattle.im_checkpoint.specs.declared.checkpoint.Phase.TheVariants.{NoCheckpoint as None_yet, PagesLeft as Some_left}
-use Rattle.im_checkpoint.specs.declared.checkpoint.Phase.TheVariants.{PagesDone as All_written, Synced as On_disk}
-use Rattle.im_checkpoint.specs.Step.{Step, NoCheckpoint, PagesLeft, PagesDone, Synced, CheckpointState, step_by_phase}
-use Rattle.im_checkpoint.specs.Keeping.{Paged, MeansWith, Keeps, IsCalm, IsKept, KeepsMeaning}
-use Rattle.im_checkpoint.proofs.Bytes.{range_outside}
-use Rattle.im_checkpoint.proofs.Headers.{area_before, place_to}
-use Rattle.im_checkpoint.proofs.Files.{Still, size, means_of, still_in_area}
-use Rattle.im_checkpoint.proofs.Copies.{step_moved}
-use Rattle.im_checkpoint.proofs.Moments.{kept_calm, means_left}
+use Rattle.std.proofs.Common.{◌≡◌, ℕ, ◌+◌, ◌*◌, ◌≤◌, List, [], length, OnOk, slice_range, Some, None, Ok, Err, Option}
+use Rattle.std.proofs.Common.{Result, MatchResult, sym, refl, ap, ◌∙◌, subst, inl, arith}
+use Rattle.im_types.specs.Types.{Command, Refusal, Contents, layout_in_use, area_bytes, area_at, journal_at, ring_of}
+use Rattle.im_types.specs.Types.{area_of, Header, header_in, spells_header, header_place, is_open_header, Ring, Tail}
+use Rattle.im_types.specs.Types.{tail, Shows}
+use Rattle.im_disk.proofs.SinceLemmas.{leaves_start, left_now, left_settled}
+use Rattle.im_disk.specs.{Moment.Moment, Since.SameBut}
+use Rattle.im_journal.specs.Holding.{AllHold, IsSweptBy, JournalState, KeepsBoundaries, MaySweep, SameRun, Sweeps}
+use Rattle.im_journal.specs.Holding.{with_room}
+use Rattle.im_meaning.specs.Images.{InForce, IsBelow, IsImage, other}
+use Rattle.im_checkpoint.proofs.{Bytes.range_outside, Copies.step_moved, Headers.area_before, Headers.place_to}
+use Rattle.im_checkpoint.proofs.Files.{means_of, size, Still, still_in_area}
+use Rattle.im_checkpoint.{proofs.Moments.kept_calm, proofs.Moments.means_left, specs.declared.checkpoint.Phase.Phase}
+use Rattle.im_checkpoint.specs.declared.checkpoint.Phase.TheVariants.{NoCheckpoint as None_yet}
+use Rattle.im_checkpoint.specs.declared.checkpoint.Phase.TheVariants.{PagesDone as All_written, PagesLeft as Some_left}
+use Rattle.im_checkpoint.specs.declared.checkpoint.Phase.TheVariants.{Synced as On_disk}
+use Rattle.im_checkpoint.specs.Keeping.{IsCalm, IsKept, Keeps, KeepsMeaning, MeansWith, Paged}
+use Rattle.im_checkpoint.specs.Step.{CheckpointState, NoCheckpoint, PagesDone, PagesLeft, Step, step_by_phase, Synced}
 
 abbrev commands_of : Option Tail → List Command
 commands_of None = []

@@ -1,33 +1,23 @@
 -- The next header: behind its closed gate, and in force.
-use Rattle.std.proofs.Common.{◌≡◌, ◌⊎◌, inl, inr, ⊎_elim, ℕ, suc, ◌+◌, ◌-◌, ◌*◌, ◌<◌, ◌≤◌, ◌==◌, true, false, List}
-use Rattle.std.proofs.Common.{[], ◌∷◌, length, get_or, drop, slice_range, Some, refl, sym, ◌∙◌, ap, subst, arith}
-use Rattle.std.proofs.Common.{length-drop, get_or-take, get_or-drop}
+use Rattle.std.proofs.Common.{◌≡◌, ℕ, suc, ◌+◌, ◌-◌, ◌*◌, ◌<◌, ◌≤◌, true, false, ◌⊎◌, List, [], ◌∷◌, length, get_or}
+use Rattle.std.proofs.Common.{drop, ◌==◌, slice_range, Some, sym, refl, ap, ◌∙◌, subst, inl, inr, ⊎_elim, arith}
+use Rattle.std.proofs.Common.{length-drop, get_or-drop, get_or-take, ext_get_or}
 use Rattle.std.proofs.lemmas.Bool.{cases_lt}
-use Rattle.std.proofs.lemmas.List.{ext_get_or}
-use Rattle.im_types.specs.Bytes.{open_gate}
-use Rattle.im_types.specs.Contents.{Contents}
-use Rattle.im_types.specs.Journal.{Ring, IsBoundary}
-use Rattle.im_types.specs.Layout.{layout_in_use, ring_of}
-use Rattle.im_types.specs.Header.{Header, header_place, header_body, is_open_header}
-use Rattle.im_types.specs.Pages.{Shows}
-use Rattle.im_types.specs.Meaning.{accept_each}
-use Rattle.im_disk.specs.Moment.{overlaid}
-use Rattle.im_disk.specs.Since.{SameBut}
-use Rattle.im_disk.specs.Gate.{IsShut, HasThere}
-use Rattle.im_disk.proofs.GateLemmas.{body_and_gate}
-use Rattle.im_disk.proofs.OverlayLemmas.{overlaid_inside}
-use Rattle.im_journal.specs.Holding.{JournalState, Holds}
-use Rattle.im_journal.proofs.Rings.{other_number}
-use Rattle.im_meaning.specs.Images.{other, IsImage, Follows, IsPrepared}
-use Rattle.im_meaning.proofs.Meanings.{opened_image, one_of_two}
-use Rattle.im_checkpoint.specs.Turns.{next_header, begun_at}
-use Rattle.im_checkpoint.specs.Keeping.{Paged, MeansWith, IsWriting, IsResting, Keeps}
-use Rattle.im_checkpoint.proofs.Bytes.{same_overlaid, same_wider, same_then, range_byte, range_length}
+use Rattle.im_types.specs.Types.{Contents, layout_in_use, ring_of, open_gate, Header, header_body, header_place}
+use Rattle.im_types.specs.Types.{is_open_header, Ring, IsBoundary, Shows, accept_each}
+use Rattle.im_disk.proofs.{GateLemmas.body_and_gate, OverlayLemmas.overlaid_inside}
+use Rattle.im_disk.specs.{Gate.HasThere, Gate.IsShut, Moment.overlaid, Since.SameBut}
+use Rattle.im_journal.{proofs.Rings.other_number, specs.Holding.Holds, specs.Holding.JournalState}
+use Rattle.im_meaning.proofs.Meanings.{one_of_two, opened_image}
+use Rattle.im_meaning.specs.Images.{Follows, IsImage, IsPrepared, other}
+use Rattle.im_checkpoint.proofs.Bytes.{range_byte, range_length, same_overlaid, same_then, same_wider}
+use Rattle.im_checkpoint.proofs.Copies.{area_shows, resting_moved, takes_over}
+use Rattle.im_checkpoint.proofs.Files.{accept_later, area_length, area_stays, boundaries_still, enough, facts, gate_is}
+use Rattle.im_checkpoint.proofs.Files.{holds_still, means_of, size, some, Still, still_behind_gate, still_means}
+use Rattle.im_checkpoint.proofs.Files.{still_shut}
 use Rattle.im_checkpoint.proofs.Headers.{follows, place_to}
-use Rattle.im_checkpoint.proofs.Files.{Still, accept_later, means_of, gate_is, facts, some, enough, size, still_means}
-use Rattle.im_checkpoint.proofs.Files.{still_shut, still_behind_gate, holds_still, boundaries_still, area_stays}
-use Rattle.im_checkpoint.proofs.Files.{area_length}
-use Rattle.im_checkpoint.proofs.Copies.{area_shows, takes_over, resting_moved}
+use Rattle.im_checkpoint.specs.Keeping.{IsResting, IsWriting, Keeps, MeansWith, Paged}
+use Rattle.im_checkpoint.specs.Turns.{begun_at, next_header}
 
 module _ (h : Header) (x : Paged) (m : Contents) (j : JournalState) (file : List ℕ) (it : Keeps h m j file)
     (count : ℕ) (known : IsWriting h it.shown it.commands x count [] file

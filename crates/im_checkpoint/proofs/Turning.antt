@@ -1,31 +1,16 @@
 -- What a turn's writes come to, by the fields of a checkpoint.
-use Rattle.std.proofs.Common.{◌≡◌, ◌≢◌, ℕ, ◌-◌, ◌*◌, ◌<◌, ◌≤◌, ◌==◌, true, false, List, [], ◌∷◌, length, get_or, take}
-use Rattle.std.proofs.Common.{drop, replicate, get_or-take, get_or-drop, refl, sym, ◌∙◌, ap, subst, arith}
-use Rattle.std.proofs.lemmas.List.{take_all}
-use Rattle.im_types.specs.declared.TheConstants.{LAST}
-use Rattle.im_types.specs.declared.commands.Command.{Command}
-use Rattle.im_types.specs.Bytes.{open_gate}
-use Rattle.im_types.specs.Contents.{Contents}
-use Rattle.im_types.specs.Journal.{IsBoundary}
-use Rattle.im_types.specs.Layout.{layout_in_use, area_pages, ring_of}
-use Rattle.im_types.specs.Header.{Header, header_place, header_body, is_open_header}
-use Rattle.im_types.specs.Pages.{ShowsRecords}
-use Rattle.im_types.specs.Meaning.{accept_each}
-use Rattle.im_disk.specs.Moment.{Moment, written, synced}
-use Rattle.im_disk.specs.Gate.{IsClosed, MayWrite}
-use Rattle.im_journal.specs.Holding.{JournalState, Holds}
-use Rattle.im_meaning.specs.Images.{other}
-use Rattle.im_pages.specs.PageSets.{union, pages_from}
-use Rattle.im_image.specs.Encoding.{AreCounted}
-use Rattle.im_image.proofs.Headers.{same_itself}
-use Rattle.im_checkpoint.specs.Step.{NoCheckpoint, Synced, CheckpointState, pages_step}
-use Rattle.im_checkpoint.specs.Turns.{next_header, begun_at}
-use Rattle.im_checkpoint.specs.Keeping.{Paged, MeansWith, IsTakenAt, IsWriting, KeepsStep, IsKept}
-use Rattle.im_journal.proofs.Rings.{other_number}
-use Rattle.im_journal.proofs.Tails.{boundary_end}
-use Rattle.im_checkpoint.proofs.Files.{gate_is}
-use Rattle.im_checkpoint.proofs.Copies.{begins}
-use Rattle.im_checkpoint.proofs.Moments.{calm_left, next_closed, next_means, in_force_done}
+use Rattle.std.proofs.Common.{◌≡◌, ℕ, ◌-◌, ◌*◌, ◌<◌, ◌≤◌, true, false, ◌≢◌, List, [], ◌∷◌, length, get_or, take, drop}
+use Rattle.std.proofs.Common.{replicate, ◌==◌, sym, refl, ap, ◌∙◌, subst, arith, get_or-drop, take_all, get_or-take}
+use Rattle.im_types.specs.Types.{Command, LAST, Contents, layout_in_use, area_pages, ring_of, open_gate, Header}
+use Rattle.im_types.specs.Types.{header_body, header_place, is_open_header, IsBoundary, ShowsRecords, accept_each}
+use Rattle.{im_pages.specs.PageSets.pages_from, im_pages.specs.PageSets.union, im_journal.proofs.Rings.other_number}
+use Rattle.{im_journal.proofs.Tails.boundary_end, im_journal.specs.Holding.Holds, im_journal.specs.Holding.JournalState}
+use Rattle.{im_meaning.specs.Images.other, im_image.proofs.Headers.same_itself, im_image.specs.Encoding.AreCounted}
+use Rattle.im_disk.specs.{Gate.IsClosed, Gate.MayWrite, Moment.Moment, Moment.synced, Moment.written}
+use Rattle.im_checkpoint.{proofs.Copies.begins, proofs.Files.gate_is, specs.Turns.begun_at, specs.Turns.next_header}
+use Rattle.im_checkpoint.proofs.Moments.{calm_left, in_force_done, next_closed, next_means}
+use Rattle.im_checkpoint.specs.Keeping.{IsKept, IsTakenAt, IsWriting, KeepsStep, MeansWith, Paged}
+use Rattle.im_checkpoint.specs.Step.{CheckpointState, NoCheckpoint, pages_step, Synced}
 
 -- the gate that was read
 

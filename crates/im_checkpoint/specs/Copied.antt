@@ -1,12 +1,9 @@
 -- Copies of pages, in the order in which they were made. (Own.)
-use Rattle.std.specs.Prelude.{◌≡◌, ℕ, suc, ◌<◌, ◌≤◌, List, [], ◌∷◌, length, replicate, slice_index_or, Bool, true}
-use Rattle.std.specs.Prelude.{false}
-use Rattle.im_checkpoint.specs.declared.page_copies.CopyPlace.{CopyPlace}
-use Rattle.im_checkpoint.specs.declared.page_copies.CopyPlace.TheVariants.{Nowhere, At}
-use Rattle.im_types.specs.Layout.{Sizes, layout_in_use, page_bytes, area_pages}
-use Rattle.im_types.specs.Pages.{Records}
-use Rattle.im_pages.specs.PageSets.{has}
-use Rattle.im_image.specs.Encoding.{IsAreaPage}
+use Rattle.std.specs.Prelude.{◌≡◌, ℕ, suc, ◌<◌, ◌≤◌, Bool, true, false, List, [], ◌∷◌, length, replicate}
+use Rattle.std.specs.Prelude.{slice_index_or}
+use Rattle.im_types.specs.Types.{layout_in_use, Sizes, page_bytes, area_pages, Records}
+use Rattle.{im_pages.specs.PageSets.has, im_image.specs.Encoding.IsAreaPage}
+use Rattle.im_checkpoint.specs.declared.page_copies.CopyPlace.{CopyPlace, TheVariants.At, TheVariants.Nowhere}
 
 -- the bytes of a page without a copy
 abbrev pub blank_page : List ℕ

@@ -1,32 +1,18 @@
 -- What a checkpoint, a memory and a journal say about the file that keeps them. (Own.)
-use Rattle.std.specs.Prelude.{◌≡◌, ℕ, ◌+◌, ◌-◌, ◌<◌, ◌≤◌, Bool, ◌||◌, List, [], length, take, Some, true, false, Result}
-use Rattle.std.specs.Prelude.{OnOk}
-use Rattle.std.specs.List.{Contains}
-use Rattle.im_types.specs.declared.TheConstants.{LAST}
-use Rattle.im_types.specs.declared.commands.Command.{Command}
-use Rattle.im_types.specs.Contents.{Contents}
-use Rattle.im_types.specs.Layout.{Sizes, layout_in_use, page_bytes, area_at, area_bytes, area_pages, area_of}
-use Rattle.im_types.specs.Layout.{record_at, ring_of}
-use Rattle.im_types.specs.Header.{Header, header_place, is_open_header}
-use Rattle.im_types.specs.Journal.{IsBoundary}
-use Rattle.im_types.specs.Pages.{Records, ShowsRecords}
-use Rattle.im_types.specs.Meaning.{Means, accept_each}
-use Rattle.im_disk.specs.declared.disk.Disk.{Ghosts}
-use Rattle.im_disk.specs.Moment.{Moment, Left}
-use Rattle.im_disk.specs.Since.{SameBut, LeavesOnly}
-use Rattle.im_journal.specs.Holding.{JournalState, Holds}
-use Rattle.im_memory.specs.State.{MemoryState}
-use Rattle.im_memory.specs.Covering.{KeepsOutside}
-use Rattle.im_meaning.specs.Images.{other, IsImage}
-use Rattle.im_pages.specs.PageSets.{has}
-use Rattle.im_image.specs.Encoding.{IsAreaPage, AreCounted, SameOn}
-use Rattle.im_image.specs.Reading.{HasSizes}
-use Rattle.im_checkpoint.specs.declared.checkpoint.TurnDone.{TurnDone}
-use Rattle.im_checkpoint.specs.Copied.{copy_of}
-use Rattle.im_checkpoint.specs.Step.{Step, NoCheckpoint, PagesLeft, PagesDone, Synced, CheckpointState}
-use Rattle.im_checkpoint.specs.Step.{PagedCheckpoint, IsUnderWay, IsPagesLeft, IsSynced, turns_left, left_in}
-use Rattle.im_checkpoint.specs.Step.{changed_in}
-use Rattle.im_checkpoint.specs.Turns.{Turned, Moved, AddsPages, next_header, begun_at}
+use Rattle.std.specs.Prelude.{◌≡◌, ℕ, ◌+◌, ◌-◌, ◌<◌, ◌≤◌, Bool, true, false, ◌||◌, List, [], length, take, OnOk, Some}
+use Rattle.std.specs.Prelude.{Contains, Result}
+use Rattle.im_types.specs.Types.{Command, LAST, Contents, layout_in_use, Sizes, page_bytes, area_pages, area_bytes}
+use Rattle.im_types.specs.Types.{area_at, ring_of, area_of, record_at, Header, header_place, is_open_header, IsBoundary}
+use Rattle.im_types.specs.Types.{Records, ShowsRecords, accept_each, Means}
+use Rattle.{im_pages.specs.PageSets.has, im_meaning.specs.Images.IsImage, im_meaning.specs.Images.other}
+use Rattle.im_disk.specs.{declared.Disk.Ghosts, Moment.Left, Moment.Moment, Since.LeavesOnly, Since.SameBut}
+use Rattle.im_journal.specs.Holding.{Holds, JournalState}
+use Rattle.im_memory.specs.{Covering.KeepsOutside, State.MemoryState}
+use Rattle.im_image.specs.{Encoding.AreCounted, Encoding.IsAreaPage, Encoding.SameOn, Reading.HasSizes}
+use Rattle.im_checkpoint.specs.{Copied.copy_of, declared.checkpoint.TurnDone.TurnDone}
+use Rattle.im_checkpoint.specs.Step.{changed_in, CheckpointState, IsPagesLeft, IsSynced, IsUnderWay, left_in}
+use Rattle.im_checkpoint.specs.Step.{NoCheckpoint, PagedCheckpoint, PagesDone, PagesLeft, Step, Synced, turns_left}
+use Rattle.im_checkpoint.specs.Turns.{AddsPages, begun_at, Moved, next_header, Turned}
 
 -- the file means this memory after all commands that the journal counts, with at least its room
 abbrev pub MeansWith : Contents → JournalState → List ℕ → Type 0

@@ -1,12 +1,11 @@
 -- The progress of a checkpoint. (Own.)
 use Rattle.std.specs.Prelude.{◌≡◌, ℕ, ◌+◌, ◌<◌, ◌≤◌, Bool, true, List, [], ◌∷◌, length}
-use Rattle.im_types.specs.declared.TheConstants.{LAST}
-use Rattle.im_types.specs.Layout.{layout_in_use, area_pages}
-use Rattle.im_types.specs.Header.{Header}
+use Rattle.im_types.specs.Types.{LAST, layout_in_use, area_pages, Header}
 use Rattle.im_pages.specs.PageSets.{has}
 use Rattle.im_checkpoint.specs.declared.checkpoint.Phase.{Phase}
-use Rattle.im_checkpoint.specs.declared.checkpoint.Phase.TheVariants.{NoCheckpoint as None_yet, PagesLeft as Some_left}
-use Rattle.im_checkpoint.specs.declared.checkpoint.Phase.TheVariants.{PagesDone as All_written, Synced as On_disk}
+use Rattle.im_checkpoint.specs.declared.checkpoint.Phase.TheVariants.{NoCheckpoint as None_yet}
+use Rattle.im_checkpoint.specs.declared.checkpoint.Phase.TheVariants.{PagesDone as All_written, PagesLeft as Some_left}
+use Rattle.im_checkpoint.specs.declared.checkpoint.Phase.TheVariants.{Synced as On_disk}
 
 -- No checkpoint. Or, of the memory after this count of commands: these pages are left to be written, or all are
 -- written, or all are on the disk with the other header's gate closed.

@@ -1,26 +1,18 @@
 -- What a turn of a checkpoint does, by the state that it finds. (Own.)
-use Rattle.std.specs.Prelude.{◌≡◌, ◌≢◌, ℕ, ◌+◌, ◌-◌, ◌<◌, ◌≤◌, Bool, true, false, ◌&&◌, ◌==◌, nat_lt, min}
-use Rattle.std.specs.Prelude.{if◌then◌else◌, List, ◌∷◌, length, replicate, not, Result, Ok, Err}
-use Rattle.im_types.specs.declared.TheConstants.{LAST}
-use Rattle.im_types.specs.declared.commands.Command.{Command}
-use Rattle.im_types.specs.declared.commands.Command.TheVariants.{Request as Asks, Confirm}
-use Rattle.im_types.specs.declared.refusals.Refusal.{Refusal}
-use Rattle.im_types.specs.declared.refusals.Refusal.TheVariants.{Device}
-use Rattle.im_types.specs.Contents.{Contents}
-use Rattle.im_types.specs.Layout.{layout_in_use, area_pages}
-use Rattle.im_types.specs.Header.{Header}
-use Rattle.im_disk.specs.declared.disk.Disk.{Ghosts}
-use Rattle.im_disk.specs.Since.{CallsAtMost, CallsBy}
-use Rattle.im_disk.specs.Runs.{ObeysOrRefuses}
-use Rattle.im_journal.specs.Holding.{JournalState, to_sweep, with_room}
-use Rattle.im_checkpoint.specs.declared.checkpoint.TurnDone.{TurnDone}
-use Rattle.im_checkpoint.specs.declared.checkpoint.TurnDone.TheVariants.{Idle, Began, Page, Synced as SyncedNow}
-use Rattle.im_checkpoint.specs.declared.checkpoint.TurnDone.TheVariants.{InForce, Swept}
+use Rattle.std.specs.Prelude.{◌≡◌, ℕ, ◌+◌, ◌-◌, ◌<◌, ◌≤◌, min, Bool, true, false, not, ◌&&◌, ◌≢◌, List, ◌∷◌, length}
+use Rattle.std.specs.Prelude.{replicate, if◌then◌else◌, nat_lt, ◌==◌, Ok, Err, Result}
+use Rattle.im_types.specs.Types.{Command, Asks, Confirm, Refusal, Device, LAST, Contents, layout_in_use, area_pages}
+use Rattle.im_types.specs.Types.{Header}
+use Rattle.im_pages.specs.PageSets.{has, IsWithin, pages_from, size_of, union}
 use Rattle.im_pages.specs.Places.{page_of_session}
-use Rattle.im_pages.specs.PageSets.{has, size_of, union, pages_from, IsWithin}
-use Rattle.im_memory.specs.Covering.{most_pages, IsOfBlock, IsAlone}
-use Rattle.im_checkpoint.specs.Step.{Step, NoCheckpoint, PagesLeft, PagesDone, Synced, CheckpointState}
-use Rattle.im_checkpoint.specs.Step.{PagedCheckpoint, Changed, pages_step, turns_left, left_in}
+use Rattle.im_disk.specs.{declared.Disk.Ghosts, Runs.ObeysOrRefuses, Since.CallsAtMost, Since.CallsBy}
+use Rattle.im_journal.specs.Holding.{JournalState, to_sweep, with_room}
+use Rattle.im_memory.specs.Covering.{IsAlone, IsOfBlock, most_pages}
+use Rattle.im_checkpoint.specs.declared.checkpoint.TurnDone.TheVariants.{Began, Idle, InForce, Page, Swept}
+use Rattle.im_checkpoint.specs.declared.checkpoint.TurnDone.TheVariants.{Synced as SyncedNow}
+use Rattle.im_checkpoint.specs.declared.checkpoint.TurnDone.{TurnDone}
+use Rattle.im_checkpoint.specs.Step.{Changed, CheckpointState, left_in, NoCheckpoint, PagedCheckpoint, pages_step}
+use Rattle.im_checkpoint.specs.Step.{PagesDone, PagesLeft, Step, Synced, turns_left}
 
 -- there are commands since the header's count, and a later generation is possible
 abbrev pub is_due : Header → JournalState → Bool

@@ -15,17 +15,14 @@
 //! command that changes it. A turn that answers `Device` leaves the state as it was. After the last generation no
 //! checkpoint begins. The table is `Turned` (`specs/Turns.antt`); what holds of the disk in each state, and what a stop
 //! leaves, is `IsKept` (`specs/Keeping.antt`), told in docs/CRASH.md. The engine calls it between two commands.
-ghost use Rattle.std.specs.Prelude.{◌≡◌, ◌*◌, ◌<◌, ◌≤◌, replicate, OnErr, IfOk, IfErr};
-ghost use Rattle.im_types.specs.declared.refusals.Refusal.TheVariants.{NoMemory, Device};
-ghost use Rattle.im_types.specs.Contents.{Contents};
-ghost use Rattle.im_types.specs.Layout as layout;
-ghost use Rattle.im_types.specs.Layout.{layout_in_use, sizes_of};
+ghost use Rattle.std.specs.Prelude.{◌≡◌, ◌*◌, ◌<◌, ◌≤◌, replicate, IfOk, IfErr, OnErr};
+ghost use Rattle.im_types.specs.Types.{Device, NoMemory, Contents, layout_in_use, sizes_of};
 ghost use Rattle.im_journal.specs.Holding.{AllHold, with_room};
-ghost use Rattle.im_image.specs.Headers.{seen};
-ghost use Rattle.im_image.specs.Reading.{HasSizes};
-ghost use Rattle.im_checkpoint.specs.Step.{NoCheckpoint, PagedCheckpoint, IsPagesLeft};
-ghost use Rattle.im_checkpoint.specs.Turns.{IsIdle, swept_at_once, calls_to_sweep, MakesTurn, MakesSweep};
-ghost use Rattle.im_checkpoint.specs.Keeping.{Paged, paged, Fits, IsKept, Prepares, ComesTo, StaysMeant, TurnLeaves};
+ghost use Rattle.im_image.specs.{Headers.seen, Reading.HasSizes};
+ghost use Rattle.im_checkpoint.specs.Keeping.{ComesTo, Fits, IsKept, Paged, paged, Prepares, StaysMeant, TurnLeaves};
+ghost use Rattle.im_checkpoint.specs.Step.{IsPagesLeft, NoCheckpoint, PagedCheckpoint};
+ghost use Rattle.im_checkpoint.specs.Turns.{calls_to_sweep, IsIdle, MakesSweep, MakesTurn, swept_at_once};
+ghost use Rattle.im_types.specs.Layout as layout;
 
 use crate::left_pages::{LeftPages, copy_pages};
 use crate::old_slots::sweep_more;
@@ -89,9 +86,8 @@ pub struct Checkpoint {
 }
 
 impl Model for Checkpoint {
-    ghost use Rattle.im_pages.specs.PageSets.{pages_from};
-    ghost use Rattle.im_image.specs.Headers.{seen};
-    ghost use Rattle.im_checkpoint.specs.Step.{PagedCheckpoint, IsCheckpoint, step_by_phase};
+    ghost use Rattle.{im_pages.specs.PageSets.pages_from, im_image.specs.Headers.seen};
+    ghost use Rattle.im_checkpoint.specs.Step.{IsCheckpoint, PagedCheckpoint, step_by_phase};
 
     ghost Value = { PagedCheckpoint };
 

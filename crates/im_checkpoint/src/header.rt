@@ -1,15 +1,10 @@
 //! The writes of a checkpoint's turns in the place of the header that isn't in force.
-ghost use Rattle.std.specs.Prelude.{◌≡◌, ◌+◌, ◌-◌, ◌*◌, ◌<◌, ◌≤◌, List, ℕ, length, OnOk};
-ghost use Rattle.im_types.specs.Contents.{Contents};
-ghost use Rattle.im_types.specs.Header.{Header as Seen};
-ghost use Rattle.im_disk.specs.Runs.{Obeys};
-ghost use Rattle.im_disk.specs.Gate.{IsClosed};
-ghost use Rattle.im_disk.specs.Since.{CallsAtMost};
-ghost use Rattle.im_journal.specs.Holding.{JournalState};
-ghost use Rattle.im_image.specs.Headers.{seen};
-ghost use Rattle.im_checkpoint.specs.Step.{PagesDone, Synced};
-ghost use Rattle.im_checkpoint.specs.Turns.{next_header};
-ghost use Rattle.im_checkpoint.specs.Keeping.{Paged, LeavesMeaning, ClosesOther, TakesOver};
+ghost use Rattle.std.specs.Prelude.{◌≡◌, ℕ, ◌+◌, ◌-◌, ◌*◌, ◌<◌, ◌≤◌, List, length, OnOk};
+ghost use Rattle.im_types.specs.Types.{Contents, Header as Seen};
+ghost use Rattle.im_disk.specs.{Gate.IsClosed, Runs.Obeys, Since.CallsAtMost};
+ghost use Rattle.{im_journal.specs.Holding.JournalState, im_image.specs.Headers.seen};
+ghost use Rattle.im_checkpoint.specs.Keeping.{ClosesOther, LeavesMeaning, Paged, TakesOver};
+ghost use Rattle.im_checkpoint.specs.{Step.PagesDone, Step.Synced, Turns.next_header};
 
 use im_disk::{DeviceFault, Disk, write_behind_gate};
 use im_image::Header;

@@ -2,11 +2,10 @@
 //! [`Checkpoint::before`] copies pages, and a turn asks for the bytes of the next one.
 //!
 //! [`Checkpoint::before`]: crate::Checkpoint::before
-ghost use Rattle.std.specs.Prelude.{◌≡◌, ◌<◌, ℕ, true, false, length};
-ghost use Rattle.im_types.specs.Layout.{layout_in_use, area_pages, sizes_of};
-ghost use Rattle.im_pages.specs.PageSets.{has};
-ghost use Rattle.im_image.specs.Encoding.{IsAreaPage};
-ghost use Rattle.im_checkpoint.specs.Copied.{copy_of, AreCopied};
+ghost use Rattle.std.specs.Prelude.{◌≡◌, ℕ, ◌<◌, true, false, length};
+ghost use Rattle.im_types.specs.Types.{layout_in_use, sizes_of, area_pages};
+ghost use Rattle.{im_pages.specs.PageSets.has, im_image.specs.Encoding.IsAreaPage};
+ghost use Rattle.im_checkpoint.specs.Copied.{AreCopied, copy_of};
 
 use crate::page_copies::PageCopies;
 use im_image::encode_page;

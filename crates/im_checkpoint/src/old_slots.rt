@@ -1,11 +1,10 @@
 //! Closes the gates of slots whose commands the area in force holds. A turn with no checkpoint under way calls `sweep`,
 //! and a sweep of many slots calls `sweep_more`.
-ghost use Rattle.std.specs.Prelude.{◌≡◌, ◌<◌, min, OnErr, IfOk};
-ghost use Rattle.im_types.specs.Contents.{Contents};
+ghost use Rattle.std.specs.Prelude.{◌≡◌, ◌<◌, min, IfOk, OnErr};
+ghost use Rattle.im_types.specs.Types.{Contents};
 ghost use Rattle.im_journal.specs.Holding.{AllHold, to_sweep, with_room};
-ghost use Rattle.im_checkpoint.specs.Step.{NoCheckpoint, CheckpointState};
-ghost use Rattle.im_checkpoint.specs.Turns.{calls_for_slots, MakesTurn, MakesSweep};
-ghost use Rattle.im_checkpoint.specs.Keeping.{Paged, StaysMeant};
+ghost use Rattle.im_checkpoint.specs.{Keeping.Paged, Keeping.StaysMeant, Step.CheckpointState, Step.NoCheckpoint};
+ghost use Rattle.im_checkpoint.specs.Turns.{calls_for_slots, MakesSweep, MakesTurn};
 
 use crate::checkpoint::TurnDone;
 use im_disk::Disk;

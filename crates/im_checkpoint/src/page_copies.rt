@@ -1,5 +1,5 @@
 //! Copies of an area's pages. Their space is taken once and not filled.
-ghost use Rattle.std.specs.Prelude.{◌≡◌, ◌<◌, length, slice_set, IfOk};
+ghost use Rattle.std.specs.Prelude.{◌≡◌, ◌<◌, length, IfOk, slice_set};
 ghost use Rattle.im_checkpoint.specs.Copied.{blank_page, copy_of};
 
 use im_types::layout::PAGE;
@@ -26,7 +26,7 @@ pub(crate) struct PageCopies {
 
 impl Model for PageCopies {
     ghost use Rattle.std.specs.Prelude.{ℕ, List, map, vec_capacity};
-    ghost use Rattle.im_checkpoint.specs.Copied.{copy_at, AreCopies};
+    ghost use Rattle.im_checkpoint.specs.Copied.{AreCopies, copy_at};
 
     ghost Value = { List (List ℕ) };
 

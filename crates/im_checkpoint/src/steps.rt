@@ -1,19 +1,14 @@
 //! The steps of a checkpoint, one for each of its states. [`Checkpoint::turn`] makes the one for the state that it
 //! finds.
-ghost use Rattle.std.specs.Prelude.{◌≡◌, ◌⊎◌, ◌*◌, ◌<◌, ◌≤◌, ℕ, length, OnErr, IfOk};
-ghost use Rattle.im_types.specs.Contents.{Contents};
+ghost use Rattle.std.specs.Prelude.{◌≡◌, ℕ, ◌*◌, ◌<◌, ◌≤◌, ◌⊎◌, length, IfOk, OnErr};
+ghost use Rattle.{im_types.specs.Types.Contents, im_types.specs.Types.layout_in_use, im_pages.specs.PageSets.IsNext};
+ghost use Rattle.{im_pages.specs.PageSets.pages_from, im_journal.specs.Holding.JournalState};
+ghost use Rattle.{im_meaning.specs.Images.other, im_memory.specs.State.MemoryState, im_image.specs.Reading.HasSizes};
+ghost use Rattle.im_disk.specs.{Gate.IsClosed, Moment.Moment};
+ghost use Rattle.im_checkpoint.specs.Keeping.{FitsIdle, HasPagesLeft, IsKept, IsReady, paged, TurnKeeps, TurnLeaves};
+ghost use Rattle.im_checkpoint.specs.Step.{changed_in, IsPagesDone, NoCheckpoint, pages_step, step_by_phase};
+ghost use Rattle.im_checkpoint.specs.Turns.{BeginsCheckpoint, is_due, MakesTurn, Moved, Turned};
 ghost use Rattle.im_types.specs.Layout as layout;
-ghost use Rattle.im_types.specs.Layout.{layout_in_use};
-ghost use Rattle.im_disk.specs.Moment.{Moment};
-ghost use Rattle.im_disk.specs.Gate.{IsClosed};
-ghost use Rattle.im_journal.specs.Holding.{JournalState};
-ghost use Rattle.im_memory.specs.State.{MemoryState};
-ghost use Rattle.im_meaning.specs.Images.{other};
-ghost use Rattle.im_pages.specs.PageSets.{pages_from, IsNext};
-ghost use Rattle.im_image.specs.Reading.{HasSizes};
-ghost use Rattle.im_checkpoint.specs.Step.{NoCheckpoint, pages_step, step_by_phase, changed_in, IsPagesDone};
-ghost use Rattle.im_checkpoint.specs.Turns.{Turned, Moved, BeginsCheckpoint, is_due, MakesTurn};
-ghost use Rattle.im_checkpoint.specs.Keeping.{paged, IsKept, FitsIdle, HasPagesLeft, IsReady, TurnKeeps, TurnLeaves};
 
 use crate::checkpoint::{Checkpoint, Phase, TurnDone};
 use crate::header::{close_other, next_header, open_next};

@@ -1,17 +1,10 @@
 -- Cells lie in blocks exactly where each block begins behind others and is whole.
-use Rattle.std.proofs.Common.{◌≡◌, ℕ, zero, suc, ◌+◌, ◌<◌, ◌≤◌, List, [], ◌∷◌, None, Some, length, refl, sym, ap, ◌∙◌}
-use Rattle.std.proofs.Common.{arith, ⊎_elim}
-use Rattle.std.proofs.lemmas.Bool.{cases_lt}
-use Rattle.std.proofs.lemmas.List.{get_or_past}
-use Rattle.im_types.specs.declared.TheConstants.{NONE}
-use Rattle.im_types.specs.declared.operations.Block.{Block}
-use Rattle.im_types.specs.declared.operations.Waiter.{Waiter}
-use Rattle.im_types.specs.declared.records.CellRecord.{CellRecord}
-use Rattle.im_types.specs.declared.records.CellRecord.TheVariants.{Free as FreeCell, Held as BlockCell}
-use Rattle.im_types.specs.Contents.{block_at, HasBlocks}
-use Rattle.im_types.specs.Pages.{cells_shown}
-use Rattle.im_contents.specs.Local.{recorded_block, recorded_block_at, LieIn, IsBlockAt, EndsBefore, HaveBlocksBelow}
+use Rattle.std.proofs.Common.{◌≡◌, ℕ, zero, suc, ◌+◌, ◌<◌, ◌≤◌, List, [], ◌∷◌, length, Some, None, sym, refl, ap, ◌∙◌}
+use Rattle.std.proofs.Common.{⊎_elim, arith}
+use Rattle.std.proofs.lemmas.{Bool.cases_lt, List.get_or_past}
+use Rattle.im_types.specs.Types.{Waiter, Block, NONE, block_at, HasBlocks, CellRecord, FreeCell, BlockCell, cells_shown}
 use Rattle.im_contents.proofs.MarkLemmas.{none_some}
+use Rattle.im_contents.specs.Local.{EndsBefore, HaveBlocksBelow, IsBlockAt, LieIn, recorded_block, recorded_block_at}
 
 pub length-cells_shown : (cells : List CellRecord) (lists : List (List Waiter)) → length (cells_shown cells lists)
     ≡ length cells

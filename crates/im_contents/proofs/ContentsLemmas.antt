@@ -1,19 +1,11 @@
 -- The memory that records show: each of its parts is tested by itself, and it is the only one.
-use Rattle.std.proofs.Common.{◌≡◌, ⊎_elim, ℕ, ◌+◌, ◌<◌, ◌≤◌, List, Option, Some, length, get_or, refl, sym, ap, ◌∙◌}
-use Rattle.std.proofs.Common.{subst, arith}
-use Rattle.std.specs.Prelude.{slice_get}
-use Rattle.std.proofs.lemmas.Bool.{cases_lt}
-use Rattle.std.proofs.lemmas.Option.{get_or_from_slice_get}
-use Rattle.im_types.specs.declared.TheConstants.{NONE}
-use Rattle.im_types.specs.declared.operations.Waiter.{Waiter}
-use Rattle.im_types.specs.Contents.{Held, Window, Contents, HasBlocks, kept_for}
-use Rattle.im_types.specs.Agreement.{WaitersAgree}
-use Rattle.im_types.specs.Layout.{Sizes}
-use Rattle.im_types.specs.Chains.{ShowLists}
-use Rattle.im_types.specs.Pages.{Records, ShowsRecords, cells_shown}
-use Rattle.im_contents.specs.Parts.{WindowsFit, HaveParts}
-use Rattle.im_contents.proofs.BlockLemmas.{length-cells_shown, blocks_of_others}
-use Rattle.im_contents.proofs.ListLemmas.{lists_unique}
+use Rattle.std.proofs.Common.{◌≡◌, ℕ, ◌+◌, ◌<◌, ◌≤◌, List, length, get_or, slice_get, Some, Option, sym, refl, ap, ◌∙◌}
+use Rattle.std.proofs.Common.{subst, ⊎_elim, arith}
+use Rattle.std.proofs.lemmas.{Bool.cases_lt, Option.get_or_from_slice_get}
+use Rattle.im_types.specs.Types.{Waiter, NONE, Held, Window, Contents, kept_for, HasBlocks, WaitersAgree, Sizes}
+use Rattle.im_types.specs.Types.{ShowLists, Records, cells_shown, ShowsRecords}
+use Rattle.im_contents.proofs.{BlockLemmas.blocks_of_others, BlockLemmas.length-cells_shown, ListLemmas.lists_unique}
+use Rattle.im_contents.specs.Parts.{HaveParts, WindowsFit}
 
 -- one more element of a list has what those before it have
 pub one_more : {X : Type 0} (P : X → Type 0) (xs : List X) (n : ℕ) (x : X) → x ≡ get_or xs n x → P x

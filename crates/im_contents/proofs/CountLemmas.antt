@@ -1,16 +1,12 @@
 -- Who waits and what waits agree exactly where they do by count.
-use Rattle.std.proofs.Common.{◌≡◌, ⊎_elim, ℕ, zero, suc, ◌<◌, ◌≤◌, Bool, true, false, List, [], ◌∷◌, Option, Some}
-use Rattle.std.proofs.Common.{None, refl, sym, ap, ◌∙◌, arith, if◌then◌else◌}
-use Rattle.std.proofs.lemmas.Bool.{true≢false, cases_lt}
-use Rattle.im_types.specs.declared.operations.Waiter.{Waiter}
-use Rattle.im_types.specs.declared.operations.Kept.{Kept}
-use Rattle.im_types.specs.Contents.{Held, held_at, waiters_in, waiters_at}
-use Rattle.im_types.specs.Window.{is_waiting}
-use Rattle.im_types.specs.Agreement.{times, waits_in, address_of, WaitersAgree}
-use Rattle.im_types.specs.Chains.{bit}
+use Rattle.std.proofs.Common.{◌≡◌, ℕ, zero, suc, ◌<◌, ◌≤◌, Bool, true, false, List, [], ◌∷◌, if◌then◌else◌, Some, None}
+use Rattle.std.proofs.Common.{Option, sym, refl, ap, ◌∙◌, ⊎_elim, true≢false, arith}
+use Rattle.std.proofs.lemmas.Bool.{cases_lt}
+use Rattle.im_types.specs.Types.{Waiter, Kept, Held, held_at, waiters_in, waiters_at, times, waits_in, address_of}
+use Rattle.im_types.specs.Types.{WaitersAgree, is_waiting, bit}
 use Rattle.im_laws.proofs.AgreementLemmas.{waits_for-kept}
-use Rattle.im_contents.specs.Counting.{all_times, waiting, AgreeByCount}
 use Rattle.im_contents.proofs.MarkLemmas.{bool_cases, none_some}
+use Rattle.im_contents.specs.Counting.{AgreeByCount, all_times, waiting}
 
 bit_some : (b : Bool) → 1 ≤ bit b → b ≡ true
 bit_some true h = refl

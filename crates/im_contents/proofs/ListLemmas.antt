@@ -1,22 +1,15 @@
 -- The walks over the lists of all cells, and the marks at their end.
-use Rattle.std.proofs.Common.{◌≡◌, ℕ, suc, ◌+◌, ◌≤◌, Bool, true, false, not, List, [], ◌∷◌, Option, None, Some}
-use Rattle.std.proofs.Common.{length, replicate, refl, sym, ap, ◌∙◌, subst, arith, ⊎_elim}
-use Rattle.std.specs.Prelude.{option_and_then}
-use Rattle.std.proofs.lemmas.List.{length-replicate}
-use Rattle.std.proofs.lemmas.List.Sums.{count_by-le-length}
-use Rattle.im_types.specs.declared.TheConstants.{NONE}
-use Rattle.im_types.specs.declared.operations.Waiter.{Waiter}
-use Rattle.im_types.specs.declared.records.PresenceTag.TheVariants.{Empty as TagEmpty, Waiting as TagWaiting}
-use Rattle.im_types.specs.declared.records.PresenceTag.TheVariants.{Full as TagFull, Clashed as TagClashed}
-use Rattle.im_types.specs.declared.records.CellRecord.{CellRecord}
-use Rattle.im_types.specs.declared.records.CellRecord.TheVariants.{Free as FreeCell, Held as BlockCell}
-use Rattle.im_types.specs.declared.records.NodeRecord.{NodeRecord}
-use Rattle.im_types.specs.Chains.{HasNoChain, HasChain, HaveChains, uses, all_uses, is_listed, ShowLists}
-use Rattle.im_contents.specs.Walk.{Walked, walk, walk_cell, AllWalked, after_list, walk_all, are_reached}
-use Rattle.im_contents.specs.Walk.{lists_if_reached, lists_in}
-use Rattle.im_contents.proofs.MarkLemmas.{none_some, some_same, when, unless, bool_cases, bit_few, marked, unmarked}
-use Rattle.im_contents.proofs.MarkLemmas.{marked-none, node_at, reached_marks, marks_reached}
-use Rattle.im_contents.proofs.WalkLemmas.{walk_sound, walk_complete}
+use Rattle.std.proofs.Common.{◌≡◌, ℕ, suc, ◌+◌, ◌≤◌, Bool, true, false, not, List, [], ◌∷◌, length, replicate, Some}
+use Rattle.std.proofs.Common.{None, Option, option_and_then, sym, refl, ap, ◌∙◌, subst, ⊎_elim, arith}
+use Rattle.std.proofs.lemmas.List.{length-replicate, Sums.count_by-le-length}
+use Rattle.im_types.specs.Types.{Waiter, NONE, CellRecord, NodeRecord, TagEmpty, TagWaiting, TagFull, TagClashed}
+use Rattle.im_types.specs.Types.{FreeCell, BlockCell, HasNoChain, HasChain, HaveChains, uses, all_uses, is_listed}
+use Rattle.im_types.specs.Types.{ShowLists}
+use Rattle.im_contents.proofs.MarkLemmas.{bit_few, bool_cases, marked, marked-none, marks_reached, node_at, none_some}
+use Rattle.im_contents.proofs.MarkLemmas.{reached_marks, some_same, unless, unmarked, when}
+use Rattle.im_contents.proofs.WalkLemmas.{walk_complete, walk_sound}
+use Rattle.im_contents.specs.Walk.{after_list, AllWalked, are_reached, lists_if_reached, lists_in, walk, walk_all}
+use Rattle.im_contents.specs.Walk.{walk_cell, Walked}
 
 module _ {A B : Type 0} where
   pub record Then (f : A → Option B) (o : Option A) (y : B) : Type 0 where

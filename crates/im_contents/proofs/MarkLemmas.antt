@@ -1,17 +1,12 @@
 -- Marks, counted.
-use Rattle.std.proofs.Common.{◌≡◌, ◌⊎◌, inl, inr, ℕ, zero, suc, ◌+◌, ◌<◌, ◌≤◌, ◌==◌, Bool, true, false, not, cond}
-use Rattle.std.proofs.Common.{List, [], ◌∷◌, None, Some, length, get_or, set, replicate, refl, sym, ap, ◌∙◌, arith}
-use Rattle.std.proofs.Common.{⊎_elim, if◌then◌else◌, count_by, ◌&&◌}
-use Rattle.std.proofs.lemmas.Bool.{cases_eq, cases_lt, eq-eqb, ne_eqb, true≢false, and_parts}
-use Rattle.std.proofs.lemmas.List.{get_or_past, get_or-set_same, get_or-set_other, get_or_default, get_or-replicate}
-use Rattle.std.proofs.lemmas.List.{length-replicate}
-use Rattle.std.proofs.lemmas.List.Sums.{sum_by-set}
-use Rattle.im_types.specs.declared.TheConstants.{NONE}
-use Rattle.im_types.specs.declared.operations.Waiter.{Waiter}
-use Rattle.im_types.specs.declared.records.NodeRecord.{NodeRecord}
-use Rattle.im_types.specs.declared.records.NodeRecord.TheVariants.{Free as FreeNode, Listed as ListNode}
-use Rattle.im_types.specs.Chains.{bit, is_listed}
-use Rattle.im_contents.specs.Walk.{unvisited_node, same_mark, are_reached}
+use Rattle.std.proofs.Common.{◌≡◌, ℕ, zero, suc, ◌+◌, ◌<◌, ◌≤◌, Bool, true, false, cond, not, ◌&&◌, ◌⊎◌, List, [], ◌∷◌}
+use Rattle.std.proofs.Common.{length, get_or, set, replicate, if◌then◌else◌, ◌==◌, Some, None, count_by, sym, refl, ap}
+use Rattle.std.proofs.Common.{◌∙◌, inl, inr, ⊎_elim, true≢false, arith, get_or-set_other, get_or-set_same, eq-eqb}
+use Rattle.std.proofs.Common.{ne_eqb}
+use Rattle.std.proofs.lemmas.Bool.{and_parts, cases_eq, cases_lt}
+use Rattle.std.proofs.lemmas.List.{get_or-replicate, get_or_default, get_or_past, length-replicate, Sums.sum_by-set}
+use Rattle.im_types.specs.Types.{Waiter, NONE, NodeRecord, ListNode, FreeNode, bit, is_listed}
+use Rattle.im_contents.specs.Walk.{are_reached, same_mark, unvisited_node}
 
 module _ {X : Type 0} where
   pub none_some : (x : X) → None ≡ Some x → ⊥

@@ -1,24 +1,17 @@
 -- Who waits and what waits agree exactly where each entry can be marked once.
-use Rattle.std.proofs.Common.{◌≡◌, ◌⊎◌, inl, inr, ℕ, zero, suc, ◌+◌, ◌<◌, ◌≤◌, ◌==◌, ◌&&◌, not, Bool, true, false}
-use Rattle.std.proofs.Common.{List, [], ◌∷◌, Option, None, Some, length, get_or, set, replicate, refl, sym, ap, ◌∙◌}
-use Rattle.std.proofs.Common.{subst, arith, ⊎_elim, if◌then◌else◌}
-use Rattle.std.specs.Prelude.{option_and_then}
-use Rattle.std.proofs.lemmas.Bool.{true≢false, cases_lt, and_parts, not-true}
-use Rattle.std.proofs.lemmas.List.{length-set, length-replicate}
-use Rattle.im_types.specs.Window.{is_waiting}
-use Rattle.im_types.specs.declared.operations.Kind.{Kind}
-use Rattle.im_types.specs.declared.operations.Waiter.{Waiter}
-use Rattle.im_types.specs.declared.operations.Kept.{Kept}
-use Rattle.im_types.specs.Contents.{Held, held_at, waiters_of, waiters_in, waiters_at}
-use Rattle.im_types.specs.Agreement.{same_waiter, times, awaiting, waits_for, waits_in, WaitersAgree}
-use Rattle.im_types.specs.Chains.{bit}
+use Rattle.std.proofs.Common.{◌≡◌, ℕ, zero, suc, ◌+◌, ◌<◌, ◌≤◌, Bool, true, false, not, ◌&&◌, ◌⊎◌, List, [], ◌∷◌}
+use Rattle.std.proofs.Common.{length, get_or, set, replicate, if◌then◌else◌, ◌==◌, Some, None, Option, option_and_then}
+use Rattle.std.proofs.Common.{sym, refl, ap, ◌∙◌, subst, inl, inr, ⊎_elim, true≢false, arith, length-set}
+use Rattle.std.proofs.lemmas.{Bool.and_parts, Bool.cases_lt, Bool.not-true, List.length-replicate}
+use Rattle.im_types.specs.Types.{Kind, Waiter, Kept, Held, held_at, waiters_of, waiters_in, waiters_at, same_waiter}
+use Rattle.im_types.specs.Types.{times, awaiting, waits_for, waits_in, WaitersAgree, is_waiting, bit}
 use Rattle.im_laws.proofs.AgreementLemmas.{same_waiter-equal, same_waiter-self, waits_for-kept}
-use Rattle.im_contents.specs.Counting.{all_times, waiting, AgreeByCount}
-use Rattle.im_contents.specs.Marking.{may_mark, mark_one, mark_list, mark_held, mark_all, HavePlaces, AgreesByMarks}
-use Rattle.im_contents.proofs.MarkLemmas.{none_some, some_same, when, unless, bool_cases, bit_same, bit_other}
-use Rattle.im_contents.proofs.MarkLemmas.{bit_one, marked, marked-set, not_marked, marked-none}
-use Rattle.im_contents.proofs.CountLemmas.{waits_at, waiting_one, none_in, agree_of_count, count_of_agree}
+use Rattle.im_contents.proofs.CountLemmas.{agree_of_count, count_of_agree, none_in, waiting_one, waits_at}
 use Rattle.im_contents.proofs.ListLemmas.{then_some}
+use Rattle.im_contents.proofs.MarkLemmas.{bit_one, bit_other, bit_same, bool_cases, marked, marked-none, marked-set}
+use Rattle.im_contents.proofs.MarkLemmas.{none_some, not_marked, some_same, unless, when}
+use Rattle.im_contents.specs.Counting.{AgreeByCount, all_times, waiting}
+use Rattle.im_contents.specs.Marking.{AgreesByMarks, HavePlaces, mark_all, mark_held, mark_list, mark_one, may_mark}
 
 nothing : 1 ≤ 0 → ⊥
 nothing h = omega arith

@@ -1,31 +1,17 @@
 -- The places of entries' marks: those of entries that wait are apart. And who waits agrees with what waits exactly
 -- where
 -- all can be marked, and all that wait are.
-use Rattle.std.proofs.Common.{◌≡◌, ℕ, zero, suc, ◌+◌, ◌*◌, ◌-◌, ◌<◌, ◌≤◌, Bool, true, false, List, [], ◌∷◌, Option}
-use Rattle.std.proofs.Common.{None, Some, length, get_or, drop, replicate, refl, sym, ap, ◌∙◌, subst, arith}
-use Rattle.std.proofs.Common.{if◌then◌else◌}
-use Rattle.std.specs.List.{sum_by}
-use Rattle.std.specs.Prelude.{slice_get, nat_lt, option_and_then, ◌↔◌}
-use Rattle.std.proofs.lemmas.Bool.{ltb-false, le-ltb}
-use Rattle.std.proofs.lemmas.List.{at_drop_more}
-use Rattle.std.proofs.lemmas.Option.{get_or_from_slice_get, slice_get_within}
-use Rattle.im_types.specs.declared.TheConstants.{WINDOW}
-use Rattle.im_types.specs.declared.operations.Waiter.{Waiter}
-use Rattle.im_types.specs.declared.operations.Kept.{Kept}
-use Rattle.im_types.specs.declared.records.PresenceTag.TheVariants.{Empty as TagEmpty, Waiting as TagWaiting}
-use Rattle.im_types.specs.declared.records.PresenceTag.TheVariants.{Full as TagFull, Clashed as TagClashed}
-use Rattle.im_types.specs.declared.records.CellRecord.{CellRecord}
-use Rattle.im_types.specs.declared.records.CellRecord.TheVariants.{Free as FreeCell, Held as BlockCell}
-use Rattle.im_types.specs.Contents.{Held, Window, new_window, kept_under, kept_for}
-use Rattle.im_types.specs.Window.{is_waiting}
-use Rattle.im_types.specs.Agreement.{WaitersAgree}
-use Rattle.im_types.specs.Pages.{cell_shown, cells_shown}
-use Rattle.im_types.specs.Chains.{bit}
+use Rattle.std.proofs.Common.{◌≡◌, ℕ, zero, suc, ◌+◌, ◌-◌, ◌*◌, ◌<◌, ◌≤◌, Bool, true, false, ◌↔◌, List, [], ◌∷◌, length}
+use Rattle.std.proofs.Common.{get_or, drop, replicate, if◌then◌else◌, nat_lt, slice_get, Some, None, sum_by, Option}
+use Rattle.std.proofs.Common.{option_and_then, sym, refl, ap, ◌∙◌, subst, arith, ltb-false, le-ltb}
+use Rattle.std.proofs.lemmas.{List.at_drop_more, Option.get_or_from_slice_get, Option.slice_get_within}
+use Rattle.im_types.specs.Types.{Waiter, Kept, WINDOW, Held, Window, new_window, kept_under, kept_for, WaitersAgree}
+use Rattle.im_types.specs.Types.{is_waiting, CellRecord, TagEmpty, TagWaiting, TagFull, TagClashed, FreeCell, BlockCell}
+use Rattle.im_types.specs.Types.{bit, cell_shown, cells_shown}
+use Rattle.im_contents.proofs.{MarkingLemmas.agree_of_marks, MarkingLemmas.marks_of_agree, RowLemmas.none-behind}
+use Rattle.im_contents.proofs.MarkLemmas.{bit_one, none_some, some_same, unless}
 use Rattle.im_contents.specs.Counting.{waiting}
-use Rattle.im_contents.specs.Marking.{AreFew, place_of_mark, mark_held, mark_all, HavePlaces, AreMarked}
-use Rattle.im_contents.proofs.RowLemmas.{none-behind}
-use Rattle.im_contents.proofs.MarkLemmas.{none_some, some_same, unless, bit_one}
-use Rattle.im_contents.proofs.MarkingLemmas.{agree_of_marks, marks_of_agree}
+use Rattle.im_contents.specs.Marking.{AreFew, AreMarked, HavePlaces, mark_all, mark_held, place_of_mark}
 
 -- the cell that a record and a list show
 pub held_at-shown : (cells : List CellRecord) (lists : List (List Waiter)) (a : ℕ) (d : CellRecord) → length lists

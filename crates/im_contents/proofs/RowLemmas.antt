@@ -1,17 +1,13 @@
 -- Lists of waiters in one row.
-use Rattle.std.proofs.Common.{◌≡◌, ℕ, zero, suc, ◌-◌, ◌*◌, ◌<◌, ◌≤◌, List, [], ◌∷◌, ◌++◌, length, replicate, ◌+◌}
-use Rattle.std.proofs.Common.{get_or, take, drop, refl, sym, ap, ◌∙◌, subst, arith, ⊎_elim}
-use Rattle.std.specs.Prelude.{slice_range}
-use Rattle.std.specs.List.{sum_by}
+use Rattle.std.proofs.Common.{◌≡◌, ℕ, zero, suc, ◌+◌, ◌-◌, ◌*◌, ◌<◌, ◌≤◌, List, [], ◌∷◌, ◌++◌, length, get_or, take}
+use Rattle.std.proofs.Common.{drop, replicate, slice_range, sum_by, sym, refl, ap, ◌∙◌, subst, ⊎_elim, append_assoc}
+use Rattle.std.proofs.Common.{append-nil, arith, length-append, length-drop, length-take-le}
+use Rattle.std.proofs.lemmas.List.{drop-append-le, Folds.sum_by-replicate, get_or-append_right, get_or-replicate}
+use Rattle.std.proofs.lemmas.List.{length-replicate, replicate_more, take-append-le}
+use Rattle.std.proofs.lemmas.List.Sums.{sum_by-append, sum_by-cons}
 use Rattle.std.proofs.Math.Seq.{drop-append_seam, take-length}
-use Rattle.std.proofs.lemmas.List.{take-append-le, drop-append-le, length-append, length-drop, length-take-le}
-use Rattle.std.proofs.lemmas.List.{append-nil, append_assoc, length-replicate, replicate_more, get_or-append_right}
-use Rattle.std.proofs.lemmas.List.{get_or-replicate}
-use Rattle.std.proofs.lemmas.List.Sums.{sum_by-cons, sum_by-append}
-use Rattle.std.proofs.lemmas.List.Folds.{sum_by-replicate}
-use Rattle.im_laws.proofs.Tests.{below_or_from}
-use Rattle.im_types.specs.declared.operations.Waiter.{Waiter}
-use Rattle.im_contents.specs.Row.{cut, spread, Rise}
+use Rattle.{im_types.specs.Types.Waiter, im_laws.proofs.Tests.below_or_from}
+use Rattle.im_contents.specs.Row.{cut, Rise, spread}
 
 pub Rise-from : (start : ℕ) (ends : List ℕ) (size : ℕ) → Rise start ends size → start ≤ size
 Rise-from start [] size rise = omega arith

@@ -1,20 +1,13 @@
 -- One step of a walk, and of the walks over all cells, for their loops.
-use Rattle.std.proofs.Common.{◌≡◌, ℕ, suc, ◌+◌, ◌-◌, ◌<◌, ◌≤◌, ◌==◌, Bool, true, false, List, [], ◌∷◌, ◌++◌, Option}
-use Rattle.std.proofs.Common.{None, Some, length, drop, replicate, set, refl, sym, ap, ◌∙◌, subst, arith}
-use Rattle.std.proofs.Common.{if◌then◌else◌}
-use Rattle.std.specs.Prelude.{option_and_then}
-use Rattle.std.proofs.lemmas.List.{append_assoc, append-nil, drop_all}
-use Rattle.im_types.specs.declared.TheConstants.{NONE}
-use Rattle.im_types.specs.declared.operations.Waiter.{Waiter}
-use Rattle.im_types.specs.declared.records.CellRecord.{CellRecord}
-use Rattle.im_types.specs.declared.records.NodeRecord.{NodeRecord}
-use Rattle.im_types.specs.declared.records.NodeRecord.TheVariants.{Free as FreeNode, Listed as ListNode}
-use Rattle.im_contents.specs.Row.{spread, Rise}
-use Rattle.im_contents.specs.Walk.{Walked, unvisited_node, node_behind, met_after, visit, walk, walk_cell}
-use Rattle.im_contents.specs.Walk.{AllWalked, after_list}
-use Rattle.im_contents.specs.Walk.{after_lists, walk_all, are_reached, lists_if_reached, lists_in}
-use Rattle.im_contents.proofs.MarkLemmas.{none_some, some_same, when, unless}
-use Rattle.im_contents.proofs.RowLemmas.{IsEndKept, spread-push}
+use Rattle.std.proofs.Common.{◌≡◌, ℕ, suc, ◌+◌, ◌-◌, ◌<◌, ◌≤◌, Bool, true, false, List, [], ◌∷◌, ◌++◌, length, drop}
+use Rattle.std.proofs.Common.{set, replicate, if◌then◌else◌, ◌==◌, Some, None, Option, option_and_then, sym, refl, ap}
+use Rattle.std.proofs.Common.{◌∙◌, subst, append_assoc, append-nil, arith}
+use Rattle.std.proofs.lemmas.List.{drop_all}
+use Rattle.im_types.specs.Types.{Waiter, NONE, CellRecord, NodeRecord, ListNode, FreeNode}
+use Rattle.im_contents.proofs.MarkLemmas.{none_some, some_same, unless, when}
+use Rattle.im_contents.{proofs.RowLemmas.IsEndKept, proofs.RowLemmas.spread-push, specs.Row.Rise, specs.Row.spread}
+use Rattle.im_contents.specs.Walk.{after_list, after_lists, AllWalked, are_reached, lists_if_reached, lists_in}
+use Rattle.im_contents.specs.Walk.{met_after, node_behind, unvisited_node, visit, walk, walk_all, walk_cell, Walked}
 
 behind-behind : (front : List Waiter) (who : Waiter) (rest : Option Walked)
     → met_after front (met_after (who ∷ []) rest)

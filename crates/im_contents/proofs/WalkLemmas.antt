@@ -1,18 +1,13 @@
 -- A walk follows a chain, and each chain is walked.
-use Rattle.std.proofs.Common.{◌≡◌, ℕ, zero, suc, ◌+◌, ◌<◌, ◌≤◌, ◌==◌, Bool, true, false, List, [], ◌∷◌, ◌++◌, Option}
-use Rattle.std.proofs.Common.{None, Some, length, get_or, set, refl, sym, ap, ◌∙◌, subst, arith, ⊎_elim}
-use Rattle.std.proofs.Common.{if◌then◌else◌}
-use Rattle.std.proofs.lemmas.Bool.{eqb-true, eq-eqb, ne_eqb}
-use Rattle.std.proofs.lemmas.List.{length-set}
-use Rattle.im_types.specs.declared.TheConstants.{NONE}
-use Rattle.im_types.specs.declared.operations.Waiter.{Waiter}
-use Rattle.im_types.specs.declared.records.NodeRecord.{NodeRecord}
-use Rattle.im_types.specs.declared.records.NodeRecord.TheVariants.{Free as FreeNode, Listed as ListNode}
-use Rattle.im_types.specs.Chains.{first_of, last_of, ChainHolds, IsChain, uses}
-use Rattle.im_contents.specs.Walk.{Walked, unvisited_node, node_behind, met_after, visit, walk}
-use Rattle.im_contents.proofs.MarkLemmas.{none_some, some_same, when, unless, bool_cases, bit_same, marked, unmarked}
-use Rattle.im_contents.proofs.MarkLemmas.{in_nodes, marked-set, unmarked-set, not_marked, node_at, IsFresh}
-use Rattle.im_contents.proofs.MarkLemmas.{fresh_node}
+use Rattle.std.proofs.Common.{◌≡◌, ℕ, zero, suc, ◌+◌, ◌<◌, ◌≤◌, Bool, true, false, List, [], ◌∷◌, ◌++◌, length, get_or}
+use Rattle.std.proofs.Common.{set, if◌then◌else◌, ◌==◌, Some, None, Option, sym, refl, ap, ◌∙◌, subst, ⊎_elim, arith}
+use Rattle.std.proofs.Common.{length-set, eq-eqb, ne_eqb, eqb-true}
+use Rattle.im_types.specs.Types.{Waiter, NONE, NodeRecord, ListNode, FreeNode, first_of, last_of, ChainHolds, IsChain}
+use Rattle.im_types.specs.Types.{uses}
+use Rattle.im_contents.proofs.MarkLemmas.{bit_same, bool_cases, fresh_node, in_nodes, IsFresh, marked, marked-set}
+use Rattle.im_contents.proofs.MarkLemmas.{node_at, none_some, not_marked, some_same, unless, unmarked, unmarked-set}
+use Rattle.im_contents.proofs.MarkLemmas.{when}
+use Rattle.im_contents.specs.Walk.{met_after, node_behind, unvisited_node, visit, walk, Walked}
 
 -- the chain that a walk has followed: none of its nodes was marked, and all are now
 pub record Trail (nodes : List NodeRecord) (marks : List Bool) (at last : ℕ) (w : Walked) : Type 0 where

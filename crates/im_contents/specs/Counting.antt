@@ -1,11 +1,6 @@
 -- The requests that wait, counted over all cells. (Own.)
-use Rattle.std.specs.Prelude.{◌≡◌, ℕ, ◌+◌, ◌≤◌, List, [], ◌∷◌, true, Option, None, Some}
-use Rattle.im_types.specs.declared.operations.Waiter.{Waiter}
-use Rattle.im_types.specs.declared.operations.Kept.{Kept}
-use Rattle.im_types.specs.Contents.{Held, held_at, waiters_in, waiters_at}
-use Rattle.im_types.specs.Window.{is_waiting}
-use Rattle.im_types.specs.Agreement.{times, waits_in}
-use Rattle.im_types.specs.Chains.{bit}
+use Rattle.std.specs.Prelude.{◌≡◌, ℕ, ◌+◌, ◌≤◌, true, List, [], ◌∷◌, Some, None, Option}
+use Rattle.im_types.specs.Types.{Waiter, Kept, Held, held_at, waiters_in, waiters_at, times, waits_in, is_waiting, bit}
 
 -- how often a request stands in the lists of all cells
 abbrev pub all_times : Waiter → List (Option Held) → ℕ

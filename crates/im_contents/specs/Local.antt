@@ -1,9 +1,6 @@
 -- Whether cells lie in blocks, found by a look at each cell in turn. (Own.)
-use Rattle.std.specs.Prelude.{◌≡◌, ℕ, ◌+◌, ◌<◌, ◌≤◌, List, Option, None, Some, length, slice_index_or}
-use Rattle.im_types.specs.declared.TheConstants.{NONE}
-use Rattle.im_types.specs.declared.operations.Block.{Block}
-use Rattle.im_types.specs.declared.records.CellRecord.{CellRecord}
-use Rattle.im_types.specs.declared.records.CellRecord.TheVariants.{Free as FreeCell, Held as BlockCell}
+use Rattle.std.specs.Prelude.{◌≡◌, ℕ, ◌+◌, ◌<◌, ◌≤◌, List, length, slice_index_or, Some, None, Option}
+use Rattle.im_types.specs.Types.{Block, NONE, CellRecord, FreeCell, BlockCell}
 
 -- the block of a record's cell
 abbrev pub recorded_block : CellRecord → Option Block

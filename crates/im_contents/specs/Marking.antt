@@ -1,14 +1,9 @@
 -- Agreement by marks: the entry of each waiter is marked, if it waits for that cell and isn't marked before. (Own.)
-use Rattle.std.specs.Prelude.{◌≡◌, ℕ, ◌+◌, ◌*◌, ◌-◌, ◌<◌, ◌≤◌, List, [], ◌∷◌, length, Bool, true, false, not}
-use Rattle.std.specs.Prelude.{replicate, ◌&&◌, Option, None, Some, option_and_then, slice_get, slice_index_or}
-use Rattle.std.specs.Prelude.{slice_set, if◌then◌else◌}
-use Rattle.im_types.specs.declared.TheConstants.{WINDOW}
-use Rattle.im_types.specs.declared.operations.Kind.{Kind}
-use Rattle.im_types.specs.declared.operations.Waiter.{Waiter}
-use Rattle.im_types.specs.declared.operations.Kept.{Kept}
-use Rattle.im_types.specs.Contents.{Held, Window, new_window, waiters_of}
-use Rattle.im_types.specs.Window.{is_waiting}
-use Rattle.im_types.specs.Agreement.{awaiting, waits_for}
+use Rattle.std.specs.Prelude.{◌≡◌, ℕ, ◌+◌, ◌-◌, ◌*◌, ◌<◌, ◌≤◌, Bool, true, false, not, ◌&&◌, List, [], ◌∷◌, length}
+use Rattle.std.specs.Prelude.{replicate, if◌then◌else◌, slice_get, slice_index_or, slice_set, Some, None, Option}
+use Rattle.std.specs.Prelude.{option_and_then}
+use Rattle.im_types.specs.Types.{Kind, Waiter, Kept, WINDOW, Held, Window, new_window, waiters_of, awaiting, waits_for}
+use Rattle.im_types.specs.Types.{is_waiting}
 use Rattle.im_contents.specs.Counting.{waiting}
 
 -- no window keeps more entries than the maximum

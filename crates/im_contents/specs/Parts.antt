@@ -1,10 +1,6 @@
 -- What records need to show a memory, besides lists of waiters. (Own.)
-use Rattle.std.specs.Prelude.{◌≡◌, ℕ, List, Some, length, slice_get}
-use Rattle.im_types.specs.declared.operations.Waiter.{Waiter}
-use Rattle.im_types.specs.declared.records.CellRecord.{CellRecord}
-use Rattle.im_types.specs.Contents.{Window, HasBlocks}
-use Rattle.im_types.specs.Memory.{IsWindow}
-use Rattle.im_types.specs.Pages.{cells_shown}
+use Rattle.std.specs.Prelude.{◌≡◌, ℕ, List, length, slice_get, Some}
+use Rattle.im_types.specs.Types.{Waiter, Window, HasBlocks, IsWindow, CellRecord, cells_shown}
 
 -- each window is within its bounds
 abbrev pub WindowsFit : List Window → Type 0

@@ -1,6 +1,6 @@
 -- Lists of waiters in one row: each ends where the next begins. (Own.)
 use Rattle.std.specs.Prelude.{◌≡◌, ℕ, ◌-◌, ◌≤◌, List, [], ◌∷◌, ◌++◌, length, replicate, slice_range}
-use Rattle.im_types.specs.declared.operations.Waiter.{Waiter}
+use Rattle.im_types.specs.Types.{Waiter}
 
 -- the lists in a row: the first begins here, and each ends at its number
 abbrev pub cut : List Waiter → ℕ → List ℕ → List (List Waiter)

@@ -1,15 +1,8 @@
 -- Following links from node to node, with a mark on each visited node. A walk ends, whatever the links are. (Own.)
-use Rattle.std.specs.Prelude.{ℕ, zero, suc, List, [], ◌∷◌, ◌++◌, length, replicate, Bool, true, false, ◌&&◌, not}
-use Rattle.std.specs.Prelude.{Option, None, Some, ◌==◌, slice_index_or, slice_set, if◌then◌else◌, option_and_then}
-use Rattle.im_types.specs.declared.TheConstants.{NONE}
-use Rattle.im_types.specs.declared.operations.Waiter.{Waiter}
-use Rattle.im_types.specs.declared.records.PresenceTag.TheVariants.{Empty as TagEmpty, Waiting as TagWaiting}
-use Rattle.im_types.specs.declared.records.PresenceTag.TheVariants.{Full as TagFull, Clashed as TagClashed}
-use Rattle.im_types.specs.declared.records.CellRecord.{CellRecord}
-use Rattle.im_types.specs.declared.records.CellRecord.TheVariants.{Free as FreeCell, Held as BlockCell}
-use Rattle.im_types.specs.declared.records.NodeRecord.{NodeRecord}
-use Rattle.im_types.specs.declared.records.NodeRecord.TheVariants.{Free as FreeNode, Listed as ListNode}
-use Rattle.im_types.specs.Chains.{is_listed}
+use Rattle.std.specs.Prelude.{ℕ, zero, suc, Bool, true, false, not, ◌&&◌, List, [], ◌∷◌, ◌++◌, length, replicate}
+use Rattle.std.specs.Prelude.{if◌then◌else◌, ◌==◌, slice_index_or, slice_set, Some, None, Option, option_and_then}
+use Rattle.im_types.specs.Types.{Waiter, NONE, CellRecord, NodeRecord, TagEmpty, TagWaiting, TagFull, TagClashed}
+use Rattle.im_types.specs.Types.{FreeCell, BlockCell, ListNode, FreeNode, is_listed}
 
 -- the waiters that a walk has met, in their order, and its marks
 pub record Walked : Type 0 where

@@ -1,9 +1,7 @@
 //! Checks whether the cells that were read lie in blocks.
-ghost use Rattle.std.specs.Prelude.{◌≡◌, ◌<◌, ◌↔◌, List, Some, IsTrue, length};
-ghost use Rattle.im_types.specs.declared.operations.Waiter.{Waiter};
-ghost use Rattle.im_types.specs.Contents.{HasBlocks};
-ghost use Rattle.im_types.specs.Pages.{cells_shown};
-ghost use Rattle.im_contents.specs.Local.{recorded_block, recorded_block_at, LieIn, IsBlockAt};
+ghost use Rattle.std.specs.Prelude.{◌≡◌, ◌<◌, ◌↔◌, List, length, IsTrue, Some};
+ghost use Rattle.im_types.specs.Types.{Waiter, HasBlocks, cells_shown};
+ghost use Rattle.im_contents.specs.Local.{IsBlockAt, LieIn, recorded_block, recorded_block_at};
 
 use im_cell::CellRow;
 use im_types::{Block, CellRecord, Kind};

@@ -1,12 +1,8 @@
 //! Says which memory a list of records shows.
-ghost use Rattle.std.specs.Prelude.{◌≡◌, ◌≤◌, ◌⊎◌, ◌↔◌, List, IfOk, IfErr, IsErrOf, IsTrue, length};
-ghost use Rattle.im_types.specs.declared.TheConstants.{NONE};
-ghost use Rattle.im_types.specs.Contents.{Contents};
-ghost use Rattle.im_types.specs.Memory.{IsWindow};
-ghost use Rattle.im_types.specs.Layout.{Sizes, sizes_of};
-ghost use Rattle.im_types.specs.Chains.{ShowLists};
-ghost use Rattle.im_types.specs.Pages.{Records, ShowsRecords, cells_shown};
-ghost use Rattle.im_contents.specs.Parts.{WindowsFit, HaveParts};
+ghost use Rattle.std.specs.Prelude.{◌≡◌, ◌≤◌, ◌⊎◌, ◌↔◌, List, length, IfOk, IfErr, IsTrue, IsErrOf};
+ghost use Rattle.im_types.specs.Types.{NONE, Contents, IsWindow, Sizes, sizes_of, ShowLists, Records, cells_shown};
+ghost use Rattle.im_types.specs.Types.{ShowsRecords};
+ghost use Rattle.im_contents.specs.Parts.{HaveParts, WindowsFit};
 
 use crate::blocks::are_blocks;
 use crate::lists::Lists;

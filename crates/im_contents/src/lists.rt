@@ -1,6 +1,5 @@
 //! The lists of waiters that were read, in one row.
-ghost use Rattle.std.specs.Prelude.{◌≡◌, ◌==◌, ◌<◌, ◌∷◌, length, [], slice_index_or};
-ghost use Rattle.std.specs.List.{sum_by};
+ghost use Rattle.std.specs.Prelude.{◌≡◌, ◌<◌, [], ◌∷◌, length, ◌==◌, slice_index_or, sum_by};
 
 use im_types::Waiter;
 use std::marker::Model;
@@ -18,8 +17,8 @@ pub struct Lists {
 
 impl Model for Lists {
     ghost use Rattle.std.specs.Prelude.{◌≤◌, List, length};
-    ghost use Rattle.im_types.specs.declared.operations.Waiter.{Waiter};
-    ghost use Rattle.im_contents.specs.Row.{spread, Rise};
+    ghost use Rattle.im_types.specs.Types.{Waiter};
+    ghost use Rattle.im_contents.specs.Row.{Rise, spread};
 
     ghost Value = { List (List Waiter) };
 

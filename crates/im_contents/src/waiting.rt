@@ -1,13 +1,10 @@
 //! Compares who waits at the cells with the entries that wait.
-ghost use Rattle.std.specs.Prelude.{◌≡◌, ◌+◌, ◌*◌, ◌≤◌, ◌<◌, ◌↔◌, [], ℕ, Some, None, IfOk, IsSome, IsTrue, length};
-ghost use Rattle.std.specs.Prelude.{replicate, false, slice_index_or, if◌then◌else◌};
-ghost use Rattle.im_types.specs.Contents.{kept_under, kept_for};
-ghost use Rattle.im_types.specs.Window.{is_waiting};
-ghost use Rattle.im_types.specs.Agreement.{awaiting, waits_for, WaitersAgree};
-ghost use Rattle.im_types.specs.Pages.{cell_shown, cells_shown};
-ghost use Rattle.im_contents.specs.Marking.{place_of_mark, AreFew, mark_one, mark_list, mark_held, mark_all};
-ghost use Rattle.im_contents.specs.Marking.{ListMarked};
-ghost use Rattle.im_contents.specs.Marking.{AreMarked};
+ghost use Rattle.std.specs.Prelude.{◌≡◌, ℕ, ◌+◌, ◌*◌, ◌<◌, ◌≤◌, false, ◌↔◌, [], length, replicate, IfOk, if◌then◌else◌};
+ghost use Rattle.std.specs.Prelude.{IsSome, IsTrue, slice_index_or, Some, None};
+ghost use Rattle.im_types.specs.Types.{kept_under, kept_for, awaiting, waits_for, WaitersAgree, is_waiting, cell_shown};
+ghost use Rattle.im_types.specs.Types.{cells_shown};
+ghost use Rattle.im_contents.specs.Marking.{AreFew, AreMarked, ListMarked, mark_all, mark_held, mark_list, mark_one};
+ghost use Rattle.im_contents.specs.Marking.{place_of_mark};
 
 use crate::lists::Lists;
 use im_cell::CellRow;

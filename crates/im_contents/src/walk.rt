@@ -1,12 +1,8 @@
 //! Reads lists of waiters from linked nodes, whatever the links are.
-ghost use Rattle.std.specs.Prelude.{◌≡◌, ◌<◌, ◌≤◌, ◌⊎◌, ◌-◌, ◌++◌, ◌∷◌, [], List, Option, Some, None, IfOk, IfErr};
-ghost use Rattle.std.specs.Prelude.{IsErrOf, length, replicate};
-ghost use Rattle.std.specs.Prelude.{false, if◌then◌else◌};
-ghost use Rattle.im_types.specs.declared.operations.Waiter.{Waiter};
-ghost use Rattle.im_types.specs.declared.records.CellRecord.{CellRecord};
-ghost use Rattle.im_types.specs.declared.records.NodeRecord.{NodeRecord};
-ghost use Rattle.im_types.specs.Chains.{ShowLists, is_listed};
-ghost use Rattle.im_contents.specs.Walk.{unvisited_node, met_after, walk, walk_cell, are_reached, lists_in};
+ghost use Rattle.std.specs.Prelude.{◌≡◌, ◌-◌, ◌<◌, ◌≤◌, false, ◌⊎◌, List, [], ◌∷◌, ◌++◌, length, replicate, IfOk};
+ghost use Rattle.std.specs.Prelude.{IfErr, if◌then◌else◌, Some, None, Option, IsErrOf};
+ghost use Rattle.im_types.specs.Types.{Waiter, CellRecord, NodeRecord, is_listed, ShowLists};
+ghost use Rattle.im_contents.specs.Walk.{are_reached, lists_in, met_after, unvisited_node, walk, walk_cell};
 
 use crate::lists::Lists;
 use im_cell::CellRow;

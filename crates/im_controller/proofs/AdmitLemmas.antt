@@ -1,40 +1,24 @@
 -- The members of a group that are lent: they are still a group, and the refusals of the others leave no line.
-use Rattle.std.proofs.Common.{◌≡◌, ◌≢◌, ⊎_elim, ℕ, zero, suc, ◌+◌, ◌<◌, ◌≤◌, ◌==◌, Bool, true, false, List, []}
-use Rattle.std.proofs.Common.{◌∷◌, ◌++◌, refl, sym, ap, ◌∙◌, subst, Option, None, Some, Result, Err, length}
-use Rattle.std.proofs.Common.{length-append, map, drop, get_or, slice_get, append-nil, append_assoc, arith}
-use Rattle.std.proofs.Common.{if◌then◌else◌}
-use Rattle.std.specs.Prelude.{nat_lt}
+use Rattle.std.proofs.Common.{◌≡◌, ℕ, zero, suc, ◌+◌, ◌<◌, ◌≤◌, Bool, true, false, ◌≢◌, List, [], ◌∷◌, ◌++◌, map}
+use Rattle.std.proofs.Common.{length, get_or, drop, if◌then◌else◌, nat_lt, ◌==◌, slice_get, Some, None, Err, Option}
+use Rattle.std.proofs.Common.{Result, sym, refl, ap, ◌∙◌, subst, ⊎_elim, append_assoc, append-nil, arith, length-append}
+use Rattle.std.proofs.{lemmas.Bool.Decides.nat_tests, lemmas.List.drop_all, Math.Seq.drop-cons}
 use Rattle.std.specs.List.{AllByRecursion}
-use Rattle.std.proofs.lemmas.Bool.Decides.{nat_tests}
-use Rattle.std.proofs.Math.Seq.{drop-cons}
-use Rattle.std.proofs.lemmas.List.{drop_all}
-use Rattle.im_types.specs.declared.commands.Command.{Command}
-use Rattle.im_types.specs.declared.commands.Request.{Request}
-use Rattle.im_types.specs.declared.commands.Outcome.{Outcome}
-use Rattle.im_types.specs.declared.commands.Call.TheVariants.{Command as Commands}
-use Rattle.im_types.specs.declared.commands.Line.{Line}
-use Rattle.im_types.specs.declared.groups.Served.{Served}
-use Rattle.im_types.specs.declared.refusals.Refusal.{Refusal}
-use Rattle.im_types.specs.declared.refusals.Refusal.TheVariants.{Failed, TraceFull}
-use Rattle.im_types.specs.Contents.{Contents}
-use Rattle.im_laws.proofs.Tests.{true_false}
-use Rattle.im_groups.specs.Commands.{places, takes_place, places_behind}
-use Rattle.im_glass.specs.Panes.{PaneView}
-use Rattle.im_engine.specs.State.{EngineState}
-use Rattle.im_engine.specs.Commands.{each_refused}
-use Rattle.im_trace.specs.Lines.{leaves_line, line_of, left_lines, times_of}
-use Rattle.im_trace.specs.Log.{sender_of, LogState, TimedLog, GoesOnAt, with_unclaimed}
-use Rattle.im_queue.specs.Members.{AreOfOthers, AreOneOfEach, AreSureBehind, IsSure, IsCut, are_joined, AreFreeFor}
-use Rattle.im_controller.specs.Lends.{changes_put}
-use Rattle.im_session.specs.Serving.{served_answer}
-use Rattle.im_controller.specs.Groups.{changes_put_all, MembersAnswered}
-use Rattle.im_controller.specs.Planned.{has_command, AreOnPlan, StartsBy, KeepsTo}
-use Rattle.im_controller.specs.Admitted.{free_lines, places_with, is_asked, is_off, IsVerdict, places_after}
-use Rattle.im_controller.specs.Admitted.{AreVerdicts, lent_of, with_refused, Admits}
-use Rattle.im_controller.proofs.SureLemmas.{sure-behind}
-use Rattle.im_controller.proofs.PutLemmas.{lines_all, refused-lines, left-none, taken-none}
-use Rattle.im_controller.proofs.Keeping.{free_after, free_other}
+use Rattle.im_types.specs.Types.{Request, Command, Outcome, Line, Commands, Served, Refusal, Failed, TraceFull}
+use Rattle.im_types.specs.Types.{Contents}
+use Rattle.{im_laws.proofs.Tests.true_false, im_session.specs.Serving.served_answer, im_glass.specs.Panes.PaneView}
+use Rattle.im_groups.specs.Commands.{places, places_behind, takes_place}
+use Rattle.im_engine.specs.{Commands.each_refused, State.EngineState}
+use Rattle.im_trace.specs.Lines.{leaves_line, left_lines, line_of, times_of}
+use Rattle.im_trace.specs.Log.{GoesOnAt, LogState, sender_of, TimedLog, with_unclaimed}
+use Rattle.im_queue.specs.Members.{are_joined, AreFreeFor, AreOfOthers, AreOneOfEach, AreSureBehind, IsCut, IsSure}
+use Rattle.im_controller.proofs.{Keeping.free_after, Keeping.free_other, SureLemmas.sure-behind}
 use Rattle.im_controller.proofs.PlannedLemmas.{keeps-line, on-command}
+use Rattle.im_controller.proofs.PutLemmas.{left-none, lines_all, refused-lines, taken-none}
+use Rattle.im_controller.specs.Admitted.{Admits, AreVerdicts, free_lines, is_asked, is_off, IsVerdict, lent_of}
+use Rattle.im_controller.specs.Admitted.{places_after, places_with, with_refused}
+use Rattle.im_controller.specs.{Groups.changes_put_all, Groups.MembersAnswered, Lends.changes_put}
+use Rattle.im_controller.specs.Planned.{AreOnPlan, has_command, KeepsTo, StartsBy}
 
 -- ---- a verdict
 

@@ -1,30 +1,18 @@
 -- The answers to a group's members are the memory's, one after another, and come to the engine's memory.
-use Rattle.std.proofs.Common.{◌≡◌, ◌⊎◌, inl, inr, ⊎_elim, ℕ, zero, suc, ◌<◌, ◌≤◌, ◌&&◌, ◌==◌, Bool, true, false, List}
-use Rattle.std.proofs.Common.{[], ◌∷◌, refl, sym, ap, ◌∙◌, subst, Result, Ok, Err, length, map, arith, if◌then◌else◌}
-use Rattle.std.specs.Prelude.{nat_lt}
+use Rattle.std.proofs.Common.{◌≡◌, ℕ, zero, suc, ◌<◌, ◌≤◌, Bool, true, false, ◌&&◌, ◌⊎◌, List, [], ◌∷◌, map, length}
+use Rattle.std.proofs.Common.{if◌then◌else◌, nat_lt, ◌==◌, Ok, Err, Result, sym, refl, ap, ◌∙◌, subst, inl, inr, ⊎_elim}
+use Rattle.std.proofs.Common.{arith}
 use Rattle.std.proofs.lemmas.Bool.Decides.{nat_tests}
-use Rattle.im_types.specs.declared.commands.Command.{Command}
-use Rattle.im_types.specs.declared.commands.Outcome.{Outcome}
-use Rattle.im_types.specs.declared.commands.Call.TheVariants.{Command as Commands}
-use Rattle.im_types.specs.declared.groups.Served.{Served}
-use Rattle.im_types.specs.declared.refusals.Refusal.{Refusal}
-use Rattle.im_types.specs.declared.refusals.Refusal.TheVariants.{JournalFull, Device, Failed, TraceFull}
-use Rattle.im_types.specs.Contents.{Contents}
-use Rattle.im_types.specs.Run.{after}
-use Rattle.im_types.specs.Step.{step, is_accepted}
-use Rattle.im_types.specs.Groups.{as_served}
-use Rattle.im_laws.proofs.Tests.{true_false}
-use Rattle.im_laws.proofs.AcceptLemmas.{unaccepted-leaves, accepted-ok}
-use Rattle.im_engine.specs.State.{EngineState}
-use Rattle.im_groups.specs.Commands.{places, answer_with, contents_with, places_behind, answers_with}
-use Rattle.im_groups.specs.Commands.{contents_after_all}
-use Rattle.im_groups.proofs.CommandLemmas.{at-after}
-use Rattle.im_engine.specs.Commands.{commands_put, after_commands, each_refused, answers_in_turn, CommandsAnswered}
-use Rattle.im_trace.specs.Lines.{leaves_line, memory_after}
-use Rattle.im_session.specs.Serving.{served_answer}
-use Rattle.im_controller.specs.Groups.{IsAnswerTo, AreAnswersTo, memory_after_all, lines_left}
-use Rattle.im_controller.specs.Groups.{MembersAnswered}
+use Rattle.im_types.specs.Types.{Command, Outcome, Commands, Served, Refusal, JournalFull, Device, Failed, TraceFull}
+use Rattle.im_types.specs.Types.{Contents, step, is_accepted, after, as_served}
+use Rattle.im_laws.proofs.{AcceptLemmas.accepted-ok, AcceptLemmas.unaccepted-leaves, Tests.true_false}
+use Rattle.{im_groups.proofs.CommandLemmas.at-after, im_engine.specs.State.EngineState}
+use Rattle.{im_session.specs.Serving.served_answer, im_trace.specs.Lines.leaves_line, im_trace.specs.Lines.memory_after}
+use Rattle.im_groups.specs.Commands.{answer_with, answers_with, contents_after_all, contents_with, places}
+use Rattle.im_groups.specs.Commands.{places_behind}
+use Rattle.im_engine.specs.Commands.{after_commands, answers_in_turn, commands_put, CommandsAnswered, each_refused}
 use Rattle.im_controller.proofs.LendLemmas.{ok-leaves, same_by}
+use Rattle.im_controller.specs.Groups.{AreAnswersTo, IsAnswerTo, lines_left, MembersAnswered, memory_after_all}
 
 -- what the log asks of the answers to a group, from one memory to another
 pub record Fits (m : Contents) (rs : List Command) (ss : List Served) (n : Contents) : Type 0 where

@@ -1,22 +1,15 @@
 -- The members of a group whose answers are still to be kept.
-use Rattle.std.proofs.Common.{◌≡◌, ◌≢◌, ℕ, suc, ◌+◌, ◌<◌, ◌≤◌, Bool, true, false, List, [], ◌∷◌, refl, sym, ap, ◌∙◌}
-use Rattle.std.proofs.Common.{subst, Option, None, Some, Result, length, length-append, slice_get, slice_set, get_or}
-use Rattle.std.proofs.Common.{map, drop, arith, if◌then◌else◌}
+use Rattle.std.proofs.Common.{◌≡◌, ℕ, suc, ◌+◌, ◌<◌, ◌≤◌, Bool, true, false, ◌≢◌, List, [], ◌∷◌, map, length, get_or}
+use Rattle.std.proofs.Common.{drop, if◌then◌else◌, slice_get, slice_set, Some, None, Option, Result, sym, refl, ap, ◌∙◌}
+use Rattle.std.proofs.Common.{subst, arith, length-append, length-set, get_or-set_other}
+use Rattle.std.proofs.lemmas.Option.{get_or_from_slice_get, slice_get-get_or, slice_get_within}
 use Rattle.std.proofs.Math.Seq.{drop-cons}
-use Rattle.std.proofs.lemmas.List.{get_or-set_other, length-set}
-use Rattle.std.proofs.lemmas.Option.{slice_get_within, slice_get-get_or, get_or_from_slice_get}
-use Rattle.im_types.specs.declared.commands.Command.{Command}
-use Rattle.im_types.specs.declared.commands.Outcome.{Outcome}
-use Rattle.im_types.specs.declared.commands.Call.TheVariants.{Command as Commands}
-use Rattle.im_types.specs.declared.refusals.Refusal.{Refusal}
-use Rattle.im_types.specs.Contents.{Contents}
-use Rattle.im_types.specs.Trace.{end_of}
+use Rattle.im_types.specs.Types.{Command, Outcome, Commands, Refusal, Contents, end_of}
+use Rattle.im_trace.proofs.LogLemmas.{end-lines, lines_by}
 use Rattle.im_trace.specs.Lines.{leaves_line, left_lines}
-use Rattle.im_trace.specs.Log.{sender_of, UnclaimedState, LogState, with_unclaimed}
-use Rattle.im_queue.specs.Members.{AreOfOthers, AreOneOfEach, AreFreeFor}
-use Rattle.im_controller.specs.Groups.{with_all_unclaimed, AreAnswersTo}
-use Rattle.im_controller.specs.Groups.{memory_after_all, lines_left}
-use Rattle.im_trace.proofs.LogLemmas.{lines_by, end-lines}
+use Rattle.im_trace.specs.Log.{LogState, sender_of, UnclaimedState, with_unclaimed}
+use Rattle.im_queue.specs.Members.{AreFreeFor, AreOfOthers, AreOneOfEach}
+use Rattle.im_controller.specs.Groups.{AreAnswersTo, lines_left, memory_after_all, with_all_unclaimed}
 
 get-set_other : {X : Type 0} (xs : List X) (i j : ℕ) (x y : X) → i ≢ j → slice_get xs j ≡ Some y
     → slice_get (slice_set xs i x) j ≡ Some y

@@ -1,59 +1,34 @@
 -- What a session has put of a trace, and since when the lines are kept, with a command, a group or a turn more.
-use Rattle.std.proofs.Common.{◌≡◌, ◌⊎◌, inl, inr, ⊎_elim, ℕ, zero, suc, ◌+◌, ◌≤◌, ◌<◌, Bool, true, false, ◌&&◌, List}
-use Rattle.std.proofs.Common.{[], ◌∷◌, ◌++◌, length, length-append, append_assoc, map, refl, sym, ap}
-use Rattle.std.proofs.Common.{◌∙◌, subst, arith}
-use Rattle.std.proofs.Common.{if◌then◌else◌, Result, Ok, Err, take, drop}
-use Rattle.std.specs.Prelude.{Option, nat_lt, not, ◌==◌, IfErr}
-use Rattle.std.proofs.lemmas.Bool.Decides.{nat_tests}
-use Rattle.std.proofs.lemmas.List.{append-nil, length-map, length-take-le, take-append-drop}
-use Rattle.im_types.specs.declared.commands.Command.{Command}
-use Rattle.im_types.specs.declared.commands.Outcome.{Outcome}
-use Rattle.im_types.specs.declared.commands.Call.TheVariants.{Command as Commands, Collect}
-use Rattle.im_types.specs.declared.commands.Line.{Line}
-use Rattle.im_types.specs.declared.commands.Request.{Request}
-use Rattle.im_types.specs.declared.groups.Served.{Served}
-use Rattle.im_types.specs.declared.refusals.Refusal.{Refusal}
-use Rattle.im_types.specs.declared.refusals.Refusal.TheVariants.{JournalFull, Device, Failed, TraceFull}
-use Rattle.im_types.specs.Contents.{Contents}
-use Rattle.im_types.specs.Run.{after, accepted}
-use Rattle.im_types.specs.Step.{step, is_accepted}
-use Rattle.im_types.specs.Trace.{end_of}
-use Rattle.im_laws.specs.Traces.{commands_of_call, commands_of}
-use Rattle.im_laws.proofs.Tests.{true_false, true_or_false, below_or_from}
-use Rattle.im_laws.proofs.AcceptLemmas.{accepted-ok}
-use Rattle.im_laws.proofs.RunLemmas.{accepted-append, after-accepted}
-use Rattle.im_laws.proofs.TraceLemmas.{end_of-commands}
-use Rattle.im_disk.specs.declared.disk.Disk.{Ghosts}
-use Rattle.im_glass.proofs.PrefixLemmas.{prefix_shorter}
-use mathlib.Core.List.{IsPrefix}
-use Rattle.im_checkpoint.specs.declared.checkpoint.TurnDone.{TurnDone}
-use Rattle.im_checkpoint.specs.declared.checkpoint.TurnDone.TheVariants.{Idle, Began, Page, Synced, InForce, Swept}
-use Rattle.im_checkpoint.proofs.Fitting.{none_or_some}
-use Rattle.im_engine.specs.State.{EngineState}
-use Rattle.im_engine.specs.Answered.{Answered, TurnAnswered, is_device}
-use Rattle.im_engine.specs.Commands.{commands_put, answers_in_turn, each_refused, CommandsAnswered}
-use Rattle.im_engine.proofs.Accepting.{accepted_answers}
-use Rattle.im_groups.specs.Commands.{places, answer_with, contents_with, places_behind, command_at, answers_with}
-use Rattle.im_groups.specs.Commands.{commands_at, takes_place}
-use Rattle.im_session.specs.Put.{sure_by, doubted_by, sure_of, doubted_of}
-use Rattle.im_session.specs.Kept.{Kept, SessionStart, SessionState}
-use Rattle.im_session.specs.Keeping.{KeepsPut, KeptFrom}
-use Rattle.im_session.specs.Serving.{Rests, served_one, served_together, served_answer}
-use Rattle.im_session.proofs.ServedLemmas.{unsure}
-use Rattle.im_session.proofs.KeepingLemmas.{now_kept, still_kept}
-use Rattle.im_trace.specs.Lines.{leaves_line, line_of, left_lines, time_at, times_of, NeverGoBack}
-use Rattle.im_trace.specs.Log.{TimedLog, GoesOnAt}
-use Rattle.im_trace.proofs.TimeLemmas.{time-later, time-new, none-back, more-back}
-use Rattle.im_controller.specs.Groups.{MembersAnswered, MembersPut}
-use Rattle.im_controller.specs.Lends.{IsTurnFault, told_turn}
-use Rattle.im_controller.specs.Kept.{begun_by, accepted_in, IsSessionOf}
-use Rattle.im_controller.specs.Kept.{IsLeftAt, KeepsSince, IsOriginOf}
-use Rattle.im_controller.specs.State.{OpeningState}
-use Rattle.im_trace.specs.Origin.{Origin}
-use Rattle.im_controller.specs.Planned.{IsOnPlan, AreOnPlan}
-use Rattle.im_controller.proofs.LendLemmas.{ok-leaves}
-use Rattle.im_controller.proofs.GroupLemmas.{answers_served}
+use Rattle.std.proofs.Common.{◌≡◌, ℕ, zero, suc, ◌+◌, ◌<◌, ◌≤◌, Bool, true, false, not, ◌&&◌, ◌⊎◌, List, [], ◌∷◌, ◌++◌}
+use Rattle.std.proofs.Common.{map, length, take, drop, IfErr, if◌then◌else◌, nat_lt, ◌==◌, Ok, Err, Option, Result, sym}
+use Rattle.std.proofs.Common.{refl, ap, ◌∙◌, subst, inl, inr, ⊎_elim, append_assoc, append-nil, arith, length-append}
+use Rattle.std.proofs.Common.{take-append-drop, length-take-le}
+use Rattle.std.proofs.lemmas.{Bool.Decides.nat_tests, List.length-map}
+use Rattle.im_types.specs.Types.{Request, Command, Outcome, Line, Commands, Collect, Served, Refusal, JournalFull}
+use Rattle.im_types.specs.Types.{Device, Failed, TraceFull, Contents, step, is_accepted, after, accepted, end_of}
+use Rattle.im_laws.proofs.{AcceptLemmas.accepted-ok, RunLemmas.accepted-append, RunLemmas.after-accepted}
+use Rattle.im_laws.proofs.{Tests.below_or_from, Tests.true_false, Tests.true_or_false, TraceLemmas.end_of-commands}
+use Rattle.{im_laws.specs.Traces.commands_of, im_laws.specs.Traces.commands_of_call, im_disk.specs.declared.Disk.Ghosts}
+use Rattle.{im_engine.proofs.Accepting.accepted_answers, im_glass.proofs.PrefixLemmas.prefix_shorter}
+use Rattle.im_groups.specs.Commands.{answer_with, answers_with, command_at, commands_at, contents_with, places}
+use Rattle.im_groups.specs.Commands.{places_behind, takes_place}
+use Rattle.im_checkpoint.{proofs.Fitting.none_or_some, specs.declared.TurnDone.TurnDone}
+use Rattle.im_checkpoint.specs.declared.TurnDone.TheVariants.{Began, Idle, InForce, Page, Swept, Synced}
+use Rattle.im_engine.specs.{Answered.Answered, Answered.is_device, Answered.TurnAnswered, State.EngineState}
+use Rattle.im_engine.specs.Commands.{answers_in_turn, commands_put, CommandsAnswered, each_refused}
+use Rattle.im_session.proofs.{KeepingLemmas.now_kept, KeepingLemmas.still_kept, ServedLemmas.unsure}
+use Rattle.im_session.specs.{Keeping.KeepsPut, Keeping.KeptFrom, Kept.Kept, Kept.SessionStart, Kept.SessionState}
+use Rattle.im_session.specs.Put.{doubted_by, doubted_of, sure_by, sure_of}
+use Rattle.im_session.specs.Serving.{Rests, served_answer, served_one, served_together}
+use Rattle.im_trace.proofs.TimeLemmas.{more-back, none-back, time-later, time-new}
+use Rattle.im_trace.specs.Lines.{leaves_line, left_lines, line_of, NeverGoBack, time_at, times_of}
+use Rattle.im_trace.specs.{Log.GoesOnAt, Log.TimedLog, Origin.Origin}
+use Rattle.im_controller.proofs.{GroupLemmas.answers_served, LendLemmas.ok-leaves}
 use Rattle.im_controller.proofs.PutLemmas.{lines_all, one-end, refused-lines}
+use Rattle.im_controller.specs.{Groups.MembersAnswered, Groups.MembersPut, Lends.IsTurnFault, Lends.told_turn}
+use Rattle.im_controller.specs.{Planned.AreOnPlan, Planned.IsOnPlan, State.OpeningState}
+use Rattle.im_controller.specs.Kept.{accepted_in, begun_by, IsLeftAt, IsOriginOf, IsSessionOf, KeepsSince}
+use mathlib.Core.List.{IsPrefix}
 
 -- the origin of an opening, by what is known of its parts
 pub origin-by : {D : Type 0} (disk : Ghosts D) (o p : OpeningState D) (k : Origin) → o ≡ p → IsOriginOf disk p k

@@ -1,17 +1,9 @@
 -- What the engine's answer says of the memory, and of the trace.
-use Rattle.std.proofs.Common.{◌≡◌, ⊎_elim, ℕ, zero, suc, Bool, true, false, refl, sym, ap, ◌∙◌, Result, Ok, Err}
-use Rattle.std.proofs.Common.{arith, if◌then◌else◌}
-use Rattle.std.specs.Prelude.{IsOk}
-use Rattle.im_types.specs.declared.commands.Command.{Command}
-use Rattle.im_types.specs.declared.commands.Outcome.{Outcome}
-use Rattle.im_types.specs.declared.commands.Call.TheVariants.{Command as Commands}
-use Rattle.im_types.specs.declared.refusals.Refusal.{Refusal}
-use Rattle.im_types.specs.Contents.{Contents}
-use Rattle.im_types.specs.Step.{step, is_accepted}
-use Rattle.im_laws.proofs.Tests.{true_false}
-use Rattle.im_laws.proofs.AcceptLemmas.{unaccepted-leaves, accepted-ok}
-use Rattle.im_engine.specs.State.{EngineState}
-use Rattle.im_engine.specs.Answered.{Answered}
+use Rattle.std.proofs.Common.{◌≡◌, ℕ, zero, suc, Bool, true, false, if◌then◌else◌, IsOk, Ok, Err, Result, sym, refl, ap}
+use Rattle.std.proofs.Common.{◌∙◌, ⊎_elim, arith}
+use Rattle.im_types.specs.Types.{Command, Outcome, Commands, Refusal, Contents, step, is_accepted}
+use Rattle.im_laws.proofs.{AcceptLemmas.accepted-ok, AcceptLemmas.unaccepted-leaves, Tests.true_false}
+use Rattle.im_engine.specs.{Answered.Answered, State.EngineState}
 use Rattle.im_trace.specs.Lines.{leaves_line, memory_after}
 
 -- an answer that the engine gives: the step's, or one that leaves no line

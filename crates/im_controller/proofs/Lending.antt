@@ -1,31 +1,20 @@
 -- A group that is lent, and what is shown then.
-use Rattle.std.proofs.Common.{◌≡◌, ⊎_elim, ℕ, ◌+◌, ◌<◌, ◌≤◌, Bool, true, false, List, [], ◌++◌, refl, sym, ap}
-use Rattle.std.proofs.Common.{◌∙◌, subst, Option, length, map, arith}
-use Rattle.im_types.specs.declared.commands.Command.{Command}
-use Rattle.im_types.specs.declared.commands.Request.{Request}
-use Rattle.im_types.specs.declared.groups.Served.{Served}
-use Rattle.im_types.specs.Contents.{Contents}
-use Rattle.im_types.specs.Agreement.{WaitingAgrees}
-use Rattle.im_types.specs.Trace.{end_of}
-use Rattle.im_types.specs.Changes.{changes_of, shown_by}
-use Rattle.im_laws.proofs.Tests.{true_false}
-use Rattle.im_disk.specs.declared.disk.Disk.{Ghosts}
-use Rattle.im_engine.specs.State.{EngineState}
-use Rattle.im_session.specs.Keeping.{KeepsPut, MakesFewCalls}
-use Rattle.im_glass.specs.Panes.{PaneView}
-use Rattle.im_trace.specs.Log.{LogState}
-use Rattle.im_controller.specs.State.{SharedState}
-use Rattle.im_queue.specs.Members.{AreOneOfEach, AreSureBehind, IsCut, AreFreeFor}
-use Rattle.im_controller.specs.Admitted.{free_lines, places_with, Admits}
-use Rattle.im_controller.specs.Planned.{AreOnPlan, StartsBy}
-use Rattle.im_session.specs.Serving.{served_answer}
-use Rattle.im_controller.specs.Groups.{with_all_unclaimed, lines_left, AreAnswersTo, MembersAnswered}
-use Rattle.im_controller.specs.Groups.{changes_put_all, LendsGroup, MembersPut}
-use Rattle.im_controller.proofs.AdmitLemmas.{admit-cut, admit-apart, admit-sure, admit-few, admit-free, admit-trace}
-use Rattle.im_controller.proofs.AdmitLemmas.{admit-limit, admit-planned, admit-all}
+use Rattle.std.proofs.Common.{◌≡◌, ℕ, ◌+◌, ◌<◌, ◌≤◌, Bool, true, false, List, [], ◌++◌, map, length, Option, sym, refl}
+use Rattle.std.proofs.Common.{ap, ◌∙◌, subst, ⊎_elim, arith}
+use Rattle.im_types.specs.Types.{Request, Command, Served, Contents, WaitingAgrees, end_of, changes_of, shown_by}
+use Rattle.{im_laws.proofs.Tests.true_false, im_disk.specs.declared.Disk.Ghosts, im_engine.specs.State.EngineState}
+use Rattle.{im_glass.specs.Panes.PaneView, im_trace.specs.Log.LogState}
+use Rattle.im_session.specs.{Keeping.KeepsPut, Keeping.MakesFewCalls, Serving.served_answer}
+use Rattle.im_queue.specs.Members.{AreFreeFor, AreOneOfEach, AreSureBehind, IsCut}
+use Rattle.im_controller.proofs.AdmitLemmas.{admit-all, admit-apart, admit-cut, admit-few, admit-free, admit-limit}
+use Rattle.im_controller.proofs.AdmitLemmas.{admit-planned, admit-sure, admit-trace}
 use Rattle.im_controller.proofs.GroupLemmas.{Fits, members-fit, members-room}
-use Rattle.im_controller.proofs.PutLemmas.{lines_all, all-trace, GroupShows, members-shown}
+use Rattle.im_controller.proofs.PutLemmas.{all-trace, GroupShows, lines_all, members-shown}
 use Rattle.im_controller.proofs.ShownLemmas.{pane-shows, shown-grows}
+use Rattle.im_controller.specs.Admitted.{Admits, free_lines, places_with}
+use Rattle.im_controller.specs.Groups.{AreAnswersTo, changes_put_all, LendsGroup, lines_left, MembersAnswered}
+use Rattle.im_controller.specs.Groups.{MembersPut, with_all_unclaimed}
+use Rattle.im_controller.specs.{Planned.AreOnPlan, Planned.StartsBy, State.SharedState}
 
 -- a group that was lent: what was asked of it, and what became of it
 pub record Group {D : Type 0} (plan : Option (List Request)) (s : SharedState D) (f : EngineState D)

@@ -1,28 +1,17 @@
 -- Traces that keep to a plan, and what their answers are by it.
-use Rattle.std.proofs.Common.{◌≡◌, ℕ, Bool, true, false, List, [], ◌∷◌, ◌++◌, sym, subst, Option, None, Some, Result}
-use Rattle.std.proofs.Common.{Ok, Err, append-nil}
-use Rattle.std.specs.Prelude.{IfSome}
+use Rattle.std.proofs.Common.{◌≡◌, ℕ, Bool, true, false, List, [], ◌∷◌, ◌++◌, IfSome, Some, None, Ok, Err, Option}
+use Rattle.std.proofs.Common.{Result, sym, subst, append-nil}
 use Rattle.std.specs.List.{AllByRecursion}
-use mathlib.Core.List.{IsPrefix}
-use Rattle.im_types.specs.declared.commands.Command.{Command}
-use Rattle.im_types.specs.declared.commands.Command.TheVariants.{Request as Asks, Confirm}
-use Rattle.im_types.specs.declared.commands.Request.{Request}
-use Rattle.im_types.specs.declared.commands.Outcome.{Outcome}
-use Rattle.im_types.specs.declared.commands.Call.{Call}
-use Rattle.im_types.specs.declared.commands.Call.TheVariants.{Command as Commands, Collect}
-use Rattle.im_types.specs.declared.commands.Line.{Line}
-use Rattle.im_types.specs.declared.refusals.Refusal.{Refusal}
-use Rattle.im_types.specs.Contents.{Contents}
-use Rattle.im_types.specs.Trace.{IsLegal, end_of}
-use Rattle.im_plans.specs.Runs.{IsPlannedCall, IsPlannedRun}
-use Rattle.im_plans.proofs.Laws.{planned-last, planned-kept, planned-waits, planned-served, planned-grows}
-use Rattle.im_plans.proofs.UnderWayLemmas.{goes-on}
+use Rattle.im_types.specs.Types.{Request, Command, Outcome, Call, Line, Asks, Confirm, Commands, Collect, Refusal}
+use Rattle.im_types.specs.Types.{Contents, IsLegal, end_of}
+use Rattle.im_plans.proofs.Laws.{planned-grows, planned-kept, planned-last, planned-served, planned-waits}
+use Rattle.im_plans.{proofs.UnderWayLemmas.goes-on, specs.Runs.IsPlannedCall, specs.Runs.IsPlannedRun}
+use Rattle.im_trace.{proofs.LogLemmas.lines_by, specs.Lines.leaves_line, specs.Lines.left_lines, specs.Lines.line_of}
+use Rattle.im_trace.specs.Log.{IsOfTrace, IsProof, ReceiptState}
 use Rattle.im_planning.proofs.MakingLemmas.{in_plan}
-use Rattle.im_trace.specs.Lines.{leaves_line, line_of, left_lines}
-use Rattle.im_trace.specs.Log.{ReceiptState, IsProof, IsOfTrace}
-use Rattle.im_controller.specs.Planned.{has_request, has_command, IsOnPlan, StartsBy, KeepsTo, TellsBy, TellsOf}
-use Rattle.im_controller.specs.Planned.{EndsAsPlanned, EndsBy}
-use Rattle.im_trace.proofs.LogLemmas.{lines_by}
+use Rattle.im_controller.specs.Planned.{EndsAsPlanned, EndsBy, has_command, has_request, IsOnPlan, KeepsTo, StartsBy}
+use Rattle.im_controller.specs.Planned.{TellsBy, TellsOf}
+use mathlib.Core.List.{IsPrefix}
 
 pub keeps-start : (m : Contents) (plan : Option (List Request)) → StartsBy m plan → KeepsTo m plan []
 keeps-start m None s = tt

@@ -1,42 +1,23 @@
 -- What the members of a group change is known before it: it is what their lines show.
-use Rattle.std.proofs.Common.{◌≡◌, ⊎_elim, ℕ, zero, suc, ◌-◌, ◌&&◌, ◌==◌, Bool, true, false, List, []}
-use Rattle.std.proofs.Common.{◌∷◌, ◌++◌, refl, sym, ap, ◌∙◌, subst, Result, Err, length, map, append_assoc}
-use Rattle.std.proofs.Common.{append-nil, arith, if◌then◌else◌}
-use Rattle.std.specs.Prelude.{IsOk, nat_lt}
+use Rattle.std.proofs.Common.{◌≡◌, ℕ, zero, suc, ◌-◌, Bool, true, false, ◌&&◌, List, [], ◌∷◌, ◌++◌, map, length}
+use Rattle.std.proofs.Common.{if◌then◌else◌, IsOk, nat_lt, ◌==◌, Err, Result, sym, refl, ap, ◌∙◌, subst, ⊎_elim}
+use Rattle.std.proofs.Common.{append_assoc, append-nil, arith}
 use Rattle.std.proofs.lemmas.Bool.Decides.{nat_tests}
-use Rattle.im_types.specs.declared.changes.Change.{Change}
-use Rattle.im_types.specs.declared.commands.Command.{Command}
-use Rattle.im_types.specs.declared.commands.Outcome.{Outcome}
-use Rattle.im_types.specs.declared.commands.Call.TheVariants.{Command as Commands}
-use Rattle.im_types.specs.declared.commands.Line.{Line}
-use Rattle.im_types.specs.declared.groups.Served.{Served}
-use Rattle.im_types.specs.declared.refusals.Refusal.{Refusal}
-use Rattle.im_types.specs.declared.refusals.Refusal.TheVariants.{JournalFull, Device, Failed, TraceFull}
-use Rattle.im_types.specs.Contents.{Contents}
-use Rattle.im_types.specs.Step.{step, is_accepted}
-use Rattle.im_types.specs.Agreement.{WaitingAgrees}
-use Rattle.im_types.specs.Trace.{end_of}
-use Rattle.im_types.specs.Changes.{change_by, changes_of}
-use Rattle.im_laws.proofs.Tests.{true_false, and_false}
-use Rattle.im_laws.proofs.AcceptLemmas.{accepted-ok}
-use Rattle.im_groups.specs.Commands.{places, takes_place, answer_with, contents_with, places_behind, answers_with}
-use Rattle.im_engine.specs.State.{EngineState}
-use Rattle.im_engine.specs.Commands.{commands_put, each_refused, answers_in_turn, CommandsAnswered}
-use Rattle.im_trace.specs.Lines.{leaves_line, line_of, left_lines}
-use Rattle.im_trace.specs.Log.{LogState, with_unclaimed}
-use Rattle.im_queue.specs.Members.{AreOneOfEach, IsCut, AreSureBehind}
-use Rattle.im_session.specs.Serving.{served_answer}
-use Rattle.im_controller.specs.Groups.{with_all_unclaimed}
-use Rattle.im_controller.specs.Groups.{MembersAnswered}
-use Rattle.im_controller.specs.Groups.{changes_put_all}
-use Rattle.im_controller.specs.Admitted.{places_with}
-use Rattle.im_controller.specs.Lends.{changes_put}
-use Rattle.im_controller.proofs.LendLemmas.{ok-leaves}
-use Rattle.im_trace.proofs.LogLemmas.{end-lines}
-use Rattle.im_controller.proofs.SureLemmas.{IsLike, AreLike, like-self, like-after, with-agrees, sure-behind}
-use Rattle.im_controller.proofs.GroupLemmas.{member-after, answers_served}
-use Rattle.im_trace.proofs.ToldLemmas.{changes-append}
-use Rattle.im_controller.proofs.ShownLemmas.{unaccepted-lines, lineless-lines, lined-lines}
+use Rattle.im_types.specs.Types.{Command, Outcome, Line, Commands, Served, Refusal, JournalFull, Device, Failed}
+use Rattle.im_types.specs.Types.{TraceFull, Contents, WaitingAgrees, step, is_accepted, end_of, change_by, changes_of}
+use Rattle.im_types.specs.Types.{Change}
+use Rattle.im_laws.proofs.{AcceptLemmas.accepted-ok, Tests.and_false, Tests.true_false}
+use Rattle.im_groups.specs.Commands.{answer_with, answers_with, contents_with, places, places_behind, takes_place}
+use Rattle.im_engine.specs.Commands.{answers_in_turn, commands_put, CommandsAnswered, each_refused}
+use Rattle.{im_engine.specs.State.EngineState, im_session.specs.Serving.served_answer}
+use Rattle.im_trace.proofs.{LogLemmas.end-lines, ToldLemmas.changes-append}
+use Rattle.im_trace.specs.{Lines.leaves_line, Lines.left_lines, Lines.line_of, Log.LogState, Log.with_unclaimed}
+use Rattle.im_queue.specs.Members.{AreOneOfEach, AreSureBehind, IsCut}
+use Rattle.im_controller.proofs.{GroupLemmas.answers_served, GroupLemmas.member-after, LendLemmas.ok-leaves}
+use Rattle.im_controller.proofs.ShownLemmas.{lined-lines, lineless-lines, unaccepted-lines}
+use Rattle.im_controller.proofs.SureLemmas.{AreLike, IsLike, like-after, like-self, sure-behind, with-agrees}
+use Rattle.im_controller.specs.{Admitted.places_with, Lends.changes_put}
+use Rattle.im_controller.specs.Groups.{changes_put_all, MembersAnswered, with_all_unclaimed}
 
 -- the lines of answers to commands
 abbrev pub lines_all : List Command → List (Result Outcome Refusal) → List Line

@@ -1,19 +1,11 @@
 -- What a port has seen of the trace, when a call of it has left its line.
-use Rattle.std.proofs.Common.{◌≡◌, ◌⊎◌, inl, inr, ℕ, ◌<◌, ◌≤◌, Bool, true, false, List, [], ◌++◌, refl, sym, ap, ◌∙◌}
-use Rattle.std.proofs.Common.{Some, Result, Err, length, append-nil}
-use mathlib.Core.List.{IsPrefix}
-use Rattle.im_types.specs.declared.operations.Entry.{Entry}
-use Rattle.im_types.specs.declared.commands.Call.TheVariants.{Collect}
-use Rattle.im_types.specs.declared.commands.Line.{Line}
-use Rattle.im_types.specs.declared.refusals.Refusal.{Refusal}
-use Rattle.im_types.specs.declared.refusals.Refusal.TheVariants.{Stalled}
-use Rattle.im_types.specs.Trace.{told}
+use Rattle.std.proofs.Common.{◌≡◌, ℕ, ◌<◌, ◌≤◌, Bool, true, false, ◌⊎◌, List, [], ◌++◌, length, Some, Err, Result, sym}
+use Rattle.std.proofs.Common.{refl, ap, ◌∙◌, inl, inr, append-nil}
+use Rattle.im_types.specs.Types.{Entry, Line, Collect, Refusal, Stalled, told}
 use Rattle.im_laws.proofs.Tests.{below_or_from}
-use Rattle.im_trace.specs.Lines.{LineCounts, GoesOnTo, left_lines}
-use Rattle.im_trace.specs.Log.{LogState}
-use Rattle.im_controller.specs.State.{SharedState}
-use Rattle.im_controller.specs.Waits.{SeesFound}
-use Rattle.im_controller.specs.Lends.{Looks}
+use Rattle.im_trace.specs.{Lines.GoesOnTo, Lines.left_lines, Lines.LineCounts, Log.LogState}
+use Rattle.im_controller.specs.{Lends.Looks, State.SharedState, Waits.SeesFound}
+use mathlib.Core.List.{IsPrefix}
 
 -- what was a prefix before a call goes on to its line
 pub goes-on : (seen trace last trace' : List Line) → IsPrefix seen trace → trace' ≡ trace ++ last

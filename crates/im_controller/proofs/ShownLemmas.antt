@@ -1,36 +1,19 @@
 -- What a trace shows: of a longer one, and of the lines of a command.
-use Rattle.std.proofs.Common.{◌≡◌, inl, ⊎_elim, ℕ, zero, suc, ◌-◌, ◌<◌, Bool, true, false, List, [], ◌∷◌, ◌++◌, refl}
-use Rattle.std.proofs.Common.{sym, ap, ◌∙◌, subst, Result, Ok, Err, length, append_assoc, append-nil, arith}
-use Rattle.std.proofs.Common.{if◌then◌else◌}
-use Rattle.std.specs.Prelude.{IsOk, IfSome, Option, Some, None, ◌&&◌, nat_lt}
+use Rattle.std.proofs.Common.{◌≡◌, ℕ, zero, suc, ◌-◌, ◌<◌, Bool, true, false, ◌&&◌, List, [], ◌∷◌, ◌++◌, length, IfSome}
+use Rattle.std.proofs.Common.{if◌then◌else◌, IsOk, nat_lt, Some, None, Ok, Err, Option, Result, sym, refl, ap, ◌∙◌}
+use Rattle.std.proofs.Common.{subst, inl, ⊎_elim, append_assoc, append-nil, arith}
 use Rattle.std.proofs.lemmas.Bool.Decides.{nat_tests}
-use mathlib.Core.List.{IsPrefix}
-use Rattle.im_types.specs.declared.changes.Change.{Change}
-use Rattle.im_types.specs.declared.commands.Command.{Command}
-use Rattle.im_types.specs.declared.commands.Outcome.{Outcome}
-use Rattle.im_types.specs.declared.commands.Call.{Call}
-use Rattle.im_types.specs.declared.commands.Call.TheVariants.{Command as Commands, Collect}
-use Rattle.im_types.specs.declared.commands.Line.{Line}
-use Rattle.im_types.specs.declared.refusals.Refusal.{Refusal}
-use Rattle.im_types.specs.Contents.{Contents}
-use Rattle.im_types.specs.Step.{is_accepted}
-use Rattle.im_types.specs.Trace.{contents_after, end_of}
-use Rattle.im_types.specs.Changes.{change_by, changes_at, changes_of, opening, shown_by}
-use Rattle.im_laws.proofs.Tests.{true_false}
-use Rattle.im_laws.proofs.AcceptLemmas.{accepted-ok}
-use Rattle.im_laws.proofs.MemoryLemmas.{step-cell_count}
-use Rattle.im_disk.specs.declared.disk.Disk.{Ghosts}
-use Rattle.im_engine.specs.State.{EngineState}
-use Rattle.im_engine.specs.Answered.{Answered}
-use Rattle.im_glass.specs.Panes.{PaneView}
-use Rattle.im_trace.specs.Lines.{LineCounts, leaves_line, line_of, left_lines, memory_after, counts_after}
-use Rattle.im_trace.specs.Log.{ReceiptState, IsToldOf, plain, receipt_for, with_line}
-use Rattle.im_trace.proofs.ToldLemmas.{shown-append, plain-receipt}
-use Rattle.im_controller.specs.Planned.{has_command}
-use Rattle.im_controller.specs.State.{SharedState}
-use Rattle.im_trace.specs.Origin.{Origin}
-use Rattle.im_controller.specs.Lends.{Lends, changes_put, shows}
+use Rattle.im_types.specs.Types.{Command, Outcome, Call, Line, Commands, Collect, Refusal, Contents, is_accepted}
+use Rattle.im_types.specs.Types.{contents_after, end_of, change_by, changes_at, changes_of, opening, shown_by, Change}
+use Rattle.im_laws.proofs.{AcceptLemmas.accepted-ok, MemoryLemmas.step-cell_count, Tests.true_false}
+use Rattle.{im_disk.specs.declared.Disk.Ghosts, im_glass.specs.Panes.PaneView}
+use Rattle.im_engine.specs.{Answered.Answered, State.EngineState}
+use Rattle.im_trace.proofs.ToldLemmas.{plain-receipt, shown-append}
+use Rattle.im_trace.specs.Lines.{counts_after, leaves_line, left_lines, line_of, LineCounts, memory_after}
+use Rattle.im_trace.specs.{Log.IsToldOf, Log.plain, Log.receipt_for, Log.ReceiptState, Log.with_line, Origin.Origin}
 use Rattle.im_controller.proofs.LendLemmas.{ok-leaves}
+use Rattle.im_controller.specs.{Lends.changes_put, Lends.Lends, Lends.shows, Planned.has_command, State.SharedState}
+use mathlib.Core.List.{IsPrefix}
 
 pub end-cells : (m : Contents) (trace : List Line) → length (end_of m trace).cells ≡ length m.cells
 end-cells m [] = refl

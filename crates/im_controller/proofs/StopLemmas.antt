@@ -1,27 +1,15 @@
 -- What a stop of a planned run leaves, and what a run from there comes to.
-use Rattle.std.proofs.Common.{◌≡◌, ℕ, zero, suc, ◌+◌, Bool, true, false, List, [], ◌∷◌, ◌++◌, Some, refl, ap}
-use Rattle.std.proofs.Common.{◌∙◌, subst, if◌then◌else◌}
-use Rattle.std.specs.Prelude.{take}
+use Rattle.std.proofs.Common.{◌≡◌, ℕ, zero, suc, ◌+◌, Bool, true, false, List, [], ◌∷◌, ◌++◌, take, if◌then◌else◌, Some}
+use Rattle.std.proofs.Common.{refl, ap, ◌∙◌, subst}
 use Rattle.std.specs.List.{AllByRecursion}
-use Rattle.im_types.specs.declared.commands.Command.{Command}
-use Rattle.im_types.specs.declared.commands.Call.{Call}
-use Rattle.im_types.specs.declared.commands.Call.TheVariants.{Command as Commands, Collect}
-use Rattle.im_types.specs.declared.commands.Line.{Line}
-use Rattle.im_types.specs.declared.commands.Request.{Request}
-use Rattle.im_types.specs.Contents.{Contents}
-use Rattle.im_types.specs.Meaning.{Means}
-use Rattle.im_types.specs.Plan.{result_of}
-use Rattle.im_types.specs.Run.{after, accepted}
-use Rattle.im_types.specs.Step.{step, is_accepted}
-use Rattle.im_types.specs.Trace.{answer_to}
-use Rattle.im_laws.specs.Traces.{commands_of_call, commands_of}
-use Rattle.im_plans.specs.Runs.{IsPlannedCall, IsPlannedRun, IsResultOrWaits, entry_for}
-use Rattle.im_plans.specs.UnderWay.{PlanGoesOn}
-use Rattle.im_plans.proofs.UnderWayLemmas.{goes-on, result-stays}
+use Rattle.im_types.specs.Types.{Request, Command, Call, Line, Commands, Collect, Contents, step, is_accepted, after}
+use Rattle.im_types.specs.Types.{accepted, result_of, answer_to, Means}
+use Rattle.im_laws.specs.Traces.{commands_of, commands_of_call}
+use Rattle.im_plans.{proofs.UnderWayLemmas.goes-on, proofs.UnderWayLemmas.result-stays, specs.UnderWay.PlanGoesOn}
+use Rattle.im_plans.specs.Runs.{entry_for, IsPlannedCall, IsPlannedRun, IsResultOrWaits}
 use Rattle.im_engine.proofs.FilesMean.{means_one}
-use Rattle.im_controller.specs.Kept.{accepted_in}
-use Rattle.im_controller.specs.Planned.{IsOnPlan, AreOnPlan, EndsAsPlanned}
-use Rattle.im_controller.specs.Stops.{LeadsTo, IsLeftOf}
+use Rattle.im_controller.specs.{Kept.accepted_in, Stops.IsLeftOf, Stops.LeadsTo}
+use Rattle.im_controller.specs.Planned.{AreOnPlan, EndsAsPlanned, IsOnPlan}
 
 -- ---- lists
 

@@ -1,42 +1,23 @@
 -- Commands that are judged the same after commands of other elements.
-use Rattle.std.proofs.Common.{◌≡◌, ◌≢◌, ⊎_elim, ℕ, suc, zero, ◌+◌, ◌<◌, ◌≤◌, Bool, true, false, List, [], ◌∷◌}
-use Rattle.std.proofs.Common.{refl}
-use Rattle.std.proofs.Common.{sym, ap, ◌∙◌, subst, Option, None, Some, Result, Ok, Err, length, slice_get, take, arith}
-use Rattle.std.proofs.Common.{if◌then◌else◌}
-use Rattle.std.specs.Prelude.{◌&&◌, ◌==◌, nat_lt, slice_index_or}
+use Rattle.std.proofs.Common.{◌≡◌, ℕ, zero, suc, ◌+◌, ◌<◌, ◌≤◌, Bool, true, false, ◌&&◌, ◌≢◌, List, [], ◌∷◌, length}
+use Rattle.std.proofs.Common.{take, if◌then◌else◌, nat_lt, ◌==◌, slice_get, slice_index_or, Some, None, Ok, Err, Option}
+use Rattle.std.proofs.Common.{Result, sym, refl, ap, ◌∙◌, subst, ⊎_elim, arith, take_all}
 use Rattle.std.specs.List.{list_any}
-use Rattle.std.proofs.lemmas.List.{take_all}
-use Rattle.im_types.specs.declared.operations.Waiter.{Waiter}
-use Rattle.im_types.specs.declared.operations.Op.{Op}
-use Rattle.im_types.specs.declared.operations.Op.TheVariants.{Alloc, Release, Reset, Fetch, Store, Take, Put}
-use Rattle.im_types.specs.declared.commands.Request.{Request}
-use Rattle.im_types.specs.declared.commands.Command.{Command}
-use Rattle.im_types.specs.declared.commands.Command.TheVariants.{Request as Asks, Confirm}
-use Rattle.im_types.specs.declared.changes.Change.{Change}
-use Rattle.im_types.specs.declared.refusals.Refusal.{Refusal}
-use Rattle.im_types.specs.Contents.{Window, Contents, new_window}
-use Rattle.im_types.specs.Window.{bounds, confirm_window}
-use Rattle.im_types.specs.Step.{step, is_accepted, moves_base}
-use Rattle.im_types.specs.Agreement.{WaitingAgrees}
-use Rattle.im_types.specs.Changes.{change_by, change_of, changes_at}
-use Rattle.im_laws.specs.Windows.{IsConfirmable, IsNextRequest}
-use Rattle.im_laws.proofs.Tests.{true_false, true_or_false, test-self, eq_by_test}
-use Rattle.im_laws.proofs.GroupLemmas.{same_test}
-use Rattle.im_laws.proofs.AcceptLemmas.{same_bounds, confirm-confirms, accepted-takes_next, accepted-moves_base}
+use Rattle.im_types.specs.Types.{Op, Waiter, Alloc, Release, Reset, Fetch, Store, Take, Put, Request, Command, Asks}
+use Rattle.im_types.specs.Types.{Confirm, Refusal, Window, Contents, new_window, WaitingAgrees, confirm_window, bounds}
+use Rattle.im_types.specs.Types.{step, moves_base, is_accepted, change_of, change_by, changes_at, Change}
+use Rattle.im_laws.proofs.AcceptLemmas.{accepted-moves_base, accepted-takes_next, confirm-confirms, same_bounds}
 use Rattle.im_laws.proofs.AcceptLemmas.{unaccepted-leaves}
-use Rattle.im_laws.proofs.JudgeLemmas.{next-accepted, accepted-next, bounds-kept, confirms-confirmable, confirm-cells}
-use Rattle.im_laws.proofs.ForgetLemmas.{after-no_less}
-use Rattle.im_laws.proofs.RunAgrees.{step-agrees}
-use Rattle.im_fulls.specs.Groups.{MayPrecede}
-use Rattle.im_fulls.proofs.GroupLemmas.{group-changes}
-use Rattle.im_groups.specs.Ahead.{AreAccepted, IsUnsure, ServesPrefix, bounds_behind, moved_by, is_sure}
-use Rattle.im_groups.specs.Ahead.{asks_at_once, is_answered_or}
-use Rattle.im_groups.specs.Commands.{contents_with}
-use Rattle.im_groups.proofs.AheadLemmas.{confirm-in}
-use Rattle.im_trace.specs.Log.{sender_of}
-use Rattle.im_queue.specs.Members.{is_social, stored_at, are_apart_at, are_together, are_joined, AreOfOthers}
-use Rattle.im_queue.specs.Members.{MayFollow}
-use Rattle.im_queue.specs.Members.{IsSure, AreSure, AreSureBehind}
+use Rattle.im_laws.proofs.{ForgetLemmas.after-no_less, GroupLemmas.same_test, RunAgrees.step-agrees}
+use Rattle.im_laws.proofs.JudgeLemmas.{accepted-next, bounds-kept, confirm-cells, confirms-confirmable, next-accepted}
+use Rattle.im_laws.proofs.Tests.{eq_by_test, test-self, true_false, true_or_false}
+use Rattle.im_laws.specs.Windows.{IsConfirmable, IsNextRequest}
+use Rattle.im_fulls.{proofs.GroupLemmas.group-changes, specs.Groups.MayPrecede}
+use Rattle.{im_groups.proofs.AheadLemmas.confirm-in, im_trace.specs.Log.sender_of}
+use Rattle.im_groups.specs.{Ahead.AreAccepted, Ahead.asks_at_once, Ahead.bounds_behind, Ahead.is_answered_or}
+use Rattle.im_groups.specs.{Ahead.is_sure, Ahead.IsUnsure, Ahead.moved_by, Ahead.ServesPrefix, Commands.contents_with}
+use Rattle.im_queue.specs.Members.{are_apart_at, are_joined, are_together, AreOfOthers, AreSure, AreSureBehind}
+use Rattle.im_queue.specs.Members.{is_social, IsSure, MayFollow, stored_at}
 
 -- ---- a confirmation that the memory accepts
 

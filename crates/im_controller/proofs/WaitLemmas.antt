@@ -1,22 +1,12 @@
 -- What a port that awaits an answer is told, unless it waits or is stalled.
-use Rattle.std.proofs.Common.{◌≡◌, ◌≢◌, ◌⊎◌, inl, inr, ◌<◌, ◌≤◌, ℕ, Bool, true, false, refl, sym, ap, ◌∙◌, subst}
-use Rattle.std.proofs.Common.{List, length, Some, Result, Ok, Err}
-use Rattle.im_types.specs.declared.operations.Entry.{Entry}
-use Rattle.im_types.specs.declared.operations.Entry.TheVariants.{Waiting, Answered}
-use Rattle.im_types.specs.declared.commands.Line.{Line}
-use Rattle.im_types.specs.Contents.{Contents}
-use Rattle.im_types.specs.Trace.{end_of}
-use Rattle.im_types.specs.declared.refusals.Refusal.{Refusal}
-use Rattle.im_types.specs.declared.refusals.Refusal.TheVariants.{Failed, TraceFull, Stalled}
+use Rattle.std.proofs.Common.{◌≡◌, ℕ, ◌<◌, ◌≤◌, Bool, true, false, ◌≢◌, ◌⊎◌, List, length, Some, Ok, Err, Result, sym}
+use Rattle.std.proofs.Common.{refl, ap, ◌∙◌, subst, inl, inr}
+use Rattle.im_types.specs.Types.{Entry, Waiting, Answered, Line, Refusal, Failed, TraceFull, Stalled, Contents, end_of}
 use Rattle.im_laws.proofs.Tests.{below_or_from, true_false}
-use Rattle.im_queue.specs.declared.servers.Ask.{Ask}
-use Rattle.im_queue.specs.declared.servers.Ask.TheVariants.{Go, Wait}
-use Rattle.im_queue.specs.declared.servers.ServerState.TheVariants.{Active}
-use Rattle.im_trace.specs.Lines.{LineCounts}
-use Rattle.im_trace.specs.Log.{FoundState}
-use Rattle.im_queue.specs.Servers.{entry_under, is_answered, are_stuck}
-use Rattle.im_controller.specs.State.{SharedState}
-use Rattle.im_controller.specs.Lends.{Looks, BeginsWait, with_server_at}
+use Rattle.im_trace.specs.{Lines.LineCounts, Log.FoundState}
+use Rattle.im_queue.specs.declared.{Ask.Ask, Ask.TheVariants.Go, Ask.TheVariants.Wait, ServerState.TheVariants.Active}
+use Rattle.im_queue.specs.Servers.{are_stuck, entry_under, is_answered}
+use Rattle.im_controller.specs.{Lends.BeginsWait, Lends.Looks, Lends.with_server_at, State.SharedState}
 use Rattle.im_controller.specs.Waits.{found_entry, IsAwaited, IsAwaitedAt, StallsAt, TellsWhy}
 
 ok-err : (x : Entry) (r : Refusal) → ◌≡◌ {A = Result Entry Refusal} (Ok x) (Err r) → ⊥

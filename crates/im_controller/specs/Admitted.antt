@@ -1,14 +1,9 @@
 -- The members of a group that are lent, and those that are refused before the engine is asked. (Own.)
-use Rattle.std.specs.Prelude.{◌≡◌, ◌⊎◌, ℕ, ◌-◌, List, [], ◌∷◌, Option, None, Some, Bool, true, false, Err, length}
-use Rattle.std.specs.Prelude.{nat_lt, ◌==◌, if◌then◌else◌}
-use Rattle.im_types.specs.declared.commands.Request.{Request}
-use Rattle.im_types.specs.declared.commands.Command.{Command}
-use Rattle.im_types.specs.declared.refusals.Refusal.{Refusal}
-use Rattle.im_types.specs.declared.refusals.Refusal.TheVariants.{OffPlan, NoMemory}
-use Rattle.im_types.specs.Contents.{Contents}
-use Rattle.im_groups.specs.Commands.{places, takes_place, places_behind}
-use Rattle.im_engine.specs.State.{EngineState}
-use Rattle.im_trace.specs.Log.{LogState, with_unclaimed}
+use Rattle.std.specs.Prelude.{◌≡◌, ℕ, ◌-◌, Bool, true, false, ◌⊎◌, List, [], ◌∷◌, length, if◌then◌else◌, nat_lt, ◌==◌}
+use Rattle.std.specs.Prelude.{Some, None, Err, Option}
+use Rattle.im_types.specs.Types.{Request, Command, Refusal, NoMemory, OffPlan, Contents}
+use Rattle.im_groups.specs.Commands.{places, places_behind, takes_place}
+use Rattle.{im_engine.specs.State.EngineState, im_trace.specs.Log.LogState, im_trace.specs.Log.with_unclaimed}
 use Rattle.im_controller.specs.Planned.{has_command}
 
 -- how many more lines a trace has room for

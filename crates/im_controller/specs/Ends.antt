@@ -1,11 +1,9 @@
 -- What is known of the ports at a controller's end. (Own.)
-use Rattle.std.specs.Prelude.{◌≡◌, ◌↔◌, ℕ, ◌+◌, Bool, List, IsTrue, length, sum_by}
+use Rattle.std.specs.Prelude.{◌≡◌, ℕ, ◌+◌, Bool, ◌↔◌, List, length, IsTrue, sum_by}
 use Rattle.std.specs.List.{AllByRecursion}
-use mathlib.Core.List.{IsPrefix}
-use Rattle.im_trace.specs.Origin.{Origin}
-use Rattle.im_trace.specs.Lines.{LineCounts}
-use Rattle.im_trace.specs.Ends.{CountsTrace, RecordingState}
+use Rattle.im_trace.specs.{Ends.CountsTrace, Ends.RecordingState, Lines.LineCounts, Origin.Origin}
 use Rattle.im_controller.specs.State.{PortState}
+use mathlib.Core.List.{IsPrefix}
 
 -- how many lines these ports were told, and how many of these are marked
 abbrev pub told_to_all : List PortState → LineCounts

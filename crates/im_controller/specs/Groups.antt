@@ -1,29 +1,16 @@
 -- Groups of commands under the lock: what lending a group does. (Own.)
-use Rattle.std.specs.Prelude.{◌≡◌, ℕ, ◌+◌, ◌<◌, ◌≤◌, List, [], ◌∷◌, ◌++◌, Bool, true, false, Option, None, Some}
-use Rattle.std.specs.Prelude.{Result, length, map, if◌then◌else◌}
-use Rattle.im_types.specs.declared.commands.Request.{Request}
-use Rattle.im_types.specs.declared.commands.Command.{Command}
-use Rattle.im_types.specs.declared.commands.Outcome.{Outcome}
-use Rattle.im_types.specs.declared.commands.Call.TheVariants.{Command as Commands}
-use Rattle.im_types.specs.declared.commands.Line.{Line}
-use Rattle.im_types.specs.declared.groups.Served.{Served}
-use Rattle.im_types.specs.declared.refusals.Refusal.{Refusal}
-use Rattle.im_types.specs.declared.refusals.Refusal.TheVariants.{TraceFull}
-use Rattle.im_types.specs.declared.changes.Change.{Change}
-use Rattle.im_types.specs.Contents.{Contents}
-use Rattle.im_types.specs.Trace.{answer_to}
-use Rattle.im_disk.specs.declared.disk.Disk.{Ghosts}
-use Rattle.im_groups.specs.Commands.{places_behind}
-use Rattle.im_engine.specs.State.{EngineState}
-use Rattle.im_engine.specs.Commands.{CommandsAnswered, each_refused}
-use Rattle.im_session.specs.Kept.{SessionState}
-use Rattle.im_session.specs.Keeping.{KeepsPut, MakesFewCalls}
+use Rattle.std.specs.Prelude.{◌≡◌, ℕ, ◌+◌, ◌<◌, ◌≤◌, Bool, true, false, List, [], ◌∷◌, ◌++◌, map, length, if◌then◌else◌}
+use Rattle.std.specs.Prelude.{Some, None, Option, Result}
+use Rattle.im_types.specs.Types.{Request, Command, Outcome, Line, Commands, Served, Refusal, TraceFull, Contents}
+use Rattle.im_types.specs.Types.{answer_to, Change}
+use Rattle.{im_disk.specs.declared.Disk.Ghosts, im_groups.specs.Commands.places_behind}
+use Rattle.im_engine.specs.{Commands.CommandsAnswered, Commands.each_refused, State.EngineState}
+use Rattle.im_session.specs.{Keeping.KeepsPut, Keeping.MakesFewCalls, Kept.SessionState}
 use Rattle.im_session.specs.Serving.{served_answer, served_together}
-use Rattle.im_trace.specs.Lines.{LineCounts, leaves_line, left_lines, memory_after, counts_after}
-use Rattle.im_trace.specs.Log.{ReceiptState, LogState, plain, IsOf, with_unclaimed}
-use Rattle.im_controller.specs.State.{SharedState}
-use Rattle.im_controller.specs.Lends.{changes_put}
-use Rattle.im_controller.specs.Admitted.{free_lines, places_with, is_asked, Admits}
+use Rattle.im_trace.specs.Lines.{counts_after, leaves_line, left_lines, LineCounts, memory_after}
+use Rattle.im_trace.specs.Log.{IsOf, LogState, plain, ReceiptState, with_unclaimed}
+use Rattle.im_controller.specs.Admitted.{Admits, free_lines, is_asked, places_with}
+use Rattle.im_controller.specs.{Lends.changes_put, State.SharedState}
 
 -- ---- what the members are answered
 

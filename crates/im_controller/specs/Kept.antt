@@ -1,19 +1,12 @@
 -- What the session under the lock has put, and since when the lines of its trace are kept. (Own.)
-use Rattle.std.specs.Prelude.{◌≡◌, ℕ, ◌+◌, ◌<◌, ◌≤◌, false, Bool, List, ◌++◌, length}
+use Rattle.std.specs.Prelude.{◌≡◌, ℕ, ◌+◌, ◌<◌, ◌≤◌, Bool, false, List, ◌++◌, length}
+use Rattle.im_types.specs.Types.{Command, Line, Contents, after, accepted}
+use Rattle.{im_laws.specs.Traces.commands_of, im_disk.specs.declared.Disk.Ghosts}
+use Rattle.im_session.specs.{Keeping.KeptFrom, Kept.SessionStart, Kept.SessionState}
+use Rattle.im_trace.specs.{Lines.NeverGoBack, Lines.time_at, Origin.Origin}
+use Rattle.im_controller.specs.{Planned.AreOnPlan, State.OpeningState}
 use mathlib.Core.List.{IsPrefix}
-use Rattle.im_types.specs.declared.commands.Command.{Command}
-use Rattle.im_types.specs.declared.commands.Line.{Line}
-use Rattle.im_types.specs.Contents.{Contents}
-use Rattle.im_types.specs.Run.{after, accepted}
-use Rattle.im_laws.specs.Traces.{commands_of}
-use Rattle.im_disk.specs.declared.disk.Disk.{Ghosts}
-use Rattle.im_session.specs.Kept.{SessionStart, SessionState}
-use Rattle.im_session.specs.Keeping.{KeptFrom}
 pub use Rattle.im_trace.specs.Begun.{Begun}
-use Rattle.im_trace.specs.Lines.{time_at, NeverGoBack}
-use Rattle.im_trace.specs.Origin.{Origin}
-use Rattle.im_controller.specs.Planned.{AreOnPlan}
-use Rattle.im_controller.specs.State.{OpeningState}
 
 -- where a session begins, given what is known of its disk
 abbrev pub begun_by : {D : Type 0} → Ghosts D → SessionStart D → Begun

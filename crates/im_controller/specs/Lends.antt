@@ -1,36 +1,19 @@
 -- What is done under the lock. (Own.)
-use Rattle.std.specs.Prelude.{◌≡◌, ◌≢◌, ◌⊎◌, ℕ, ◌<◌, ◌≤◌, ◌++◌, Bool, true, false, List, [], ◌∷◌, Some}
-use Rattle.std.specs.Prelude.{Result, Ok, Err, length, count_by, slice_get, slice_set, if◌then◌else◌, ◌==◌}
-use Rattle.im_types.specs.declared.operations.Entry.{Entry}
-use Rattle.im_types.specs.declared.operations.Entry.TheVariants.{Waiting}
-use Rattle.im_types.specs.declared.commands.Command.{Command}
-use Rattle.im_types.specs.declared.commands.Outcome.{Outcome}
-use Rattle.im_types.specs.declared.commands.Call.{Call}
-use Rattle.im_types.specs.declared.commands.Call.TheVariants.{Command as Commands, Collect}
-use Rattle.im_types.specs.declared.commands.Line.{Line}
-use Rattle.im_types.specs.declared.refusals.Refusal.{Refusal}
-use Rattle.im_types.specs.declared.refusals.Refusal.TheVariants.{NoElement, JournalFull, Device, Failed, NoMemory}
-use Rattle.im_types.specs.declared.refusals.Refusal.TheVariants.{TraceFull, Stalled, OffPlan}
-use Rattle.im_types.specs.declared.changes.Change.{Change}
-use Rattle.im_types.specs.Contents.{Contents}
-use Rattle.im_types.specs.Trace.{told}
-use Rattle.im_types.specs.Changes.{change_by, changes_at}
-use Rattle.im_disk.specs.declared.disk.Disk.{Ghosts}
-use Rattle.im_checkpoint.specs.declared.checkpoint.TurnDone.{TurnDone}
-use Rattle.im_checkpoint.specs.declared.checkpoint.TurnDone.TheVariants.{Idle}
-use Rattle.im_groups.specs.Commands.{takes_place}
+use Rattle.std.specs.Prelude.{◌≡◌, ℕ, ◌<◌, ◌≤◌, Bool, true, false, ◌≢◌, ◌⊎◌, List, [], ◌∷◌, ◌++◌, length, if◌then◌else◌}
+use Rattle.std.specs.Prelude.{◌==◌, slice_get, slice_set, Some, Ok, Err, count_by, Result}
+use Rattle.im_types.specs.Types.{Entry, Waiting, Command, Outcome, Call, Line, Commands, Collect, Refusal, NoElement}
+use Rattle.im_types.specs.Types.{JournalFull, Device, Failed, NoMemory, TraceFull, Stalled, OffPlan, Contents, told}
+use Rattle.im_types.specs.Types.{change_by, changes_at, Change}
+use Rattle.{im_disk.specs.declared.Disk.Ghosts, im_groups.specs.Commands.takes_place}
+use Rattle.im_checkpoint.specs.declared.TurnDone.{TheVariants.Idle, TurnDone}
 use Rattle.im_engine.specs.Answered.{Answered, TurnAnswered}
-use Rattle.im_queue.specs.declared.servers.Ask.{Ask}
-use Rattle.im_queue.specs.declared.servers.Ask.TheVariants.{Go, Wait}
-use Rattle.im_queue.specs.declared.servers.ServerState.{ServerState}
-use Rattle.im_queue.specs.declared.servers.ServerState.TheVariants.{Unmade, Active, Waits}
-use Rattle.im_controller.specs.declared.standing.Standing.{Standing}
-use Rattle.im_trace.specs.Origin.{Origin}
-use Rattle.im_trace.specs.Lines.{LineCounts, left_lines, counts_after}
-use Rattle.im_trace.specs.Log.{ReceiptState, plain, receipt_for, with_line}
-use Rattle.im_queue.specs.Servers.{entry_under, is_answered, is_waiting_server, are_stuck, with_server}
-use Rattle.im_controller.specs.Planned.{has_command}
-use Rattle.im_controller.specs.State.{SharedState, PortState}
+use Rattle.im_trace.specs.{Lines.counts_after, Lines.left_lines, Lines.LineCounts, Origin.Origin}
+use Rattle.im_trace.specs.Log.{plain, receipt_for, ReceiptState, with_line}
+use Rattle.im_queue.specs.declared.Ask.{Ask, TheVariants.Go, TheVariants.Wait}
+use Rattle.im_queue.specs.declared.ServerState.{ServerState, TheVariants.Active, TheVariants.Unmade, TheVariants.Waits}
+use Rattle.im_queue.specs.Servers.{are_stuck, entry_under, is_answered, is_waiting_server, with_server}
+use Rattle.im_controller.specs.{declared.standing.Standing.Standing, Planned.has_command}
+use Rattle.im_controller.specs.State.{PortState, SharedState}
 
 -- a call's line, if it leaves one, is in the log; the servers stay
 pub record LeavesLine {D : Type 0} (s : SharedState D) (call : Call) (answer : Result Outcome Refusal)

@@ -1,27 +1,12 @@
 -- Planned runs under the lock: what a plan has, and what each answer is by the plan. (Own.)
-use Rattle.std.specs.Prelude.{◌≡◌, List, Option, None, Some, Bool, true, false, Result, Ok, Err}
+use Rattle.std.specs.Prelude.{◌≡◌, Bool, true, false, List, Some, None, Ok, Err, Option, Result}
 use Rattle.std.specs.List.{AllByRecursion}
-use Rattle.im_types.specs.declared.operations.Entry.{Entry}
-use Rattle.im_types.specs.declared.operations.Entry.TheVariants.{Waiting}
-use Rattle.im_types.specs.declared.commands.Command.{Command}
-use Rattle.im_types.specs.declared.commands.Command.TheVariants.{Request as Asks, Confirm}
-use Rattle.im_types.specs.declared.commands.Request.{Request}
-use Rattle.im_types.specs.declared.commands.Outcome.{Outcome}
-use Rattle.im_types.specs.declared.commands.Outcome.TheVariants.{Entry as Tells}
-use Rattle.im_types.specs.declared.refusals.Refusal.{Refusal}
-use Rattle.im_types.specs.declared.commands.Call.{Call}
-use Rattle.im_types.specs.declared.commands.Call.TheVariants.{Command as Commands, Collect}
-use Rattle.im_types.specs.declared.commands.Line.{Line}
-use Rattle.im_types.specs.Contents.{Contents}
-use Rattle.im_types.specs.Window.{ask}
-use Rattle.im_types.specs.Step.{asker}
-use Rattle.im_types.specs.Plan.{result_of, FitsPlan}
-use Rattle.im_plans.specs.Runs.{IsInPlan, IsPlannedCall, IsPlannedRun, IsResultOrWaits, TellsResults, HasServed}
-use Rattle.im_plans.specs.Runs.{entry_for}
-use Rattle.im_plans.specs.UnderWay.{IsPlanUnderWay, PlanGoesOn}
-use Rattle.im_planning.specs.Making.{op_under, is_op}
-use Rattle.im_trace.specs.Lines.{line_of}
-use Rattle.im_trace.specs.Log.{ReceiptState, FoundState}
+use Rattle.im_types.specs.Types.{Entry, Waiting, Request, Command, Outcome, Call, Line, Asks, Confirm, Tells, Commands}
+use Rattle.im_types.specs.Types.{Collect, Refusal, Contents, ask, asker, result_of, FitsPlan}
+use Rattle.im_plans.specs.{Runs.entry_for, Runs.HasServed, Runs.IsInPlan, Runs.IsPlannedCall, Runs.IsPlannedRun}
+use Rattle.im_plans.specs.{Runs.IsResultOrWaits, Runs.TellsResults, UnderWay.IsPlanUnderWay, UnderWay.PlanGoesOn}
+use Rattle.im_trace.specs.{Lines.line_of, Log.FoundState, Log.ReceiptState}
+use Rattle.im_planning.specs.Making.{is_op, op_under}
 
 -- whether the plan has a request: this operation, under this number; without a plan any request may come
 abbrev pub has_request : Option (List Request) → Request → Bool

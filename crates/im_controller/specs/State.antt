@@ -1,13 +1,8 @@
 -- What lies under the lock, as contracts see it. (Own.)
-use Rattle.std.specs.Prelude.{◌≡◌, ℕ, Bool, true, false, List, Option, None, Some}
-use Rattle.im_types.specs.declared.commands.Request.{Request}
-use Rattle.im_types.specs.declared.commands.Line.{Line}
-use Rattle.im_types.specs.declared.changes.Change.{Change}
-use Rattle.im_session.specs.Kept.{SessionState}
-use Rattle.im_queue.specs.declared.servers.ServerState.{ServerState}
-use Rattle.im_trace.specs.Books.{BookNames}
-use Rattle.im_trace.specs.Lines.{LineCounts}
-use Rattle.im_trace.specs.Log.{LogState}
+use Rattle.std.specs.Prelude.{◌≡◌, ℕ, Bool, true, false, List, Some, None, Option}
+use Rattle.im_types.specs.Types.{Request, Line, Change}
+use Rattle.{im_session.specs.Kept.SessionState, im_queue.specs.declared.ServerState.ServerState}
+use Rattle.im_trace.specs.{Books.BookNames, Lines.LineCounts, Log.LogState}
 
 -- what lies under the lock: the session, its log, what each element's server does, and the changes that are shown
 pub record SharedState (D : Type 0) : Type 0 where

@@ -1,15 +1,8 @@
 -- Planned runs that were stopped. (Own.)
-use Rattle.std.specs.Prelude.{◌≡◌, ◌≤◌, ◌+◌, ℕ, List, ◌++◌, Some, length, take}
-use Rattle.im_types.specs.declared.commands.Command.{Command}
-use Rattle.im_types.specs.declared.commands.Line.{Line}
-use Rattle.im_types.specs.declared.commands.Request.{Request}
-use Rattle.im_types.specs.Contents.{Contents}
-use Rattle.im_types.specs.Meaning.{Means}
-use Rattle.im_types.specs.Run.{after}
-use Rattle.im_types.specs.Trace.{IsLegal, end_of}
+use Rattle.std.specs.Prelude.{◌≡◌, ℕ, ◌+◌, ◌≤◌, List, ◌++◌, length, take, Some}
+use Rattle.im_types.specs.Types.{Request, Command, Line, Contents, after, IsLegal, end_of, Means}
 use Rattle.im_plans.specs.Runs.{IsPlannedRun}
-use Rattle.im_controller.specs.Kept.{accepted_in}
-use Rattle.im_controller.specs.Planned.{AreOnPlan}
+use Rattle.im_controller.specs.{Kept.accepted_in, Planned.AreOnPlan}
 
 -- a planned run leads from the one memory to the other
 pub record LeadsTo (plan : List Request) (m n : Contents) : Type 0 where

@@ -1,17 +1,10 @@
 -- What a port is told while it holds the lock once. (Own.)
-use Rattle.std.specs.Prelude.{◌≡◌, ◌≢◌, ℕ, ◌<◌, ◌≤◌, Bool, true, false, Option, None, Some, Result, Ok, Err, List}
-use Rattle.std.specs.Prelude.{length}
-use Rattle.im_types.specs.declared.operations.Entry.{Entry}
-use Rattle.im_types.specs.declared.operations.Entry.TheVariants.{Waiting}
-use Rattle.im_types.specs.declared.commands.Call.TheVariants.{Collect}
-use Rattle.im_types.specs.declared.commands.Line.{Line}
-use Rattle.im_types.specs.declared.refusals.Refusal.{Refusal}
-use Rattle.im_types.specs.declared.refusals.Refusal.TheVariants.{Failed, TraceFull, Stalled}
-use Rattle.im_types.specs.Contents.{Contents}
-use Rattle.im_types.specs.Trace.{told, end_of}
-use Rattle.im_trace.specs.Lines.{LineCounts, GoesOnTo, left_lines, counts_after}
-use Rattle.im_trace.specs.Log.{FoundState}
-use Rattle.im_queue.specs.Servers.{entry_under, is_answered, are_stuck}
+use Rattle.std.specs.Prelude.{◌≡◌, ℕ, ◌<◌, ◌≤◌, Bool, true, false, ◌≢◌, List, length, Some, None, Ok, Err, Option}
+use Rattle.std.specs.Prelude.{Result}
+use Rattle.im_types.specs.Types.{Entry, Waiting, Line, Collect, Refusal, Failed, TraceFull, Stalled, Contents, told}
+use Rattle.im_types.specs.Types.{end_of}
+use Rattle.im_trace.specs.{Lines.counts_after, Lines.GoesOnTo, Lines.left_lines, Lines.LineCounts, Log.FoundState}
+use Rattle.im_queue.specs.Servers.{are_stuck, entry_under, is_answered}
 use Rattle.im_controller.specs.State.{SharedState}
 
 -- what was found, without the trace

@@ -1,13 +1,10 @@
 //! Which members of a group are lent: those that the plan has, if it is asked, and for whose changes the pane has room.
-ghost use Rattle.std.specs.Prelude.{◌≡◌, ◌<◌, ◌≤◌, ◌++◌, None, Some, true, length, MatchResult, OnOk, OnErr};
-ghost use Rattle.im_types.specs.declared.TheConstants.{MAX_GROUP};
-ghost use Rattle.im_types.specs.declared.commands.Command.{Command};
-ghost use Rattle.im_types.specs.Contents.{Contents};
-ghost use Rattle.im_groups.specs.Commands.{takes_place, places_behind};
-ghost use Rattle.im_queue.specs.Members.{AreOneOfEach, AreFreeFor};
-ghost use Rattle.im_controller.specs.Lends.{changes_put};
-ghost use Rattle.im_controller.specs.Groups.{changes_put_all};
-ghost use Rattle.im_controller.specs.Admitted.{free_lines, places_with, is_asked, is_off, IsVerdict, Admits};
+ghost use Rattle.std.specs.Prelude.{◌≡◌, ◌<◌, ◌≤◌, true, ◌++◌, length, OnOk, OnErr, MatchResult, Some, None};
+ghost use Rattle.im_types.specs.Types.{Command, MAX_GROUP, Contents};
+ghost use Rattle.im_groups.specs.Commands.{places_behind, takes_place};
+ghost use Rattle.im_queue.specs.Members.{AreFreeFor, AreOneOfEach};
+ghost use Rattle.im_controller.specs.Admitted.{Admits, free_lines, is_asked, is_off, IsVerdict, places_with};
+ghost use Rattle.im_controller.specs.{Groups.changes_put_all, Lends.changes_put};
 
 use crate::panes::put_ahead;
 use crate::plans::has_command;

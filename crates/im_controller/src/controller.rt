@@ -1,15 +1,10 @@
 //! The lock, and the thread that keeps checkpoints.
-ghost use Rattle.std.specs.Prelude.{◌≡◌, ◌⊎◌, IfOk, IfErr, IfSome};
-ghost use Rattle.im_types.specs.declared.refusals.Refusal.TheVariants.{NoElement};
+ghost use Rattle.std.specs.Prelude.{◌≡◌, ◌⊎◌, IfSome, IfOk, IfErr};
+ghost use Rattle.im_types.specs.Types.{Commands, NoElement, IsLegal, opening};
+ghost use Rattle.im_trace.specs.Lines.{counts_after, EndsIn, left_lines, line_of};
+ghost use Rattle.im_trace.specs.Log.{plain, SeesAnswer, SeesReceipt};
+ghost use Rattle.im_controller.specs.{Groups.CountsAnswer, Lends.IsTurnFault, Planned.TellsOf};
 ghost use mathlib.Core.List.{IsPrefix};
-ghost use Rattle.im_types.specs.Trace.{IsLegal};
-ghost use Rattle.im_types.specs.Changes.{opening};
-ghost use Rattle.im_types.specs.declared.commands.Call.TheVariants.{Command as Commands};
-ghost use Rattle.im_trace.specs.Lines.{EndsIn, line_of, left_lines, counts_after};
-ghost use Rattle.im_trace.specs.Log.{SeesAnswer, SeesReceipt, plain};
-ghost use Rattle.im_controller.specs.Groups.{CountsAnswer};
-ghost use Rattle.im_controller.specs.Planned.{TellsOf};
-ghost use Rattle.im_controller.specs.Lends.{IsTurnFault};
 
 use crate::groups::hold;
 use crate::keeper::{KeeperStep, keep_once, mark_ended};

@@ -1,11 +1,9 @@
 //! The end of a controller.
-ghost use Rattle.std.specs.Prelude.{◌≡◌, ◌≤◌, ◌+◌, false, length, sum_by};
+ghost use Rattle.std.specs.Prelude.{◌≡◌, ◌+◌, ◌≤◌, false, length, sum_by};
 ghost use Rattle.std.specs.List.{AllByRecursion};
+ghost use Rattle.im_types.specs.Types.{IsLegal, end_of};
+ghost use Rattle.im_controller.specs.{Ends.HaveCome, Kept.IsSessionOf, Kept.KeptSince, Planned.EndsBy};
 ghost use mathlib.Core.List.{IsPrefix};
-ghost use Rattle.im_types.specs.Trace.{IsLegal, end_of};
-ghost use Rattle.im_controller.specs.Ends.{HaveCome};
-ghost use Rattle.im_controller.specs.Kept.{IsSessionOf, KeptSince};
-ghost use Rattle.im_controller.specs.Planned.{EndsBy};
 
 use crate::controller::Controller;
 use crate::ports::Port;

@@ -1,11 +1,9 @@
 //! Groups of commands that the session is lent to. Their answers wait for their ports.
-ghost use Rattle.std.specs.Prelude.{◌≡◌, ◌<◌, ◌≤◌, ◌+◌, [], length, IfSome};
-ghost use Rattle.im_engine.specs.Commands.{CommandsAnswered};
-ghost use Rattle.im_session.specs.Keeping.{KeepsPut, MakesFewCalls};
-ghost use Rattle.im_session.specs.Serving.{served_together};
-ghost use Rattle.im_queue.specs.Members.{AreOneOfEach, AreFreeFor, AreSureBehind, IsCut};
-ghost use Rattle.im_controller.specs.Groups.{MembersAnswered, MembersPut, LendsGroup, CountsAnswer};
-ghost use Rattle.im_trace.specs.Log.{SeesAnswer};
+ghost use Rattle.std.specs.Prelude.{◌≡◌, ◌+◌, ◌<◌, ◌≤◌, [], length, IfSome};
+ghost use Rattle.{im_engine.specs.Commands.CommandsAnswered, im_trace.specs.Log.SeesAnswer};
+ghost use Rattle.im_session.specs.{Keeping.KeepsPut, Keeping.MakesFewCalls, Serving.served_together};
+ghost use Rattle.im_queue.specs.Members.{AreFreeFor, AreOneOfEach, AreSureBehind, IsCut};
+ghost use Rattle.im_controller.specs.Groups.{CountsAnswer, LendsGroup, MembersAnswered, MembersPut};
 ghost use Rattle.im_controller.specs.Planned.{TellsOf};
 
 use crate::admitting::admit;

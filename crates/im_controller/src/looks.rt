@@ -1,14 +1,11 @@
 //! What is looked up under the lock: an entry, with its line, and whether a server may wait for one.
-ghost use Rattle.std.specs.Prelude.{◌≡◌, Ok, IfOk, IfSome};
-ghost use mathlib.Core.List.{IsPrefix};
-ghost use Rattle.im_types.specs.Trace.{told, end_of};
-ghost use Rattle.im_types.specs.declared.commands.Call.TheVariants.{Collect};
-ghost use Rattle.im_types.specs.declared.commands.Outcome.TheVariants.{Entry as Tells};
+ghost use Rattle.std.specs.Prelude.{◌≡◌, IfSome, IfOk, Ok};
+ghost use Rattle.im_types.specs.Types.{Tells, Collect, told, end_of};
 ghost use Rattle.im_trace.specs.Lines.{EndsIn, line_of};
-ghost use Rattle.im_controller.specs.Lends.{Looks, BeginsWait};
-ghost use Rattle.im_controller.specs.Planned.{TellsFound};
-ghost use Rattle.im_controller.specs.Waits.{Awaits, SeesEntry, SeesFound, StallsAt, TellsWhy, IsFoundAt, IsFoundOf};
-ghost use Rattle.im_controller.specs.Waits.{found_entry};
+ghost use Rattle.im_controller.specs.{Lends.BeginsWait, Lends.Looks, Planned.TellsFound};
+ghost use Rattle.im_controller.specs.Waits.{Awaits, found_entry, IsFoundAt, IsFoundOf, SeesEntry, SeesFound, StallsAt};
+ghost use Rattle.im_controller.specs.Waits.{TellsWhy};
+ghost use mathlib.Core.List.{IsPrefix};
 
 use crate::shared::Shared;
 use im_disk::Disk;

@@ -1,11 +1,8 @@
 //! What the members of a group are answered, and how their answers wait for their ports.
-ghost use Rattle.std.specs.Prelude.{◌≡◌, ◌≤◌, ◌+◌, length, map};
-ghost use Rattle.im_types.specs.Trace.{end_of};
-ghost use Rattle.im_queue.specs.Members.{AreOneOfEach, AreFreeFor};
-ghost use Rattle.im_trace.specs.Log.{GoesOnAt};
-ghost use Rattle.im_session.specs.Serving.{served_answer};
-ghost use Rattle.im_controller.specs.Groups.{with_all_unclaimed, AreAnswersTo, memory_after_all};
-ghost use Rattle.im_controller.specs.Groups.{lines_left};
+ghost use Rattle.std.specs.Prelude.{◌≡◌, ◌+◌, ◌≤◌, map, length};
+ghost use Rattle.{im_types.specs.Types.end_of, im_session.specs.Serving.served_answer, im_trace.specs.Log.GoesOnAt};
+ghost use Rattle.im_queue.specs.Members.{AreFreeFor, AreOneOfEach};
+ghost use Rattle.im_controller.specs.Groups.{AreAnswersTo, lines_left, memory_after_all, with_all_unclaimed};
 
 use im_disk::Disk;
 use im_session::served_answer;

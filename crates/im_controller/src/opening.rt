@@ -1,12 +1,9 @@
 //! A session with room for a trace, before it has a name.
-ghost use Rattle.std.specs.Prelude.{◌≡◌, ◌↔◌, ◌⊎◌, true, None, Some, IsTrue, IfOk, IfErr, OnOk, length, count_by};
-ghost use Rattle.im_types.specs.declared.refusals.Refusal.TheVariants.{NoMemory, BadPlan};
-ghost use Rattle.im_plans.specs.UnderWay.{PlanGoesOn};
-ghost use Rattle.im_types.specs.Changes.{opening};
-ghost use Rattle.im_controller.specs.Kept.{IsOriginOf};
-ghost use Rattle.im_controller.specs.Planned.{MayStart};
-ghost use Rattle.im_controller.specs.State.{OpensAs, is_recorded, most_lines};
-ghost use Rattle.im_queue.specs.Servers.{is_unmade};
+ghost use Rattle.std.specs.Prelude.{◌≡◌, true, ◌⊎◌, ◌↔◌, length, IfOk, IfErr, OnOk, IsTrue, Some, None, count_by};
+ghost use Rattle.im_types.specs.Types.{NoMemory, BadPlan, opening};
+ghost use Rattle.{im_plans.specs.UnderWay.PlanGoesOn, im_queue.specs.Servers.is_unmade};
+ghost use Rattle.im_controller.specs.{Kept.IsOriginOf, Planned.MayStart};
+ghost use Rattle.im_controller.specs.State.{is_recorded, most_lines, OpensAs};
 
 use crate::controller::Controller;
 use crate::keeper::Keeper;
@@ -36,10 +33,8 @@ pub struct Opening<D: Disk> {
 
 impl<D: Disk> Model for Opening<D> {
     ghost use Rattle.std.specs.Prelude.{◌≡◌, length, count_by};
-    ghost use Rattle.im_types.specs.Changes.{opening};
-    ghost use Rattle.im_queue.specs.Servers.{is_unmade};
-    ghost use Rattle.im_controller.specs.Planned.{StartsBy};
-    ghost use Rattle.im_controller.specs.State.{OpeningState};
+    ghost use Rattle.{im_types.specs.Types.opening, im_queue.specs.Servers.is_unmade};
+    ghost use Rattle.im_controller.specs.{Planned.StartsBy, State.OpeningState};
 
     ghost Value = { OpeningState D };
 

@@ -1,7 +1,6 @@
 //! Changes are put ahead on the pane before the engine is lent, and shown after it.
-ghost use Rattle.std.specs.Prelude.{◌≡◌, ◌++◌, [], true, false, length, IfOk, IfErr, OnOk, OnErr};
-ghost use Rattle.im_types.specs.declared.refusals.Refusal.TheVariants.{NoMemory};
-ghost use Rattle.im_groups.specs.Commands.{takes_place};
+ghost use Rattle.std.specs.Prelude.{◌≡◌, true, false, [], ◌++◌, length, IfOk, IfErr, OnOk, OnErr};
+ghost use Rattle.{im_types.specs.Types.NoMemory, im_groups.specs.Commands.takes_place};
 ghost use Rattle.im_controller.specs.Lends.{changes_put};
 
 use im_changes::change_by;

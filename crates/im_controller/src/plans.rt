@@ -1,6 +1,6 @@
 //! Which commands the plan has, if there is one.
 ghost use Rattle.std.specs.Prelude.{◌≡◌};
-ghost use Rattle.im_controller.specs.Planned.{has_request, has_command};
+ghost use Rattle.im_controller.specs.Planned.{has_command, has_request};
 
 use im_planning::Plan;
 use im_types::{Command, Request};

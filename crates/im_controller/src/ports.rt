@@ -1,15 +1,10 @@
 //! Ports: the way of one element to the lock.
-ghost use Rattle.std.specs.Prelude.{◌≡◌, ◌⊎◌, Ok, IfOk, IfErr};
-ghost use Rattle.im_types.specs.declared.commands.Call.TheVariants.{Command as Commands, Collect};
-ghost use Rattle.im_types.specs.declared.commands.Command.TheVariants.{Request as Asks, Confirm};
-ghost use Rattle.im_types.specs.declared.commands.Outcome.TheVariants.{Entry as Tells};
-ghost use Rattle.im_types.specs.declared.refusals.Refusal.TheVariants.{JournalFull};
-ghost use Rattle.im_types.specs.Trace.{IsLegal, told};
-ghost use Rattle.im_trace.specs.Lines.{EndsIn, line_of, left_lines, counts_after};
-ghost use Rattle.im_trace.specs.Log.{SeesReceipt, plain};
-ghost use Rattle.im_controller.specs.Lends.{IsTurnFault};
-ghost use Rattle.im_controller.specs.Waits.{found_entry, IsFoundOf, IsAwaitedAt, SeesEntry};
-ghost use Rattle.im_controller.specs.Planned.{TellsOf, TellsFound};
+ghost use Rattle.std.specs.Prelude.{◌≡◌, ◌⊎◌, IfOk, IfErr, Ok};
+ghost use Rattle.im_types.specs.Types.{Asks, Confirm, Tells, Commands, Collect, JournalFull, told, IsLegal};
+ghost use Rattle.im_trace.specs.Lines.{counts_after, EndsIn, left_lines, line_of};
+ghost use Rattle.im_trace.specs.Log.{plain, SeesReceipt};
+ghost use Rattle.im_controller.specs.{Lends.IsTurnFault, Planned.TellsFound, Planned.TellsOf};
+ghost use Rattle.im_controller.specs.Waits.{found_entry, IsAwaitedAt, IsFoundOf, SeesEntry};
 
 use crate::controller::Controller;
 use crate::looks::{ask_once, find_seen};

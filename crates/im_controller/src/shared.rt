@@ -1,13 +1,9 @@
 //! What lies under the lock, and the functions that lend the session.
-ghost use Rattle.std.specs.Prelude.{◌≡◌, ◌⊎◌, false, length, IfOk, IfErr, IsErrOf};
-ghost use Rattle.im_types.specs.Trace.{IsLegal};
-ghost use Rattle.im_types.specs.declared.refusals.Refusal.TheVariants.{JournalFull};
-ghost use Rattle.im_disk.specs.Since.{CallsAtMost, CallsBy};
-ghost use Rattle.im_engine.specs.Answered.{calls_for};
-ghost use Rattle.im_session.specs.Keeping.{KeepsPut};
-ghost use Rattle.im_session.specs.Serving.{Rests, served_one};
-ghost use Rattle.im_trace.specs.Log.{plain};
-ghost use Rattle.im_controller.specs.Lends.{Lends, LendsTurn, IsTurnFault, told_turn};
+ghost use Rattle.std.specs.Prelude.{◌≡◌, false, ◌⊎◌, length, IfOk, IfErr, IsErrOf};
+ghost use Rattle.{im_types.specs.Types.JournalFull, im_types.specs.Types.IsLegal, im_disk.specs.Since.CallsAtMost};
+ghost use Rattle.{im_disk.specs.Since.CallsBy, im_engine.specs.Answered.calls_for, im_trace.specs.Log.plain};
+ghost use Rattle.im_session.specs.{Keeping.KeepsPut, Serving.Rests, Serving.served_one};
+ghost use Rattle.im_controller.specs.Lends.{IsTurnFault, Lends, LendsTurn, told_turn};
 ghost use Rattle.im_controller.specs.Planned.{TellsOf};
 
 use crate::keeper::Keeper;
@@ -50,13 +46,9 @@ pub struct Shared<D: Disk, K: Name> {
 }
 
 impl<D: Disk, K: Name> Model for Shared<D, K> {
-    ghost use Rattle.std.specs.Prelude.{◌≡◌, [], false, length, count_by};
-    ghost use Rattle.im_types.specs.Trace.{end_of};
-    ghost use Rattle.im_types.specs.Changes.{shown_by};
-    ghost use Rattle.im_controller.specs.State.{SharedState};
-    ghost use Rattle.im_controller.specs.Kept.{IsSessionOf, KeptSince};
-    ghost use Rattle.im_queue.specs.Servers.{is_unmade};
-    ghost use Rattle.im_controller.specs.Planned.{KeepsTo};
+    ghost use Rattle.std.specs.Prelude.{◌≡◌, false, [], length, count_by};
+    ghost use Rattle.{im_types.specs.Types.end_of, im_types.specs.Types.shown_by, im_queue.specs.Servers.is_unmade};
+    ghost use Rattle.im_controller.specs.{Kept.IsSessionOf, Kept.KeptSince, Planned.KeepsTo, State.SharedState};
 
     ghost Value = { SharedState D };
 

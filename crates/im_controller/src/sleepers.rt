@@ -1,9 +1,8 @@
 //! Who sleeps, who is to be woken, and which ports and glances were given out.
-ghost use Rattle.std.specs.Prelude.{◌≡◌, IfOk, IfErr, IfSome};
-ghost use mathlib.Core.List.{IsPrefix};
-ghost use Rattle.im_types.specs.Changes.{opening};
-ghost use Rattle.im_types.specs.declared.refusals.Refusal.TheVariants.{NoElement};
+ghost use Rattle.std.specs.Prelude.{◌≡◌, IfSome, IfOk, IfErr};
+ghost use Rattle.im_types.specs.Types.{NoElement, opening};
 ghost use Rattle.im_controller.specs.Lends.{MakesPort, standing_in, with_server_at};
+ghost use mathlib.Core.List.{IsPrefix};
 
 use crate::keeper::wake_keeper;
 use crate::ports::Port;

@@ -1,7 +1,6 @@
 //! A session becomes a controller's, with room for its trace or for a trace that isn't recorded.
-ghost use Rattle.std.specs.Prelude.{◌≡◌, ◌↔◌, ◌⊎◌, true, false, None, Some, IfOk, IfErr, OnOk, length};
-ghost use Rattle.im_types.specs.declared.refusals.Refusal.TheVariants.{NoMemory, BadPlan};
-ghost use Rattle.im_types.specs.Plan.{FitsPlan};
+ghost use Rattle.std.specs.Prelude.{◌≡◌, true, false, ◌⊎◌, ◌↔◌, length, IfOk, IfErr, OnOk, Some, None};
+ghost use Rattle.im_types.specs.Types.{NoMemory, BadPlan, FitsPlan};
 ghost use Rattle.im_plans.specs.UnderWay.{IsPlanUnderWay, PlanGoesOn};
 ghost use Rattle.im_controller.specs.State.{OpensAs};
 

@@ -1,12 +1,8 @@
 //! Laws of planned runs that are stopped and gone on with. Each is the contract of a function that does nothing.
-ghost use Rattle.std.specs.Prelude.{ℕ, ◌++◌, List};
-ghost use Rattle.im_types.specs.declared.commands.Line.{Line};
-ghost use Rattle.im_types.specs.declared.commands.Request.{Request};
-ghost use Rattle.im_types.specs.Contents.{Contents};
-ghost use Rattle.im_types.specs.Meaning.{Means};
+ghost use Rattle.std.specs.Prelude.{ℕ, List, ◌++◌};
+ghost use Rattle.im_types.specs.Types.{Request, Line, Contents, Means};
 ghost use Rattle.im_plans.specs.UnderWay.{PlanGoesOn};
-ghost use Rattle.im_controller.specs.Planned.{EndsAsPlanned};
-ghost use Rattle.im_controller.specs.Stops.{IsLeftOf, LeadsTo};
+ghost use Rattle.im_controller.specs.{Planned.EndsAsPlanned, Stops.IsLeftOf, Stops.LeadsTo};
 
 /// Planned runs that are stopped end as one, by what [`finish`](crate::finish) says of each. A crash leaves a file that
 /// means a memory to which a planned run leads from the one that was opened. The plan is under way there, so

@@ -1,9 +1,7 @@
 -- Runs of which nothing is known but that they read.
 use Rattle.std.proofs.Common.{Result}
-use Rattle.im_types.specs.declared.refusals.Refusal.{Refusal}
-use Rattle.im_disk.specs.declared.disk.Disk.{Ghosts}
-use Rattle.im_disk.specs.Runs.{ReadsAlone, ReadsOrRefuses}
-use Rattle.im_disk.proofs.SinceLemmas.{reads_then}
+use Rattle.{im_types.specs.Types.Refusal, im_disk.proofs.SinceLemmas.reads_then}
+use Rattle.im_disk.specs.{declared.Disk.Ghosts, Runs.ReadsAlone, Runs.ReadsOrRefuses}
 
 -- one behind the other
 pub reads-both : {D : Type 0} (disk : Ghosts D) (old mid new : D)

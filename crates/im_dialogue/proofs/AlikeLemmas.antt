@@ -1,35 +1,20 @@
 -- What the memory answers, and what is put, follows from the commands that were asked ahead.
-use Rattle.std.proofs.Common.{◌≡◌, ◌∙◌, ⊎_elim, ℕ, ◌+◌, List, [], ◌∷◌, ◌++◌, length, true, refl, sym, ap, ap₂}
-use Rattle.std.proofs.Common.{subst}
-use Rattle.std.specs.Prelude.{All, Option, None, Some, Result, Err}
-use Rattle.std.proofs.lemmas.List.{append-nil}
+use Rattle.std.proofs.Common.{◌≡◌, ℕ, ◌+◌, true, List, [], ◌∷◌, ◌++◌, length, Some, None, Err, All, Option, Result, sym}
+use Rattle.std.proofs.Common.{refl, ap, ◌∙◌, subst, ap₂, ⊎_elim, append-nil}
 use Rattle.std.proofs.lemmas.List.Elements.{All-head, All-tail}
-use Rattle.im_types.specs.declared.commands.Command.{Command}
-use Rattle.im_types.specs.declared.commands.Outcome.{Outcome}
-use Rattle.im_types.specs.declared.refusals.Refusal.{Refusal}
-use Rattle.im_types.specs.declared.refusals.Refusal.TheVariants.{JournalFull}
-use Rattle.im_types.proofs.Tests.{false_true}
-use Rattle.im_types.specs.Contents.{Contents}
-use Rattle.im_types.specs.Meaning.{Means}
-use Rattle.im_types.specs.Window.{bounds}
-use Rattle.im_types.specs.Step.{step}
-use Rattle.im_types.specs.Run.{after}
-use Rattle.im_disk.specs.declared.disk.Disk.{Ghosts}
-use Rattle.im_disk.specs.Moment.{Left}
-use Rattle.im_disk.specs.Since.{LeavesNow}
-use Rattle.im_checkpoint.specs.declared.checkpoint.TurnDone.{TurnDone}
+use Rattle.im_types.specs.Types.{Command, Outcome, Refusal, JournalFull, Contents, bounds, step, after, Means}
+use Rattle.{im_types.proofs.Tests.false_true, im_checkpoint.specs.declared.TurnDone.TurnDone}
+use Rattle.im_disk.specs.{declared.Disk.Ghosts, Moment.Left, Since.LeavesNow}
 use Rattle.im_turning.specs.Turning.{Point, point_of}
-use Rattle.im_session.specs.Kept.{MeansPut, SessionStart, start_at}
-use Rattle.im_session.specs.Put.{sure_by}
-use Rattle.im_dialogue.specs.declared.asking.Question.{Question}
-use Rattle.im_dialogue.specs.declared.asking.Question.TheVariants as asks
-use Rattle.im_dialogue.specs.declared.answers.LineAnswer.{LineAnswer}
-use Rattle.im_dialogue.specs.declared.answers.LineAnswer.TheVariants.{Served, Looked, Window, Room, Turned, Count}
-use Rattle.im_dialogue.specs.declared.answers.LineAnswer.TheVariants.{About as Facts, Backup as BackedUp, Wrong}
+use Rattle.im_session.specs.{Kept.MeansPut, Kept.SessionStart, Kept.start_at, Put.sure_by}
+use Rattle.im_dialogue.specs.Alike.{AskAlike, command_asked, commands_said, EndAlike, is_of_memory, LeaveOne, LineOf}
+use Rattle.im_dialogue.specs.Alike.{TalkOf}
 use Rattle.im_dialogue.specs.Asking.{asked_of}
-use Rattle.im_dialogue.specs.Talk.{AnswersQuestion, AreAnswered, Exchange, about_of, put_by, put_of}
-use Rattle.im_dialogue.specs.Alike.{AskAlike, EndAlike, LeaveOne, LineOf, TalkOf, command_asked, commands_said}
-use Rattle.im_dialogue.specs.Alike.{is_of_memory}
+use Rattle.im_dialogue.specs.declared.{answers.LineAnswer.LineAnswer, asking.Question.Question}
+use Rattle.im_dialogue.specs.declared.answers.LineAnswer.TheVariants.{About as Facts, Backup as BackedUp, Count, Looked}
+use Rattle.im_dialogue.specs.declared.answers.LineAnswer.TheVariants.{Room, Served, Turned, Window, Wrong}
+use Rattle.im_dialogue.specs.Talk.{about_of, AnswersQuestion, AreAnswered, Exchange, put_by, put_of}
+use Rattle.im_dialogue.specs.declared.asking.Question.TheVariants as asks
 
 -- ---- one line
 

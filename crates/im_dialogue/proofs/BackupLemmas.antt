@@ -1,9 +1,6 @@
 -- The names of backups. (Own.)
-use Rattle.std.proofs.Common.{◌≡◌, ℕ, ◌≤◌, true, List, length, nat_le, arith}
-use Rattle.std.specs.Prelude.{◌&&◌, slice_index_or}
-use Rattle.std.specs.Char.{is_ascii_lowercase}
-use Rattle.std.specs.List.{list_all}
-use Rattle.std.proofs.lemmas.Bool.Decides.{nat_tests}
+use Rattle.std.proofs.Common.{◌≡◌, ℕ, ◌≤◌, true, ◌&&◌, List, length, nat_le, slice_index_or, arith}
+use Rattle.std.{proofs.lemmas.Bool.Decides.nat_tests, specs.Char.is_ascii_lowercase, specs.List.list_all}
 use Rattle.im_laws.proofs.Tests.{and_both}
 use Rattle.im_dialogue.specs.Backups.{is_backup_byte, is_backup_name}
 

@@ -1,5 +1,5 @@
 -- Sums of what is below a number.
-use Rattle.std.proofs.Common.{◌≡◌, ◌∙◌, ℕ, suc, ◌+◌, ap, sym, arith}
+use Rattle.std.proofs.Common.{◌≡◌, ℕ, suc, ◌+◌, sym, ap, ◌∙◌, arith}
 use Rattle.im_report.specs.Figures.{sum_below}
 
 -- nothing is below 0

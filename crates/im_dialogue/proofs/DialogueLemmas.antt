@@ -1,25 +1,19 @@
 -- A dialogue from its opening to its end.
-use Rattle.std.proofs.Common.{◌≡◌, ◌∙◌, ⊎_elim, inl, ℕ, ◌≤◌, List, [], ◌++◌, length, refl, sym, ap, subst, arith}
-use Rattle.std.specs.Prelude.{Option, Bool, false}
-use Rattle.std.specs.Io.KnownBytes.{Appends}
-use Rattle.std.proofs.KnownBytes.{Appends-nil}
-use Rattle.im_types.specs.declared.TheConstants.{MAX_GROUP}
-use Rattle.im_types.specs.declared.commands.Command.{Command}
-use Rattle.im_types.specs.Layout.{image_length, layout_in_use}
-use Rattle.im_disk.specs.declared.disk.Disk.{Ghosts}
-use Rattle.im_disk.specs.Moment.{Moment, Left}
+use Rattle.std.proofs.Common.{◌≡◌, ℕ, ◌≤◌, Bool, false, List, [], ◌++◌, length, Option, sym, refl, ap, ◌∙◌, subst, inl}
+use Rattle.std.proofs.Common.{⊎_elim, arith}
+use Rattle.std.{proofs.KnownBytes.Appends-nil, specs.Io.KnownBytes.Appends}
+use Rattle.im_types.specs.Types.{Command, MAX_GROUP, layout_in_use, image_length}
+use Rattle.im_disk.proofs.SinceLemmas.{leaves_now, left_now}
+use Rattle.im_disk.specs.{declared.Disk.Ghosts, Moment.Left, Moment.Moment}
 use Rattle.im_disk.specs.Since.{Leaves, LeavesNow, LeavesWithin}
-use Rattle.im_disk.proofs.SinceLemmas.{left_now, leaves_now}
 use Rattle.im_engine.specs.State.{EngineState, MeansState}
 use Rattle.im_session.specs.Kept.{Kept, SessionStart, SessionState, start_at}
-use Rattle.im_text.specs.Printing.{Begins, IsLast}
-use Rattle.im_text.proofs.PrintingLemmas.{take-all}
-use Rattle.im_dialogue.specs.Backups.{Backup}
-use Rattle.im_dialogue.specs.Hearing.{asked_after}
-use Rattle.im_dialogue.specs.Talk.{Exchange, Outputs, TalkEnds, TalksOn, outputs, put_of}
-use Rattle.im_dialogue.specs.Talk.{questions_of, texts_of, with_left}
-use Rattle.im_dialogue.specs.Dialogue.{BeginsNow, BeginsTalk, TalkClosed, Talked, WasOpened}
+use Rattle.im_text.{proofs.PrintingLemmas.take-all, specs.Printing.Begins, specs.Printing.IsLast}
 use Rattle.im_dialogue.proofs.HearingLemmas.{heard_all, heard_not_all}
+use Rattle.im_dialogue.specs.{Backups.Backup, Hearing.asked_after}
+use Rattle.im_dialogue.specs.Dialogue.{BeginsNow, BeginsTalk, TalkClosed, Talked, WasOpened}
+use Rattle.im_dialogue.specs.Talk.{Exchange, Outputs, outputs, put_of, questions_of, TalkEnds, TalksOn, texts_of}
+use Rattle.im_dialogue.specs.Talk.{with_left}
 
 -- an image of these limits, by the numbers of cells and elements as the code has them
 pub same_length : (cells elements slots c e bytes : ℕ) → c ≡ cells → e ≡ elements

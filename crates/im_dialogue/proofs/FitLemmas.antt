@@ -1,49 +1,25 @@
 -- Which parts fit a group.
-use Rattle.std.proofs.Common.{◌≡◌, ◌∙◌, ℕ, suc, ◌+◌, ◌-◌, ◌<◌, ◌≤◌, min, Bool, true, false}
-use Rattle.std.proofs.Common.{List, [], ◌∷◌, ◌++◌, length, refl, sym, ap, subst, length-append, arith}
-use Rattle.std.proofs.Common.{if◌then◌else◌}
-use Rattle.std.specs.Prelude.{◌&&◌, ◌||◌, not, IfOk, IfSome, Option, Some, None, Result, Ok, Err, is_none}
-use Rattle.std.specs.List.{list_any}
-use Rattle.std.proofs.Common.{drop, get_or}
-use Rattle.std.proofs.Math.Seq.{drop-cons}
-use Rattle.im_types.specs.declared.TheConstants.{LAST}
-use Rattle.im_types.specs.declared.operations.Op.{Op}
-use Rattle.im_types.specs.declared.operations.Op.TheVariants.{Alloc, Release, Reset, Fetch, Store, Take, Put}
-use Rattle.im_types.specs.declared.operations.Kind.TheVariants.{I, M}
-use Rattle.im_types.specs.declared.operations.Kept.{Kept as KeptEntry}
-use Rattle.im_types.specs.declared.commands.Request.{Request}
-use Rattle.im_types.specs.declared.commands.Command.{Command}
-use Rattle.im_types.specs.declared.commands.Command.TheVariants.{Request as Asks, Confirm}
-use Rattle.im_types.specs.declared.commands.Outcome.{Outcome}
-use Rattle.im_types.specs.declared.refusals.Refusal.{Refusal}
-use Rattle.im_types.specs.Layout.{layout_in_use}
-use Rattle.im_types.specs.Contents.{Contents, kept_for}
-use Rattle.im_types.specs.Act.{act, put, store}
-use Rattle.im_types.specs.Window.{bounds}
-use Rattle.im_types.specs.Step.{asker, is_accepted}
-use Rattle.im_types.specs.Run.{after}
-use Rattle.im_types.specs.Memory.{IsMemory}
-use Rattle.im_types.specs.Agreement.{address_of}
+use Rattle.std.proofs.Common.{◌≡◌, ℕ, suc, ◌+◌, ◌-◌, ◌<◌, ◌≤◌, min, Bool, true, false, not, ◌&&◌, ◌||◌, List, [], ◌∷◌}
+use Rattle.std.proofs.Common.{◌++◌, length, get_or, drop, is_none, IfSome, IfOk, if◌then◌else◌, Some, None, Ok, Err}
+use Rattle.std.proofs.Common.{Option, Result, sym, refl, ap, ◌∙◌, subst, arith, length-append}
+use Rattle.std.{proofs.Math.Seq.drop-cons, specs.List.list_any}
+use Rattle.im_types.specs.Types.{Op, Kept as KeptEntry, I, M, Alloc, Release, Reset, Fetch, Store, Take, Put, Request}
+use Rattle.im_types.specs.Types.{Command, Outcome, Asks, Confirm, Refusal, LAST, Contents, kept_for, IsMemory}
+use Rattle.im_types.specs.Types.{address_of, store, put, act, bounds, asker, is_accepted, after, layout_in_use}
 use Rattle.im_laws.proofs.Tests.{and_both, true_false}
-use Rattle.im_groups.specs.Ahead.{AreAccepted, moved_by}
-use Rattle.im_groups.specs.Commands.{places, answer_with, commands_at}
-use Rattle.im_groups.proofs.AheadLemmas.{bounds-moved}
+use Rattle.im_groups.{proofs.AheadLemmas.bounds-moved, specs.Ahead.AreAccepted, specs.Ahead.moved_by}
 use Rattle.im_groups.proofs.CommandLemmas.{at-accepted, at-after, few_at}
-use Rattle.im_dialogue.specs.declared.about.About.{About}
-use Rattle.im_dialogue.specs.declared.asking.Question.{Question}
+use Rattle.im_groups.specs.Commands.{answer_with, commands_at, places}
+use Rattle.im_dialogue.proofs.{PartLemmas.told_nothing, WatchLemmas.quiet_resumes}
+use Rattle.im_dialogue.proofs.ReachLemmas.{after_memory, cell_after, none_after, resumed_here, told_accepted}
+use Rattle.im_dialogue.specs.declared.{about.About.About, asking.Question.Question}
+use Rattle.im_dialogue.specs.declared.group_line.GroupLine.{GroupLine, TheVariants.Member}
+use Rattle.im_dialogue.specs.{Looks.asks_for, Looks.is_first, Looks.may_reach, Talk.about_of, Talk.point_behind}
+use Rattle.im_dialogue.specs.Together.{AreAsked, count_between, disturbs, GroupStart, IsKnownBehind, LineAsksFor}
+use Rattle.im_dialogue.specs.Together.{MayStandNext, memory_between, places_between, point_between, TellsWatchers}
+use Rattle.im_dialogue.specs.Watching.{answers_nobody, nows_text, told_with, watch_text}
 use Rattle.im_dialogue.specs.declared.asking.Question.TheVariants as asks
 use Rattle.im_dialogue.specs.declared.answers.LineAnswer.TheVariants as answer
-use Rattle.im_dialogue.specs.declared.group_line.GroupLine.{GroupLine}
-use Rattle.im_dialogue.specs.declared.group_line.GroupLine.TheVariants.{Member}
-use Rattle.im_dialogue.specs.Looks.{asks_for, is_first, may_reach}
-use Rattle.im_dialogue.specs.Talk.{about_of, point_behind}
-use Rattle.im_dialogue.specs.Together.{LineAsksFor, AreAsked, GroupStart, memory_between, places_between, count_between}
-use Rattle.im_dialogue.specs.Together.{point_between}
-use Rattle.im_dialogue.specs.Together.{disturbs, IsKnownBehind, TellsWatchers, MayStandNext}
-use Rattle.im_dialogue.specs.Watching.{answers_nobody, nows_text, told_with, watch_text}
-use Rattle.im_dialogue.proofs.PartLemmas.{told_nothing}
-use Rattle.im_dialogue.proofs.ReachLemmas.{after_memory, cell_after, none_after, resumed_here, told_accepted}
-use Rattle.im_dialogue.proofs.WatchLemmas.{quiet_resumes}
 
 -- ---- what is known before a group acts
 

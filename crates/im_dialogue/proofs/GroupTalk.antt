@@ -1,54 +1,30 @@
 -- What was said by a group of lines.
-use Rattle.std.proofs.Common.{◌≡◌, ◌∙◌, inl, ⊎_elim, ℕ, zero, suc, ◌+◌, ◌<◌, ◌≤◌, Bool, true, false, ◌&&◌, List}
-use Rattle.std.proofs.Common.{[], ◌∷◌, ◌++◌, length, refl, sym, ap, ap₂, subst}
-use Rattle.std.proofs.Common.{◌-◌, length-append, arith, if◌then◌else◌}
-use Rattle.std.specs.Prelude.{◌==◌, nat_lt, Option, Some, Result, Ok, Err}
-use Rattle.std.specs.Io.KnownBytes.{Appends}
-use Rattle.std.proofs.KnownBytes.{Appends-nil}
-use Rattle.std.proofs.lemmas.Bool.Decides.{nat_tests}
-use Rattle.std.proofs.lemmas.List.{append-nil}
-use Rattle.im_types.specs.declared.TheConstants.{MAX_GROUP}
-use Rattle.im_types.specs.declared.commands.Command.{Command}
-use Rattle.im_types.specs.declared.commands.Outcome.{Outcome}
-use Rattle.im_types.specs.declared.groups.Served.{Served}
-use Rattle.im_types.specs.declared.refusals.Refusal.{Refusal}
-use Rattle.im_types.specs.declared.refusals.Refusal.TheVariants.{JournalFull}
-use Rattle.im_types.specs.Contents.{Contents}
-use Rattle.im_types.specs.Step.{step, is_accepted}
-use Rattle.im_types.specs.Run.{after}
-use Rattle.im_laws.proofs.RunLemmas.{after-append}
-use Rattle.im_laws.proofs.Tests.{true_or_false}
-use Rattle.im_groups.specs.Commands.{places, takes_place, answer_with, contents_with, places_behind, command_at}
-use Rattle.im_groups.specs.Commands.{contents_after_all, commands_at, left_after}
+use Rattle.std.proofs.Common.{◌≡◌, ℕ, zero, suc, ◌+◌, ◌-◌, ◌<◌, ◌≤◌, Bool, true, false, ◌&&◌, List, [], ◌∷◌, ◌++◌}
+use Rattle.std.proofs.Common.{length, if◌then◌else◌, nat_lt, ◌==◌, Some, Ok, Err, Option, Result, sym, refl, ap, ◌∙◌}
+use Rattle.std.proofs.Common.{subst, ap₂, inl, ⊎_elim, append-nil, arith, length-append}
+use Rattle.std.{proofs.KnownBytes.Appends-nil, proofs.lemmas.Bool.Decides.nat_tests, specs.Io.KnownBytes.Appends}
+use Rattle.im_types.specs.Types.{Command, Outcome, Served, Refusal, JournalFull, MAX_GROUP, LAST, Contents, step}
+use Rattle.im_types.specs.Types.{is_accepted, after}
+use Rattle.im_laws.proofs.{RunLemmas.after-append, Tests.true_or_false}
 use Rattle.im_groups.proofs.CommandLemmas.{at-after, commands_behind, few_at}
-use Rattle.im_text.specs.Printing.{Begins}
-use Rattle.im_text.proofs.PrintingLemmas.{true_false}
-use Rattle.im_engine.specs.State.{EngineState}
-use Rattle.im_engine.specs.Commands.{commands_put, after_commands, answers_in_turn, CommandsAnswered}
-use Rattle.im_engine.proofs.Accepting.{accepted_answers}
-use Rattle.im_session.specs.Kept.{SessionState, session_of}
-use Rattle.im_session.specs.Put.{sure_by, sure_of, doubted_of}
-use Rattle.im_session.specs.Serving.{served_together}
-use Rattle.im_dialogue.specs.declared.asking.Question.{Question}
+use Rattle.im_groups.specs.Commands.{answer_with, command_at, commands_at, contents_after_all, contents_with}
+use Rattle.im_groups.specs.Commands.{left_after, places, places_behind, takes_place}
+use Rattle.im_engine.{proofs.Accepting.accepted_answers, specs.State.EngineState}
+use Rattle.im_engine.specs.Commands.{after_commands, answers_in_turn, commands_put, CommandsAnswered}
+use Rattle.im_turning.specs.Turning.{Point, point_of, TurnsLead, with_one}
+use Rattle.im_session.specs.{Kept.session_of, Kept.SessionState, Serving.served_together}
+use Rattle.im_session.specs.Put.{doubted_of, sure_by, sure_of}
+use Rattle.im_text.{proofs.PrintingLemmas.true_false, specs.Printing.Begins}
+use Rattle.im_dialogue.proofs.{ReachLemmas.contents_behind, TalkLemmas.ended_here, TalkLemmas.Left}
+use Rattle.im_dialogue.specs.{Answers.answer_text, Asking.asked_of, Backups.Backup, declared.asking.Question.Question}
+use Rattle.im_dialogue.specs.{Hearing.Hears, Hearing.HearsSome, Telling.SaysAll, Watching.watch_text}
+use Rattle.im_dialogue.specs.declared.answers.LineAnswer.{LineAnswer, TheVariants.Served as ServedAs}
+use Rattle.im_dialogue.specs.Talk.{AnswersQuestion, backups_of, Exchange, exchange_at, Halts, HasSaid, IsOutcomeOf}
+use Rattle.im_dialogue.specs.Talk.{outputs, point_behind, put_of, questions_of, stands_behind, TalkEnds, TalksOn}
+use Rattle.im_dialogue.specs.Talk.{texts_of, with_left}
+use Rattle.im_dialogue.specs.Together.{group_start, GroupStart, IsKnownBehind, memory_between, places_between}
+use Rattle.im_dialogue.specs.Together.{point_between}
 use Rattle.im_dialogue.specs.declared.asking.Question.TheVariants as asks
-use Rattle.im_dialogue.specs.declared.answers.LineAnswer.{LineAnswer}
-use Rattle.im_dialogue.specs.declared.answers.LineAnswer.TheVariants.{Served as ServedAs}
-use Rattle.im_dialogue.specs.Answers.{answer_text}
-use Rattle.im_dialogue.specs.Asking.{asked_of}
-use Rattle.im_dialogue.specs.Watching.{watch_text}
-use Rattle.im_dialogue.specs.Together.{IsKnownBehind, GroupStart, group_start, memory_between}
-use Rattle.im_dialogue.specs.Together.{places_between, point_between}
-use Rattle.im_turning.specs.Turning.{Point, TurnsLead, point_of, with_one}
-use Rattle.im_types.specs.declared.TheConstants.{LAST}
-use Rattle.im_dialogue.specs.Telling.{SaysAll}
-use Rattle.im_dialogue.specs.Backups.{Backup}
-use Rattle.im_dialogue.specs.Talk.{Exchange, IsOutcomeOf, AnswersQuestion, exchange_at, point_behind, put_of}
-use Rattle.im_dialogue.specs.Talk.{stands_behind, texts_of}
-use Rattle.im_dialogue.specs.Hearing.{Hears, HearsSome}
-use Rattle.im_dialogue.specs.Talk.{HasSaid, Halts, TalksOn, TalkEnds, backups_of, outputs, questions_of}
-use Rattle.im_dialogue.specs.Talk.{with_left}
-use Rattle.im_dialogue.proofs.TalkLemmas.{Left, ended_here}
-use Rattle.im_dialogue.proofs.ReachLemmas.{contents_behind}
 
 second : (a b : Bool) → (a && b) ≡ true → b ≡ true
 second true b is = is

@@ -1,7 +1,6 @@
 -- Of a line no more than a bound is kept. (Own.)
-use Rattle.std.proofs.Common.{◌≡◌, ◌∙◌, ℕ, ◌+◌, ◌-◌, ◌≤◌, List, ◌++◌, arith, ap, sym, length, length-append, take}
-use Rattle.std.proofs.lemmas.List.{take_all}
-use Rattle.std.specs.Prelude.{Result, Ok, Err, OnOk, is_ok, if◌then◌else◌}
+use Rattle.std.proofs.Common.{◌≡◌, ℕ, ◌+◌, ◌-◌, ◌≤◌, List, ◌++◌, length, take, is_ok, if◌then◌else◌, OnOk, Ok, Err}
+use Rattle.std.proofs.Common.{Result, sym, ap, ◌∙◌, arith, length-append, take_all}
 use lib.Seq.{take-append-add}
 
 -- what fits is kept whole

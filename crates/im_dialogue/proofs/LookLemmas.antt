@@ -1,51 +1,28 @@
 -- What a command leaves of what lines show that only look.
-use Rattle.std.proofs.Common.{◌≡◌, ◌≢◌, ◌∙◌, ◌⊎◌, inl, inr, ⊎_elim, ℕ, zero, suc, ◌+◌, ◌-◌, Bool, true, false}
-use Rattle.std.proofs.Common.{cond, List, [], ◌∷◌, refl, sym, ap, subst, arith, if◌then◌else◌}
-use Rattle.std.specs.Prelude.{◌==◌, ◌&&◌, ◌||◌, nat_lt, slice_get, option_map, option_and_then, Option, None, Some}
-use Rattle.std.specs.Prelude.{Result, Ok, Err}
-use Rattle.std.specs.List.{list_any}
-use Rattle.std.proofs.lemmas.Bool.Decides.{nat_tests}
-use Rattle.im_types.specs.declared.operations.Op.{Op}
-use Rattle.im_types.specs.declared.operations.Op.TheVariants.{Alloc, Release, Reset, Fetch, Store, Take, Put}
-use Rattle.im_types.specs.declared.operations.Kind.{Kind}
-use Rattle.im_types.specs.declared.operations.Kind.TheVariants.{I, M}
-use Rattle.im_types.specs.declared.operations.Reply.{Reply}
-use Rattle.im_types.specs.declared.operations.Entry.{Entry}
-use Rattle.im_types.specs.declared.operations.Entry.TheVariants.{Answered}
-use Rattle.im_types.specs.declared.operations.Waiter.{Waiter}
-use Rattle.im_types.specs.declared.operations.Kept.{Kept}
-use Rattle.im_types.specs.declared.commands.Request.{Request}
-use Rattle.im_types.specs.declared.commands.Command.{Command}
-use Rattle.im_types.specs.declared.commands.Command.TheVariants.{Request as Asks, Confirm}
-use Rattle.im_types.specs.declared.commands.Judged.TheVariants.{Fresh}
-use Rattle.im_types.specs.declared.refusals.Refusal.{Refusal}
-use Rattle.im_types.specs.declared.refusals.Refusal.TheVariants.{Gap, Forgotten}
-use Rattle.im_types.specs.Contents.{Held, Window, Contents, held_at, kept_under, kept_for, waiters_in}
-use Rattle.im_types.specs.Window.{answer, answer_at, answer_each, answer_in, ask, ask_number, ask_window, bounds}
-use Rattle.im_types.specs.Window.{bounds_of, confirm_window, is_waiting, judge, next_number, note}
-use Rattle.im_types.specs.Act.{act}
-use Rattle.im_types.specs.Step.{asker, step, step_confirm, step_request, is_accepted}
-use Rattle.im_types.specs.Memory.{IsMemory}
-use Rattle.im_types.specs.Agreement.{StaysOrIsAnswered, address_of, awaiting, same_waiter, times, waits_in}
+use Rattle.std.proofs.Common.{◌≡◌, ℕ, zero, suc, ◌+◌, ◌-◌, Bool, true, false, cond, ◌&&◌, ◌||◌, ◌≢◌, ◌⊎◌, List, [], ◌∷◌}
+use Rattle.std.proofs.Common.{if◌then◌else◌, nat_lt, ◌==◌, slice_get, Some, None, Ok, Err, Option, Result, option_map}
+use Rattle.std.proofs.Common.{option_and_then, sym, refl, ap, ◌∙◌, subst, inl, inr, ⊎_elim, arith}
+use Rattle.std.{proofs.lemmas.Bool.Decides.nat_tests, specs.List.list_any}
+use Rattle.im_types.specs.Types.{Entry, Kind, Op, Reply, Waiter, Kept, Answered, I, M, Alloc, Release, Reset, Fetch}
+use Rattle.im_types.specs.Types.{Store, Take, Put, Request, Command, Asks, Confirm, Fresh, Refusal, Gap, Forgotten}
+use Rattle.im_types.specs.Types.{Held, Window, Contents, held_at, waiters_in, kept_under, kept_for, IsMemory}
+use Rattle.im_types.specs.Types.{same_waiter, times, awaiting, waits_in, address_of, StaysOrIsAnswered, act}
+use Rattle.im_types.specs.Types.{next_number, judge, note, answer_at, answer_in, answer, answer_each, is_waiting}
+use Rattle.im_types.specs.Types.{confirm_window, ask_number, ask_window, ask, bounds_of, bounds, asker, step_request}
+use Rattle.im_types.specs.Types.{step_confirm, step, is_accepted}
+use Rattle.im_laws.proofs.AcceptLemmas.{accepted-fresh, accepted-moves_base, accepted-takes_next, confirm-confirms}
+use Rattle.im_laws.proofs.AcceptLemmas.{Confirms}
+use Rattle.im_laws.proofs.AgreementLemmas.{IsQuiet, same_op-awaiting, same_waiter-equal, waits_in-quiet}
+use Rattle.im_laws.proofs.{BoundsLemmas.slice_get-with_window, CellLemmas.act-other, MemoryLemmas.step-memory}
+use Rattle.im_laws.proofs.{RunAgrees.confirmed_stays, StepLemmas.IsNext, StepLemmas.judge-fresh}
+use Rattle.im_laws.proofs.StepAgrees.{act-agrees, AgreesAfter}
 use Rattle.im_laws.proofs.Tests.{and_both, below_or_from, eq_by_test, or_left, or_right, test-self, true_false}
 use Rattle.im_laws.proofs.WindowLemmas.{kept_for-here, kept_for-note, kept_for-set, kept_under-below}
-use Rattle.im_laws.proofs.BoundsLemmas.{slice_get-with_window}
-use Rattle.im_laws.proofs.AgreementLemmas.{IsQuiet, same_op-awaiting, waits_in-quiet}
-use Rattle.im_laws.proofs.StepLemmas.{IsNext, judge-fresh}
-use Rattle.im_laws.proofs.AcceptLemmas.{Confirms, accepted-fresh, accepted-moves_base, accepted-takes_next}
-use Rattle.im_laws.proofs.AcceptLemmas.{confirm-confirms}
-use Rattle.im_laws.proofs.MemoryLemmas.{step-memory}
-use Rattle.im_laws.proofs.RunAgrees.{confirmed_stays}
-use Rattle.im_laws.specs.Cells.{MayChange}
-use Rattle.im_laws.specs.Windows.{TakesNextNumber}
+use Rattle.im_laws.specs.{Cells.MayChange, Windows.TakesNextNumber}
 use Rattle.im_groups.specs.Commands.{contents_after_all, contents_with, places_behind}
-use Rattle.im_laws.proofs.StepAgrees.{AgreesAfter, act-agrees}
-use Rattle.im_laws.proofs.CellLemmas.{act-other}
-use Rattle.im_laws.proofs.AgreementLemmas.{same_waiter-equal}
-use Rattle.im_dialogue.specs.Watching.{is_quiet}
-use Rattle.im_dialogue.specs.Looks.{op_waits_at, kept_waits_at, asks_at, may_wait, may_answer, may_change}
-use Rattle.im_dialogue.specs.Showing.{recall, recalled}
 use Rattle.im_dialogue.proofs.WatchLemmas.{quiet_resumes}
+use Rattle.im_dialogue.specs.Looks.{asks_at, kept_waits_at, may_answer, may_change, may_wait, op_waits_at}
+use Rattle.im_dialogue.specs.{Showing.recall, Showing.recalled, Watching.is_quiet}
 
 -- ---- where nothing is kept, an answer leaves nothing
 

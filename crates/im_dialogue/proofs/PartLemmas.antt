@@ -1,48 +1,30 @@
 -- The parts of a group: how it grows, and how its answers are told.
-use Rattle.std.proofs.Common.{◌≡◌, ◌∙◌, ℕ, zero, suc, ◌+◌, ◌-◌, ◌<◌, ◌≤◌, Bool, false, List, [], ◌∷◌}
-use Rattle.std.proofs.Common.{◌++◌, length, map, take, refl, sym, ap, subst, append_assoc, length-append, arith}
-use Rattle.std.proofs.lemmas.Bool.Decides.{nat_tests}
-use Rattle.std.specs.Prelude.{◌==◌, ◌||◌, nat_le, true, option_map, MatchOption, Option, Some, None, Result, Ok, Err}
-use Rattle.std.specs.List.{list_any}
-use Rattle.std.proofs.lemmas.List.{append-nil, take_all}
-use Rattle.im_dialogue.specs.Hearing.{Hears, HearsSome}
-use Rattle.im_types.specs.declared.TheConstants.{MAX_GROUP}
-use Rattle.im_types.specs.declared.operations.Waiter.{Waiter}
-use Rattle.im_types.specs.declared.commands.Command.{Command}
-use Rattle.im_types.specs.declared.commands.Outcome.{Outcome}
-use Rattle.im_types.specs.declared.groups.Served.{Served}
-use Rattle.im_types.specs.declared.refusals.Refusal.{Refusal}
-use Rattle.im_types.specs.Contents.{Contents, Held, held_at}
-use Rattle.im_types.specs.Groups.{as_served}
-use Rattle.im_types.specs.Memory.{IsMemory}
+use Rattle.std.proofs.Common.{◌≡◌, ℕ, zero, suc, ◌+◌, ◌-◌, ◌<◌, ◌≤◌, Bool, true, false, ◌||◌, List, [], ◌∷◌, ◌++◌, map}
+use Rattle.std.proofs.Common.{length, take, nat_le, ◌==◌, Some, None, Ok, Err, Option, Result, MatchOption, option_map}
+use Rattle.std.proofs.Common.{sym, refl, ap, ◌∙◌, subst, append_assoc, append-nil, arith, length-append, take_all}
+use Rattle.std.{proofs.lemmas.Bool.Decides.nat_tests, specs.List.list_any}
+use Rattle.im_types.specs.Types.{Waiter, Command, Outcome, Served, Refusal, MAX_GROUP, Held, Contents, held_at}
+use Rattle.im_types.specs.Types.{IsMemory, as_served}
 use Rattle.im_laws.proofs.Tests.{or_left, or_right, true_false}
-use Rattle.im_groups.specs.Commands.{answer_with, answers_with, contents_with}
-use Rattle.im_groups.specs.Commands.{places_behind}
-use Rattle.im_groups.proofs.CommandLemmas.{left_behind}
-use Rattle.im_session.specs.Serving.{served_answer}
-use Rattle.im_dialogue.specs.declared.asking.Question.{Question}
-use Rattle.im_dialogue.specs.declared.asking.Question.TheVariants as asks
-use Rattle.im_dialogue.specs.declared.answers.LineAnswer.{LineAnswer}
-use Rattle.im_dialogue.specs.declared.answers.LineAnswer.TheVariants as answer
-use Rattle.im_dialogue.specs.declared.group_line.GroupLine.{GroupLine}
-use Rattle.im_dialogue.specs.declared.group_line.GroupLine.TheVariants.{Member, Known}
-use Rattle.im_dialogue.specs.declared.group_line.GroupLine.TheVariants as line
-use Rattle.im_dialogue.specs.declared.look.Look.{Look}
-use Rattle.im_dialogue.specs.declared.look.Look.TheVariants.{Collect, Entry, Cell, Block, Stat, Help}
-use Rattle.im_dialogue.specs.Answers.{answer_text, kept_line, look_text, recalled_line}
-use Rattle.im_dialogue.specs.Looks.{may_alter, may_change, may_reach}
-use Rattle.im_dialogue.specs.Showing.{block_said, cell_said, recall}
-use Rattle.im_dialogue.specs.Together.{LineAsksFor, GroupStart, memory_between, places_between}
-use Rattle.im_dialogue.specs.Together.{with_member, members_in}
-use Rattle.im_dialogue.specs.Together.{disturbs, LeavesShown, IsKnownBehind, IsGroupLine, StandTogether, MayBeServed}
-use Rattle.im_dialogue.specs.Together.{MayStandNext, line_answer, answers_behind, part_question, question_of}
-use Rattle.im_dialogue.specs.Watching.{told_with}
-use Rattle.im_dialogue.specs.Telling.{SaysAll, WasServed}
-use Rattle.im_dialogue.proofs.GroupTalk.{left_and_put, put_few, told_none, told_member, told_shown}
-use Rattle.im_dialogue.proofs.HearingLemmas.{heard_some}
-use Rattle.im_dialogue.proofs.TalkLemmas.{Left}
+use Rattle.{im_groups.proofs.CommandLemmas.left_behind, im_session.specs.Serving.served_answer}
+use Rattle.im_groups.specs.Commands.{answer_with, answers_with, contents_with, places_behind}
+use Rattle.im_dialogue.proofs.GroupTalk.{left_and_put, put_few, told_member, told_none, told_shown}
+use Rattle.im_dialogue.proofs.{HearingLemmas.heard_some, TalkLemmas.Left}
 use Rattle.im_dialogue.proofs.LookLemmas.{ask_recalls, entry_of, may_change_there, recall_with}
 use Rattle.im_dialogue.proofs.ReachLemmas.{after_memory, cell_after, contents_behind}
+use Rattle.im_dialogue.specs.Answers.{answer_text, kept_line, look_text, recalled_line}
+use Rattle.im_dialogue.specs.declared.{answers.LineAnswer.LineAnswer, asking.Question.Question, look.Look.Look}
+use Rattle.im_dialogue.specs.declared.group_line.GroupLine.{GroupLine, TheVariants.Known, TheVariants.Member}
+use Rattle.im_dialogue.specs.declared.look.Look.TheVariants.{Block, Cell, Collect, Entry, Help, Stat}
+use Rattle.im_dialogue.specs.{Hearing.Hears, Hearing.HearsSome, Telling.SaysAll, Telling.WasServed, Watching.told_with}
+use Rattle.im_dialogue.specs.Looks.{may_alter, may_change, may_reach}
+use Rattle.im_dialogue.specs.Showing.{block_said, cell_said, recall}
+use Rattle.im_dialogue.specs.Together.{answers_behind, disturbs, GroupStart, IsGroupLine, IsKnownBehind, LeavesShown}
+use Rattle.im_dialogue.specs.Together.{line_answer, LineAsksFor, MayBeServed, MayStandNext, members_in, memory_between}
+use Rattle.im_dialogue.specs.Together.{part_question, places_between, question_of, StandTogether, with_member}
+use Rattle.im_dialogue.specs.declared.asking.Question.TheVariants as asks
+use Rattle.im_dialogue.specs.declared.answers.LineAnswer.TheVariants as answer
+use Rattle.im_dialogue.specs.declared.group_line.GroupLine.TheVariants as line
 
 -- ---- a group grows
 

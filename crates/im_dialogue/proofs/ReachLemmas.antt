@@ -1,35 +1,18 @@
 -- What the members of a group leave of a cell, and of a request that nobody asked yet.
-use Rattle.std.proofs.Common.{◌≡◌, ◌∙◌, ⊎_elim, ℕ, Bool, true, false, List, [], ◌∷◌, ◌++◌}
-use Rattle.std.proofs.Common.{refl, sym, ap, if◌then◌else◌}
-use Rattle.std.specs.Prelude.{◌==◌, ◌&&◌, Option, None, Some, Result, Ok, Err}
+use Rattle.std.proofs.Common.{◌≡◌, ℕ, Bool, true, false, ◌&&◌, List, [], ◌∷◌, ◌++◌, if◌then◌else◌, ◌==◌, Some, None, Ok}
+use Rattle.std.proofs.Common.{Err, Option, Result, sym, refl, ap, ◌∙◌, ⊎_elim}
 use Rattle.std.specs.List.{list_any}
-use Rattle.im_types.specs.declared.operations.Op.{Op}
-use Rattle.im_types.specs.declared.operations.Op.TheVariants.{Alloc, Release, Reset, Fetch, Store, Take, Put}
-use Rattle.im_types.specs.declared.operations.Kind.{Kind}
-use Rattle.im_types.specs.declared.operations.Reply.TheVariants.{WrongKind}
-use Rattle.im_types.specs.declared.operations.Waiter.{Waiter}
-use Rattle.im_types.specs.declared.commands.Request.{Request}
-use Rattle.im_types.specs.declared.commands.Command.{Command}
-use Rattle.im_types.specs.declared.commands.Command.TheVariants.{Request as Asks, Confirm}
-use Rattle.im_types.specs.declared.commands.Judged.{Judged}
-use Rattle.im_types.specs.declared.commands.Judged.TheVariants.{Fresh, Repeat}
-use Rattle.im_types.specs.declared.commands.Outcome.{Outcome}
-use Rattle.im_types.specs.declared.refusals.Refusal.{Refusal}
-use Rattle.im_types.specs.declared.refusals.Refusal.TheVariants.{JournalFull}
-use Rattle.im_types.specs.Contents.{CellState, Held, Window, Contents, held_at, kept_for}
-use Rattle.im_types.specs.Window.{confirm_window, judge, note}
-use Rattle.im_types.specs.Act.{Served, act, at_cell, same_kind, serve_cell, only_tells}
-use Rattle.im_types.specs.Step.{asker, step, step_confirm, step_request, is_accepted, is_fresh}
-use Rattle.im_types.specs.Memory.{IsMemory}
-use Rattle.im_laws.specs.Cells.{MayChange}
+use Rattle.im_types.specs.Types.{Kind, Op, Waiter, Alloc, Release, Reset, Fetch, Store, Take, Put, WrongKind, Request}
+use Rattle.im_types.specs.Types.{Command, Outcome, Judged, Asks, Confirm, Fresh, Repeat, Refusal, JournalFull}
+use Rattle.im_types.specs.Types.{CellState, Held, Window, Contents, held_at, kept_for, IsMemory, ServedCell as Served}
+use Rattle.im_types.specs.Types.{only_tells, same_kind, serve_cell, at_cell, act, judge, note, confirm_window, asker}
+use Rattle.im_types.specs.Types.{step_request, step_confirm, step, is_fresh, is_accepted}
+use Rattle.im_laws.{proofs.AcceptLemmas.accepted-fresh, specs.Cells.MayChange}
+use Rattle.im_laws.proofs.{CellLemmas.step-other, EntryLemmas.judge-repeat, StepLemmas.judge-fresh}
 use Rattle.im_laws.proofs.Tests.{or_left, or_right, some_none, test-self, true_false}
-use Rattle.im_laws.proofs.StepLemmas.{judge-fresh}
-use Rattle.im_laws.proofs.AcceptLemmas.{accepted-fresh}
-use Rattle.im_laws.proofs.CellLemmas.{step-other}
-use Rattle.im_laws.proofs.EntryLemmas.{judge-repeat}
 use Rattle.im_groups.specs.Commands.{answer_with, contents_after_all, contents_with, left_after, places_behind}
-use Rattle.im_dialogue.specs.Looks.{asks_for, may_reach, reaches}
 use Rattle.im_dialogue.proofs.LookLemmas.{confirm_leaves, none_answers, noted, with_either, with_memory}
+use Rattle.im_dialogue.specs.Looks.{asks_for, may_reach, reaches}
 
 -- ---- a member more behind others
 

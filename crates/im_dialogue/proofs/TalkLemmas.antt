@@ -1,50 +1,31 @@
 -- What was said over a session, line by line.
-use Rattle.std.proofs.Common.{◌≡◌, ◌∙◌, inl, inr, ⊎_elim, ℕ, suc, ◌+◌, ◌≤◌, Bool, false, List, [], ◌∷◌, ◌++◌, length}
-use Rattle.std.proofs.Common.{take, refl, sym, ap, ap₂, subst, append_assoc, length-append, arith, ◌&&◌, true}
-use Rattle.std.proofs.Common.{if◌then◌else◌}
-use Rattle.std.specs.Prelude.{IfSome, Option, Some, None, Result, Ok, Err, MatchResult, OnOk}
-use Rattle.std.specs.Io.KnownBytes.{Appends}
-use Rattle.std.proofs.KnownBytes.{Appends-nil, Appends-trans}
-use Rattle.std.proofs.lemmas.List.{append-nil}
-use Rattle.im_text.specs.Printing.{Begins}
-use Rattle.im_text.proofs.PrintingLemmas.{true_false}
-use Rattle.im_dialogue.specs.Answers.{answer_text}
-use Rattle.im_dialogue.specs.Watching.{watch_text}
-use Rattle.im_types.specs.declared.TheConstants.{MAX_GROUP}
-use Rattle.im_types.specs.declared.commands.Command.{Command}
-use Rattle.im_types.specs.declared.commands.Outcome.{Outcome}
-use Rattle.im_types.specs.declared.refusals.Refusal.{Refusal}
-use Rattle.im_types.specs.declared.refusals.Refusal.TheVariants.{Device, JournalFull}
-use Rattle.im_types.specs.Contents.{Contents}
-use Rattle.im_types.specs.Step.{step, is_accepted}
-use Rattle.im_types.specs.Run.{after}
-use Rattle.im_laws.proofs.RunLemmas.{after-append}
-use Rattle.im_laws.proofs.Tests.{true_or_false}
-use Rattle.im_checkpoint.specs.declared.checkpoint.TurnDone.{TurnDone}
-use Rattle.im_checkpoint.proofs.Fitting.{none_or_some}
-use Rattle.im_engine.specs.State.{EngineState, with_command}
-use Rattle.im_engine.specs.Answered.{Answered, TurnAnswered, is_device}
-use Rattle.im_engine.proofs.Accepting.{accepted_answers}
-use Rattle.im_session.specs.Kept.{SessionState, session_of}
-use Rattle.im_session.specs.Put.{doubted_by, sure_by}
-use Rattle.im_session.specs.Serving.{Rests, served_one}
+use Rattle.std.proofs.Common.{◌≡◌, ℕ, suc, ◌+◌, ◌≤◌, Bool, true, false, ◌&&◌, List, [], ◌∷◌, ◌++◌, length, take, IfSome}
+use Rattle.std.proofs.Common.{if◌then◌else◌, OnOk, Some, None, Ok, Err, Option, Result, MatchResult, sym, refl, ap, ◌∙◌}
+use Rattle.std.proofs.Common.{subst, ap₂, inl, inr, ⊎_elim, append_assoc, append-nil, arith, length-append}
+use Rattle.std.{proofs.KnownBytes.Appends-nil, proofs.KnownBytes.Appends-trans, specs.Io.KnownBytes.Appends}
+use Rattle.im_types.specs.Types.{Command, Outcome, Refusal, JournalFull, Device, MAX_GROUP, Contents, step, is_accepted}
+use Rattle.im_types.specs.Types.{after}
+use Rattle.im_laws.proofs.{RunLemmas.after-append, Tests.true_or_false}
+use Rattle.im_checkpoint.{proofs.Fitting.none_or_some, specs.declared.TurnDone.TurnDone}
+use Rattle.im_engine.{proofs.Accepting.accepted_answers, specs.State.EngineState, specs.State.with_command}
+use Rattle.im_engine.specs.Answered.{Answered, is_device, TurnAnswered}
+use Rattle.{im_turning.proofs.TurningLemmas.turn_leads, im_session.proofs.ServedLemmas.undoubted}
+use Rattle.{im_session.proofs.ServedLemmas.unsure, im_session.specs.Kept.session_of, im_session.specs.Kept.SessionState}
+use Rattle.im_turning.specs.Turning.{HasMadeRoom, IsSpent, Point, point_of, TurnsLead}
 use Rattle.im_session.proofs.RoomLemmas.{rests_none, rests_then, turn_works}
-use Rattle.im_session.proofs.ServedLemmas.{undoubted, unsure}
-use Rattle.im_dialogue.specs.declared.asking.Question.{Question}
-use Rattle.im_dialogue.specs.declared.asking.Question.TheVariants as asks
-use Rattle.im_dialogue.specs.declared.answers.LineAnswer.{LineAnswer}
-use Rattle.im_dialogue.specs.declared.answers.LineAnswer.TheVariants.{Served, Turned}
-use Rattle.im_dialogue.specs.Asking.{asked_of}
-use Rattle.im_dialogue.specs.Backups.{Backup}
-use Rattle.im_turning.specs.Turning.{HasMadeRoom, IsSpent, Point, TurnsLead, point_of}
-use Rattle.im_turning.proofs.TurningLemmas.{turn_leads}
-use Rattle.im_dialogue.specs.Hearing.{Hears, HearsSome, is_quit, questions_left}
-use Rattle.im_dialogue.specs.Talk.{AnswersQuestion, AreAnswered, AreKept, Exchange, IsOutcomeOf, Outputs}
-use Rattle.im_dialogue.specs.Talk.{HasEnded, HasSaid, Halts, OnlyTurned, SaysLine, SaysNow, TalkEnds, Talking, TalksOn}
-use Rattle.im_dialogue.specs.Talk.{backup_by, backups_of, exchange_at, is_end, outputs, point_behind}
-use Rattle.im_dialogue.specs.Talk.{put_by, put_of, questions_of, stands_behind, texts_of, with_left}
-use Rattle.im_dialogue.proofs.HearingLemmas.{hears_as, hears_none, hears_on, hears_some_on, heard_some, none_heard}
+use Rattle.im_session.specs.{Put.doubted_by, Put.sure_by, Serving.Rests, Serving.served_one}
+use Rattle.im_text.{proofs.PrintingLemmas.true_false, specs.Printing.Begins}
+use Rattle.im_dialogue.proofs.HearingLemmas.{heard_some, hears_as, hears_none, hears_on, hears_some_on, none_heard}
 use Rattle.im_dialogue.proofs.HearingLemmas.{on_default, same_left}
+use Rattle.im_dialogue.specs.Answers.{answer_text}
+use Rattle.im_dialogue.specs.{Asking.asked_of, Backups.Backup, declared.asking.Question.Question, Watching.watch_text}
+use Rattle.im_dialogue.specs.declared.answers.LineAnswer.{LineAnswer, TheVariants.Served, TheVariants.Turned}
+use Rattle.im_dialogue.specs.Hearing.{Hears, HearsSome, is_quit, questions_left}
+use Rattle.im_dialogue.specs.Talk.{AnswersQuestion, AreAnswered, AreKept, backup_by, backups_of, Exchange, exchange_at}
+use Rattle.im_dialogue.specs.Talk.{Halts, HasEnded, HasSaid, is_end, IsOutcomeOf, OnlyTurned, Outputs, outputs}
+use Rattle.im_dialogue.specs.Talk.{point_behind, put_by, put_of, questions_of, SaysLine, SaysNow, stands_behind}
+use Rattle.im_dialogue.specs.Talk.{TalkEnds, Talking, TalksOn, texts_of, with_left}
+use Rattle.im_dialogue.specs.declared.asking.Question.TheVariants as asks
 
 -- what an input still asks for, where that is known
 abbrev pub Left : Type 0

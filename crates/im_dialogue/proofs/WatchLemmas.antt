@@ -1,32 +1,18 @@
 -- What is told of those that waited.
-use Rattle.std.proofs.Common.{◌≡◌, ◌∙◌, ℕ, Bool, true, false, List, [], ◌++◌, take, drop, refl, sym, ap, subst}
-use Rattle.std.proofs.Common.{if◌then◌else◌}
-use Rattle.std.specs.Prelude.{◌==◌, Option, None, Some, Result, Ok, Err}
+use Rattle.std.proofs.Common.{◌≡◌, ℕ, Bool, true, false, List, [], ◌++◌, take, drop, if◌then◌else◌, ◌==◌, Some, None}
+use Rattle.std.proofs.Common.{Ok, Err, Option, Result, sym, refl, ap, ◌∙◌, subst}
 use Rattle.std.specs.List.{list_any}
-use Rattle.im_types.specs.declared.operations.Op.{Op}
-use Rattle.im_types.specs.declared.operations.Op.TheVariants.{Alloc, Release, Reset, Fetch, Store, Take, Put}
-use Rattle.im_types.specs.declared.operations.Kind.{Kind}
-use Rattle.im_types.specs.declared.operations.Kind.TheVariants.{I, M}
-use Rattle.im_types.specs.declared.operations.Reply.{Reply}
-use Rattle.im_types.specs.declared.operations.Reply.TheVariants.{BadLength, WrongKind, Released, Cleared, StillWaiting}
-use Rattle.im_types.specs.declared.operations.Entry.TheVariants.{Answered}
-use Rattle.im_types.specs.declared.operations.Waiter.{Waiter}
-use Rattle.im_types.specs.declared.operations.Block.{Block}
-use Rattle.im_types.specs.declared.commands.Outcome.{Outcome}
-use Rattle.im_types.specs.declared.refusals.Refusal.{Refusal}
-use Rattle.im_types.specs.Contents.{CellState, Empty, Full, Clashed, Held, Contents, held_at}
-use Rattle.im_types.specs.Place.{place, fill, change_each}
-use Rattle.im_types.specs.Act.{Served, act, at_cell, allocate_at, unless_waited_for, emptied, block_with_base, is_waiting_cell, fetch, take_from, same_kind, serve_cell, only_tells}
-use Rattle.im_dialogue.specs.declared.asking.Question.{Question}
+use Rattle.im_types.specs.Types.{Kind, Op, Reply, Waiter, Block, Answered, I, M, Alloc, Release, Reset, Fetch, Store}
+use Rattle.im_types.specs.Types.{Take, Put, BadLength, WrongKind, Released, StillWaiting, Cleared, Outcome, Refusal}
+use Rattle.im_types.specs.Types.{CellState, Empty, Full, Clashed, Held, Contents, held_at, place, fill, change_each}
+use Rattle.im_types.specs.Types.{ServedCell as Served, fetch, take_from, only_tells, same_kind, serve_cell, at_cell}
+use Rattle.im_types.specs.Types.{allocate_at, block_with_base, is_waiting_cell, unless_waited_for, emptied, act}
+use Rattle.{im_checkpoint.specs.declared.TurnDone.TurnDone, im_turning.specs.Turning.Point}
+use Rattle.im_dialogue.specs.{Answers.answer_text, Talk.AnswersQuestion}
+use Rattle.im_dialogue.specs.declared.answers.LineAnswer.{LineAnswer, TheVariants.Served as ServedAs}
+use Rattle.im_dialogue.specs.declared.{asking.Question.Question, look.Look.Look}
+use Rattle.im_dialogue.specs.Watching.{is_quiet, told_by, told_with, watch_text}
 use Rattle.im_dialogue.specs.declared.asking.Question.TheVariants as asks
-use Rattle.im_dialogue.specs.declared.answers.LineAnswer.{LineAnswer}
-use Rattle.im_dialogue.specs.declared.answers.LineAnswer.TheVariants.{Served as ServedAs}
-use Rattle.im_dialogue.specs.Watching.{watch_text, is_quiet, told_by, told_with}
-use Rattle.im_dialogue.specs.declared.look.Look.{Look}
-use Rattle.im_dialogue.specs.Answers.{answer_text}
-use Rattle.im_checkpoint.specs.declared.checkpoint.TurnDone.{TurnDone}
-use Rattle.im_turning.specs.Turning.{Point}
-use Rattle.im_dialogue.specs.Talk.{AnswersQuestion}
 
 -- ---- who is resumed
 

@@ -1,17 +1,10 @@
 -- Two dialogues on images that mean one memory: what is compared of them. (Own.)
-use Rattle.std.specs.Prelude.{◌≡◌, ℕ, Bool, true, false, List, [], ◌∷◌, ◌++◌, All, Option, Some, Err}
-use Rattle.im_types.specs.declared.commands.Command.{Command}
-use Rattle.im_types.specs.declared.refusals.Refusal.TheVariants.{JournalFull}
-use Rattle.im_types.specs.Contents.{Contents}
-use Rattle.im_types.specs.Meaning.{Means}
-use Rattle.im_disk.specs.declared.disk.Disk.{Ghosts}
-use Rattle.im_disk.specs.Since.{LeavesNow}
-use Rattle.im_dialogue.specs.declared.asking.Question.{Question}
+use Rattle.std.specs.Prelude.{◌≡◌, ℕ, Bool, true, false, List, [], ◌∷◌, ◌++◌, Some, Err, All, Option}
+use Rattle.im_types.specs.Types.{Command, JournalFull, Contents, Means}
+use Rattle.im_disk.specs.{declared.Disk.Ghosts, Since.LeavesNow}
+use Rattle.im_dialogue.specs.{Asking.asked_of, Dialogue.Talked, Talk.Exchange, Talk.Outputs}
+use Rattle.im_dialogue.specs.declared.{answers.LineAnswer.TheVariants.Served, asking.Question.Question}
 use Rattle.im_dialogue.specs.declared.asking.Question.TheVariants as asks
-use Rattle.im_dialogue.specs.declared.answers.LineAnswer.TheVariants.{Served}
-use Rattle.im_dialogue.specs.Asking.{asked_of}
-use Rattle.im_dialogue.specs.Dialogue.{Talked}
-use Rattle.im_dialogue.specs.Talk.{Exchange, Outputs}
 
 -- The memory says the answer: to a command, to a line that only looks, to `window` and `count`. What the others are
 -- answered is of one image: its room, its turns, its slots, its backups.

@@ -1,35 +1,17 @@
 -- The line of each answer of a dialogue. (Own.)
-use Rattle.std.specs.Prelude.{ℕ, List, [], ◌++◌, codes, decimal, Result, Ok, Err}
-use Rattle.im_types.specs.declared.operations.Entry.{Entry}
-use Rattle.im_types.specs.declared.operations.Kept.{Kept as KeptEntry}
-use Rattle.im_types.specs.declared.commands.Command.{Command}
-use Rattle.im_types.specs.declared.commands.Command.TheVariants.{Request as Asks, Confirm}
-use Rattle.im_types.specs.declared.commands.Outcome.{Outcome}
-use Rattle.im_types.specs.declared.commands.Outcome.TheVariants.{Entry as Tells, Confirmed}
-use Rattle.im_types.specs.declared.refusals.Refusal.{Refusal}
-use Rattle.im_types.specs.Contents.{Contents, block_at, held_at}
-use Rattle.im_types.specs.Window.{ask}
-use Rattle.im_checkpoint.specs.declared.checkpoint.TurnDone.{TurnDone}
-use Rattle.im_checkpoint.specs.declared.checkpoint.TurnDone.TheVariants.{Idle, Began, Page, Synced, InForce, Swept}
-use Rattle.im_text.specs.Texts.{entry_text, line_feed, op_text}
-use Rattle.im_text.specs.Printing.{told_line, refused_line}
-use Rattle.im_dialogue.specs.declared.about.About.{About}
-use Rattle.im_dialogue.specs.declared.answers.LineAnswer.{LineAnswer}
-use Rattle.im_dialogue.specs.declared.answers.LineAnswer.TheVariants.{Served, Looked, Window}
-use Rattle.im_dialogue.specs.declared.answers.LineAnswer.TheVariants.{
-  Room,
-  Turned,
-  Count,
-  About as Facts,
-  Backup,
-  Wrong,
-}
-use Rattle.im_dialogue.specs.declared.backup_name.BackupName.{BackupName}
+use Rattle.std.specs.Prelude.{ℕ, List, [], ◌++◌, Ok, Err, codes, decimal, Result}
+use Rattle.im_types.specs.Types.{Entry, Kept as KeptEntry, Command, Outcome, Asks, Confirm, Tells, Confirmed, Refusal}
+use Rattle.im_types.specs.Types.{Contents, held_at, block_at, ask}
+use Rattle.im_checkpoint.specs.declared.TurnDone.TheVariants.{Began, Idle, InForce, Page, Swept, Synced}
+use Rattle.im_checkpoint.specs.declared.TurnDone.{TurnDone}
+use Rattle.im_text.specs.{Printing.refused_line, Printing.told_line, Texts.entry_text, Texts.line_feed, Texts.op_text}
+use Rattle.im_dialogue.specs.{Backups.bytes_of, declared.backup_name.BackupName.BackupName}
+use Rattle.im_dialogue.specs.declared.{about.About.About, answers.LineAnswer.LineAnswer, look.Look.Look}
+use Rattle.im_dialogue.specs.declared.answers.LineAnswer.TheVariants.{About as Facts, Backup, Count, Looked, Room}
+use Rattle.im_dialogue.specs.declared.answers.LineAnswer.TheVariants.{Served, Turned, Window, Wrong}
 use Rattle.im_dialogue.specs.declared.backups.BackupFault.{BackupFault}
-use Rattle.im_dialogue.specs.declared.look.Look.{Look}
-use Rattle.im_dialogue.specs.declared.look.Look.TheVariants.{Collect, Entry as Recalls, Cell, Block, Stat, Help}
-use Rattle.im_dialogue.specs.Backups.{bytes_of}
-use Rattle.im_dialogue.specs.Showing.{recall, cell_said, block_said, stat_line, help_line}
+use Rattle.im_dialogue.specs.declared.look.Look.TheVariants.{Block, Cell, Collect, Entry as Recalls, Help, Stat}
+use Rattle.im_dialogue.specs.Showing.{block_said, cell_said, help_line, recall, stat_line}
 
 -- E.N refused NUMBER NAME
 abbrev pub request_refused : ℕ → ℕ → Refusal → List ℕ → List ℕ

@@ -1,19 +1,13 @@
 -- What a line of a dialogue asks for, given its bytes. (Own.)
-use Rattle.std.specs.Prelude.{ℕ, ◌==◌, List, [], ◌∷◌, Option, Some, None, if◌then◌else◌, codes}
-use Rattle.std.specs.List.{slice_split}
-use Rattle.std.specs.Option.{option_map, option_and_then, option_or}
-use Rattle.std.specs.Str.{bytes_eq}
-use Rattle.im_types.specs.declared.operations.Op.{Op}
-use Rattle.im_types.specs.declared.operations.Waiter.{Waiter}
-use Rattle.im_types.specs.declared.commands.Command.TheVariants.{Request as Asks, Confirm}
-use Rattle.im_script.specs.Grammar.{is_line, number_up_to, words_of}
-use Rattle.im_script.specs.Lines.{action_of}
-use Rattle.im_script.specs.Places.{action_op}
-use Rattle.im_dialogue.specs.declared.asking.Question.{Question}
-use Rattle.im_dialogue.specs.declared.asking.Question.TheVariants.{Serve, Look, Window}
-use Rattle.im_dialogue.specs.declared.asking.Question.TheVariants.{Room, Turn, Count, About, Backup, Quit}
-use Rattle.im_dialogue.specs.declared.look.Look.TheVariants.{Collect, Entry, Cell, Block, Stat, Help}
-use Rattle.im_dialogue.specs.Backups.{backup_name_of}
+use Rattle.std.specs.Prelude.{ℕ, List, [], ◌∷◌, if◌then◌else◌, ◌==◌, Some, None, codes, bytes_eq, Option, option_map}
+use Rattle.std.specs.Prelude.{option_and_then}
+use Rattle.std.specs.{List.slice_split, Option.option_or}
+use Rattle.im_types.specs.Types.{Op, Waiter, Asks, Confirm}
+use Rattle.im_script.specs.{Grammar.is_line, Grammar.number_up_to, Grammar.words_of, Lines.action_of, Places.action_op}
+use Rattle.im_dialogue.specs.{Backups.backup_name_of, declared.asking.Question.Question}
+use Rattle.im_dialogue.specs.declared.asking.Question.TheVariants.{About, Backup, Count, Look, Quit, Room, Serve, Turn}
+use Rattle.im_dialogue.specs.declared.asking.Question.TheVariants.{Window}
+use Rattle.im_dialogue.specs.declared.look.Look.TheVariants.{Block, Cell, Collect, Entry, Help, Stat}
 
 -- an element's number
 abbrev pub element_of : List ℕ → Option ℕ

@@ -1,9 +1,8 @@
 -- Backups: their names, and what of a memory is kept under a name. (Own.)
-use Rattle.std.specs.Prelude.{ℕ, ◌==◌, ◌&&◌, ◌||◌, Bool, nat_le, List, ◌++◌, length, min, take, drop}
-use Rattle.std.specs.Prelude.{replicate, Option, Some, None, if◌then◌else◌, slice_index_or}
-use Rattle.std.specs.Char.{is_ascii_digit, is_ascii_lowercase}
-use Rattle.std.specs.List.{list_all}
-use Rattle.im_types.specs.Contents.{Contents}
+use Rattle.std.specs.Prelude.{ℕ, min, Bool, ◌&&◌, ◌||◌, List, ◌++◌, length, take, drop, replicate, if◌then◌else◌}
+use Rattle.std.specs.Prelude.{nat_le, ◌==◌, slice_index_or, Some, None, Option}
+use Rattle.std.specs.{Char.is_ascii_digit, Char.is_ascii_lowercase, List.list_all}
+use Rattle.im_types.specs.Types.{Contents}
 use Rattle.im_dialogue.specs.declared.backup_name.BackupName.{BackupName}
 
 -- ---- names

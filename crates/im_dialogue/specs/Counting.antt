@@ -1,13 +1,10 @@
 -- How many blocks and cells in each state a memory has. (Own.)
-use Rattle.std.specs.Prelude.{ℕ, ◌==◌, Bool, true, false, length, if◌then◌else◌, Option, None, Some}
-use Rattle.im_types.specs.declared.operations.Block.{Block}
-use Rattle.im_types.specs.declared.cells.Cell.{Cell}
-use Rattle.im_types.specs.declared.cells.Cell.TheVariants as cell
-use Rattle.im_types.specs.Contents.{Contents, block_at, held_at}
-use Rattle.im_types.specs.Presences.{presence_in}
+use Rattle.std.specs.Prelude.{ℕ, Bool, true, false, length, if◌then◌else◌, ◌==◌, Some, None, Option}
+use Rattle.im_types.specs.Types.{Block, Contents, held_at, block_at, presence_in, Cell}
 use Rattle.im_report.specs.Figures.{sum_below}
 use Rattle.im_dialogue.specs.declared.sort.Sort.{Sort}
-use Rattle.im_dialogue.specs.declared.sort.Sort.TheVariants.{Base, Empty, Waiting, Full, Clashed}
+use Rattle.im_dialogue.specs.declared.sort.Sort.TheVariants.{Base, Clashed, Empty, Full, Waiting}
+use Rattle.im_types.specs.declared.cells.Cell.TheVariants as cell
 
 -- 1 for what passes a test
 abbrev pub one_that : Bool → ℕ

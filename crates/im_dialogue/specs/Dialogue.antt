@@ -1,17 +1,11 @@
 -- What a dialogue on the image of a disk comes to. (Own.)
-use Rattle.std.specs.Prelude.{◌≡◌, ◌⊎◌, ℕ, ◌≤◌, Bool, false, List, [], length, Option}
+use Rattle.std.specs.Prelude.{◌≡◌, ℕ, ◌≤◌, Bool, false, ◌⊎◌, List, [], length, Option}
 use Rattle.std.specs.Io.KnownBytes.{Appends}
-use Rattle.im_types.specs.declared.TheConstants.{MAX_GROUP}
-use Rattle.im_types.specs.Contents.{Contents}
-use Rattle.im_types.specs.Layout.{image_length, layout_in_use}
-use Rattle.im_types.specs.Sizes.{AreLimits}
-use Rattle.im_disk.specs.declared.disk.Disk.{Ghosts}
-use Rattle.im_disk.specs.Moment.{Moment, Left}
-use Rattle.im_disk.specs.Since.{Leaves, LeavesWithin}
+use Rattle.im_types.specs.Types.{MAX_GROUP, AreLimits, Contents, layout_in_use, image_length}
+use Rattle.im_disk.specs.{declared.Disk.Ghosts, Moment.Left, Moment.Moment, Since.Leaves, Since.LeavesWithin}
 use Rattle.im_engine.specs.State.{EngineState, MeansState}
-use Rattle.im_session.specs.Kept.{Kept, SessionState, session_of, start_at}
-use Rattle.im_turning.specs.Turning.{point_of}
-use Rattle.im_text.specs.Printing.{Begins, IsLast}
+use Rattle.{im_turning.specs.Turning.point_of, im_text.specs.Printing.Begins, im_text.specs.Printing.IsLast}
+use Rattle.im_session.specs.Kept.{Kept, session_of, SessionState, start_at}
 use Rattle.im_dialogue.specs.Hearing.{HearsAll}
 use Rattle.im_dialogue.specs.Talk.{AreAnswered, AreKept, Exchange, Outputs, put_of, questions_of, texts_of, with_input}
 

@@ -1,16 +1,12 @@
 -- What the lines of an input ask for, and what of it was heard. (Own.)
-use Rattle.std.specs.Prelude.{◌≡◌, ℕ, ◌+◌, ◌-◌, ◌==◌, ◌≤◌, Bool, true, false, List, [], ◌∷◌, ◌++◌, length, map}
-use Rattle.std.specs.Prelude.{All, drop, take, slice_index, Option, None, Some, IfSome, if◌then◌else◌}
-use Rattle.std.specs.Option.{option_map}
-use Rattle.std.specs.Io.{StartsWith}
-use Rattle.std.specs.Io.KnownBytes.{Consumes, IsAtEnd, Keeps}
-use Rattle.im_dialogue.specs.declared.asking.Question.{Question}
-use Rattle.im_dialogue.specs.declared.asking.Question.TheVariants as asks
-use Rattle.im_dialogue.specs.declared.line_part.LinePart.{LinePart}
-use Rattle.im_dialogue.specs.declared.line_part.LinePart.TheVariants as piece
+use Rattle.std.specs.Prelude.{◌≡◌, ℕ, ◌+◌, ◌-◌, ◌≤◌, Bool, true, false, List, [], ◌∷◌, ◌++◌, map, length, take, drop}
+use Rattle.std.specs.Prelude.{IfSome, if◌then◌else◌, ◌==◌, slice_index, Some, None, All, Option, option_map}
+use Rattle.std.specs.Io.{KnownBytes.Consumes, KnownBytes.IsAtEnd, KnownBytes.Keeps, StartsWith}
 use Rattle.im_script.specs.Script.{lines_of}
-use Rattle.im_dialogue.specs.declared.lines.TheConstants.{KEPT}
 use Rattle.im_dialogue.specs.Asking.{asked_of}
+use Rattle.im_dialogue.specs.declared.{asking.Question.Question, line_part.LinePart.LinePart, lines.TheConstants.KEPT}
+use Rattle.im_dialogue.specs.declared.asking.Question.TheVariants as asks
+use Rattle.im_dialogue.specs.declared.line_part.LinePart.TheVariants as piece
 
 -- ---- the lines of an input
 

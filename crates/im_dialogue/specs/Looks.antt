@@ -1,18 +1,10 @@
 -- What a command may change of what a line shows that only looks. (Own.)
-use Rattle.std.specs.Prelude.{ℕ, ◌==◌, Bool, true, false, not, ◌&&◌, ◌||◌, List, Option, None, Some, is_none}
+use Rattle.std.specs.Prelude.{ℕ, Bool, true, false, not, ◌&&◌, ◌||◌, List, is_none, ◌==◌, Some, None, Option}
 use Rattle.std.specs.List.{list_any}
-use Rattle.im_types.specs.declared.operations.Op.{Op}
-use Rattle.im_types.specs.declared.operations.Op.TheVariants.{Alloc, Release, Reset, Fetch, Store, Take, Put}
-use Rattle.im_types.specs.declared.operations.Kept.{Kept}
-use Rattle.im_types.specs.declared.operations.Waiter.{Waiter}
-use Rattle.im_types.specs.declared.commands.Request.{Request}
-use Rattle.im_types.specs.declared.commands.Command.{Command}
-use Rattle.im_types.specs.declared.commands.Command.TheVariants.{Request as Asks, Confirm}
-use Rattle.im_types.specs.Contents.{Contents, kept_for}
-use Rattle.im_types.specs.Step.{asker}
-use Rattle.im_types.specs.Agreement.{address_of, same_waiter}
+use Rattle.im_types.specs.Types.{Op, Waiter, Kept, Alloc, Release, Reset, Fetch, Store, Take, Put, Request, Command}
+use Rattle.im_types.specs.Types.{Asks, Confirm, Contents, kept_for, same_waiter, address_of, asker}
 use Rattle.im_dialogue.specs.declared.look.Look.{Look}
-use Rattle.im_dialogue.specs.declared.look.Look.TheVariants.{Collect, Entry, Cell, Block, Stat, Help}
+use Rattle.im_dialogue.specs.declared.look.Look.TheVariants.{Block, Cell, Collect, Entry, Help, Stat}
 
 -- an operation that has to wait, if it does, at this address
 abbrev pub op_waits_at : ℕ → Op → Bool

@@ -1,9 +1,7 @@
 -- What the methods of a dialogue come to. (Own.)
-use Rattle.std.specs.Prelude.{ℕ, Bool, List, Option, Result, MatchResult}
-use Rattle.im_disk.specs.declared.disk.Disk.{Ghosts}
-use Rattle.im_dialogue.specs.declared.serving.Dialogue.{Dialogue}
-use Rattle.im_dialogue.specs.Asking.{asked_of}
-use Rattle.im_dialogue.specs.Dialogue.{TalkClosed}
+use Rattle.std.specs.Prelude.{ℕ, Bool, List, MatchResult, Option, Result}
+use Rattle.im_disk.specs.declared.Disk.{Ghosts}
+use Rattle.im_dialogue.specs.{Asking.asked_of, declared.serving.Dialogue.Dialogue, Dialogue.TalkClosed}
 use Rattle.im_dialogue.specs.Hearing.{asked_after, questions_left}
 use Rattle.im_dialogue.specs.Talk.{Outputs, TalkEnds, TalksLine, TalksOn, TalksThrough, with_input, with_left}
 

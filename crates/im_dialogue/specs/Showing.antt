@@ -1,20 +1,13 @@
 -- What is shown of a memory by a line that only looks. (Own.)
-use Rattle.std.specs.Prelude.{ℕ, List, [], ◌∷◌, ◌++◌, length, codes, decimal, nat_lt, if◌then◌else◌, Option, None, Some}
-use Rattle.std.specs.Prelude.{option_map, Result, Ok, Err, slice_get}
-use Rattle.im_types.specs.declared.operations.Waiter.{Waiter}
-use Rattle.im_types.specs.declared.operations.Block.{Block}
-use Rattle.im_types.specs.declared.operations.Kept.{Kept as KeptEntry}
-use Rattle.im_types.specs.declared.cells.Cell.{Cell}
-use Rattle.im_types.specs.declared.cells.Cell.TheVariants as cell
-use Rattle.im_types.specs.declared.refusals.Refusal.{Refusal}
-use Rattle.im_types.specs.declared.refusals.Refusal.TheVariants.{Gap, Forgotten}
-use Rattle.im_types.specs.Contents.{Contents, Held, Window, kept_for, waiters_in}
-use Rattle.im_types.specs.Window.{bounds}
-use Rattle.im_types.specs.Presences.{presence_in}
+use Rattle.std.specs.Prelude.{ℕ, List, [], ◌∷◌, ◌++◌, length, if◌then◌else◌, nat_lt, slice_get, Some, None, Ok, Err}
+use Rattle.std.specs.Prelude.{codes, decimal, Option, Result, option_map}
+use Rattle.im_types.specs.Types.{Waiter, Block, Kept as KeptEntry, Refusal, Gap, Forgotten, Held, Window, Contents}
+use Rattle.im_types.specs.Types.{waiters_in, kept_for, presence_in, Cell, bounds}
 use Rattle.im_text.specs.Texts.{kind_text, line_feed}
-use Rattle.im_dialogue.specs.declared.sort.Sort.TheVariants.{Base, Empty, Waiting, Full, Clashed}
 use Rattle.im_report.specs.Figures.{kept_in, queue_at, sum_below}
 use Rattle.im_dialogue.specs.Counting.{many_cells}
+use Rattle.im_dialogue.specs.declared.sort.Sort.TheVariants.{Base, Clashed, Empty, Full, Waiting}
+use Rattle.im_types.specs.declared.cells.Cell.TheVariants as cell
 
 -- ---- a request and what is kept for it
 

@@ -1,36 +1,20 @@
 -- A dialogue over a session: what was asked, what it was answered, and what was put. (Own.)
-use Rattle.std.specs.Prelude.{◌≡◌, ◌⊎◌, ℕ, zero, suc, ◌+◌, ◌≤◌, Bool, true, false, List, [], ◌∷◌, ◌++◌, length, take}
-use Rattle.std.specs.Prelude.{Option, None, Some, IfOk, MatchOption, MatchResult, Result, Ok, Err}
-use Rattle.im_types.specs.declared.TheConstants.{MAX_GROUP}
+use Rattle.std.specs.Prelude.{◌≡◌, ℕ, zero, suc, ◌+◌, ◌≤◌, Bool, true, false, ◌⊎◌, List, [], ◌∷◌, ◌++◌, length, take}
+use Rattle.std.specs.Prelude.{IfOk, MatchOption, MatchResult, Some, None, Ok, Err, Option, Result}
 use Rattle.std.specs.Io.KnownBytes.{Appends}
-use Rattle.im_types.specs.declared.commands.Command.{Command}
-use Rattle.im_types.specs.declared.commands.Outcome.{Outcome}
-use Rattle.im_types.specs.declared.refusals.Refusal.{Refusal}
-use Rattle.im_types.specs.declared.refusals.Refusal.TheVariants.{JournalFull, Device, Failed}
-use Rattle.im_types.specs.Layout.{layout_in_use}
-use Rattle.im_types.specs.Contents.{Contents}
-use Rattle.im_types.specs.Window.{bounds}
-use Rattle.im_types.specs.Step.{step, is_accepted}
-use Rattle.im_types.specs.Run.{after}
-use Rattle.im_session.specs.Kept.{SessionState, session_of}
-use Rattle.im_session.specs.Put.{sure_by}
-use Rattle.im_session.specs.Serving.{Rests}
-use Rattle.im_turning.specs.Turning.{IsSpent, Point, TurnsLead, point_of, with_one}
-use Rattle.im_text.specs.Printing.{Begins}
-use Rattle.im_checkpoint.specs.declared.checkpoint.TurnDone.{TurnDone}
-use Rattle.im_dialogue.specs.declared.asking.Question.{Question}
+use Rattle.im_types.specs.Types.{Command, Outcome, Refusal, JournalFull, Device, Failed, MAX_GROUP, Contents, bounds}
+use Rattle.im_types.specs.Types.{step, is_accepted, after, layout_in_use}
+use Rattle.{im_checkpoint.specs.declared.TurnDone.TurnDone, im_text.specs.Printing.Begins}
+use Rattle.im_turning.specs.Turning.{IsSpent, Point, point_of, TurnsLead, with_one}
+use Rattle.im_session.specs.{Kept.session_of, Kept.SessionState, Put.sure_by, Serving.Rests}
+use Rattle.im_script.specs.declared.LineFault.{LineFault}
+use Rattle.im_dialogue.specs.{Answers.answer_text, Asking.asked_of, Backups.Backup, Backups.bytes_of}
+use Rattle.im_dialogue.specs.{declared.backups.BackupFault.BackupFault, Watching.watch_text}
+use Rattle.im_dialogue.specs.declared.{about.About.About, answers.LineAnswer.LineAnswer, asking.Question.Question}
+use Rattle.im_dialogue.specs.declared.answers.LineAnswer.TheVariants.{About as Facts, Backup as BackedUp, Count, Looked}
+use Rattle.im_dialogue.specs.declared.answers.LineAnswer.TheVariants.{Room, Served, Turned, Window, Wrong}
+use Rattle.im_dialogue.specs.Hearing.{asking, Hears, HearsSome, left_behind, questions_left}
 use Rattle.im_dialogue.specs.declared.asking.Question.TheVariants as asks
-use Rattle.im_script.specs.declared.faults.LineFault.{LineFault}
-use Rattle.im_dialogue.specs.declared.about.About.{About}
-use Rattle.im_dialogue.specs.declared.answers.LineAnswer.{LineAnswer}
-use Rattle.im_dialogue.specs.declared.answers.LineAnswer.TheVariants.{Served, Looked, Window, Room, Turned, Count}
-use Rattle.im_dialogue.specs.declared.answers.LineAnswer.TheVariants.{About as Facts, Backup as BackedUp, Wrong}
-use Rattle.im_dialogue.specs.declared.backups.BackupFault.{BackupFault}
-use Rattle.im_dialogue.specs.Asking.{asked_of}
-use Rattle.im_dialogue.specs.Answers.{answer_text}
-use Rattle.im_dialogue.specs.Backups.{Backup, bytes_of}
-use Rattle.im_dialogue.specs.Hearing.{Hears, HearsSome, asking, left_behind, questions_left}
-use Rattle.im_dialogue.specs.Watching.{watch_text}
 
 -- ---- what was said
 

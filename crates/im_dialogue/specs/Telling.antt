@@ -1,21 +1,14 @@
 -- What is said by the answers to a group. (Own.)
-use Rattle.std.specs.Prelude.{◌≡◌, ℕ, ◌≤◌, Bool, List, [], length, map, take, Option, Result}
-use Rattle.im_types.specs.declared.commands.Command.{Command}
-use Rattle.im_types.specs.declared.groups.Served.{Served}
-use Rattle.im_types.specs.Contents.{Contents}
-use Rattle.im_types.specs.Groups.{as_served}
-use Rattle.im_types.specs.Memory.{IsMemory}
-use Rattle.im_types.specs.Run.{after}
+use Rattle.std.specs.Prelude.{◌≡◌, ℕ, ◌≤◌, Bool, List, [], map, length, take, Option, Result}
+use Rattle.im_types.specs.Types.{Command, Served, Contents, IsMemory, after, as_served}
 use Rattle.im_groups.specs.Commands.{answers_with, commands_at}
+use Rattle.{im_checkpoint.specs.declared.TurnDone.TurnDone, im_turning.specs.Turning.TurnsLead}
 use Rattle.im_session.specs.Kept.{SessionState}
-use Rattle.im_dialogue.specs.declared.group_line.GroupLine.{GroupLine}
-use Rattle.im_checkpoint.specs.declared.checkpoint.TurnDone.{TurnDone}
-use Rattle.im_turning.specs.Turning.{TurnsLead}
-use Rattle.im_dialogue.specs.declared.asking.Question.{Question}
-use Rattle.im_dialogue.specs.Talk.{AreAnswered, Exchange, TalksQueue, backups_of, put_of, questions_of, stands_behind}
+use Rattle.im_dialogue.specs.declared.{asking.Question.Question, group_line.GroupLine.GroupLine}
+use Rattle.im_dialogue.specs.Talk.{AreAnswered, backups_of, Exchange, put_of, questions_of, stands_behind, TalksQueue}
 use Rattle.im_dialogue.specs.Talk.{texts_of}
-use Rattle.im_dialogue.specs.Together.{GroupStart, MayBeServed, group_start, memory_between}
-use Rattle.im_dialogue.specs.Together.{part_question, point_between}
+use Rattle.im_dialogue.specs.Together.{group_start, GroupStart, MayBeServed, memory_between, part_question}
+use Rattle.im_dialogue.specs.Together.{point_between}
 
 -- lines of a group with these members and this text, which ask for this, were said from its start on; they come to the
 -- memory, the count and the point behind the members, and no backup was kept

@@ -1,28 +1,18 @@
 -- Lines that are served as one group: commands, and lines that change nothing. (Own.)
-use Rattle.std.specs.Prelude.{◌≡◌, ℕ, ◌+◌, ◌≤◌, Bool, false, List, [], ◌∷◌, ◌++◌, length, Option, None, Some, Result}
+use Rattle.std.specs.Prelude.{◌≡◌, ℕ, ◌+◌, ◌≤◌, Bool, false, List, [], ◌∷◌, ◌++◌, length, Some, None, Option, Result}
 use Rattle.std.specs.List.{list_any}
-use Rattle.im_types.specs.declared.TheConstants.{MAX_GROUP}
-use Rattle.im_types.specs.declared.commands.Command.{Command}
-use Rattle.im_types.specs.declared.commands.Outcome.{Outcome}
-use Rattle.im_types.specs.declared.groups.Served.{Served}
-use Rattle.im_types.specs.declared.refusals.Refusal.{Refusal}
-use Rattle.im_types.specs.Contents.{Contents}
-use Rattle.im_groups.specs.Commands.{places, answer_with, commands_at, contents_after_all, left_after}
-use Rattle.im_engine.specs.State.{EngineState}
-use Rattle.im_session.specs.Serving.{served_answer}
-use Rattle.im_dialogue.specs.declared.asking.Question.{Question}
-use Rattle.im_dialogue.specs.declared.asking.Question.TheVariants as asks
-use Rattle.im_dialogue.specs.declared.answers.LineAnswer.{LineAnswer}
-use Rattle.im_dialogue.specs.declared.answers.LineAnswer.TheVariants as answer
-use Rattle.im_dialogue.specs.declared.group_line.GroupLine.{GroupLine}
-use Rattle.im_dialogue.specs.declared.group_line.GroupLine.TheVariants.{Member, Look, Known}
+use Rattle.im_types.specs.Types.{Command, Outcome, Served, Refusal, MAX_GROUP, Contents}
+use Rattle.im_groups.specs.Commands.{answer_with, commands_at, contents_after_all, left_after, places}
+use Rattle.{im_checkpoint.specs.declared.TurnDone.TurnDone, im_engine.specs.State.EngineState}
+use Rattle.{im_turning.specs.Turning.Point, im_turning.specs.Turning.point_of, im_session.specs.Serving.served_answer}
 use Rattle.im_dialogue.specs.Answers.{answer_text}
-use Rattle.im_dialogue.specs.Asking.{asked_of}
-use Rattle.im_dialogue.specs.Looks.{may_alter}
-use Rattle.im_checkpoint.specs.declared.checkpoint.TurnDone.{TurnDone}
-use Rattle.im_turning.specs.Turning.{Point, point_of}
+use Rattle.im_dialogue.specs.{Asking.asked_of, declared.answers.LineAnswer.LineAnswer, Looks.may_alter}
+use Rattle.im_dialogue.specs.declared.{asking.Question.Question, group_line.GroupLine.GroupLine}
+use Rattle.im_dialogue.specs.declared.group_line.GroupLine.TheVariants.{Known, Look, Member}
 use Rattle.im_dialogue.specs.Talk.{AnswersQuestion, KeepsNone, point_behind, put_by}
 use Rattle.im_dialogue.specs.Watching.{told_with, watch_text}
+use Rattle.im_dialogue.specs.declared.asking.Question.TheVariants as asks
+use Rattle.im_dialogue.specs.declared.answers.LineAnswer.TheVariants as answer
 
 -- ---- what lines ask for
 

@@ -1,21 +1,11 @@
 -- What those that watch are told: which request that waited is answered, and how. (Own.)
-use Rattle.std.specs.Prelude.{ℕ, Bool, true, false, List, [], ◌∷◌, ◌++◌, Option, None, Some, Ok, if◌then◌else◌}
-use Rattle.im_types.specs.declared.operations.Op.{Op}
-use Rattle.im_types.specs.declared.operations.Op.TheVariants.{Store, Put}
-use Rattle.im_types.specs.declared.operations.Kind.{Kind}
-use Rattle.im_types.specs.declared.operations.Reply.{Reply}
-use Rattle.im_types.specs.declared.operations.Entry.TheVariants.{Answered}
-use Rattle.im_types.specs.declared.operations.Waiter.{Waiter}
-use Rattle.im_types.specs.declared.commands.Command.{Command}
-use Rattle.im_types.specs.declared.commands.Command.TheVariants.{Request as Asks, Confirm}
-use Rattle.im_types.specs.Contents.{Contents, Held}
-use Rattle.im_types.specs.Act.{act, same_kind}
-use Rattle.im_types.specs.Step.{asker, is_accepted}
+use Rattle.std.specs.Prelude.{ℕ, Bool, true, false, List, [], ◌∷◌, ◌++◌, if◌then◌else◌, Some, None, Ok, Option}
+use Rattle.im_types.specs.Types.{Kind, Op, Reply, Waiter, Answered, Store, Put, Command, Asks, Confirm, Held, Contents}
+use Rattle.im_types.specs.Types.{same_kind, act, asker, is_accepted}
 use Rattle.im_text.specs.Printing.{now_line}
+use Rattle.im_dialogue.specs.declared.answers.LineAnswer.{LineAnswer, TheVariants.Served}
 use Rattle.im_dialogue.specs.declared.asking.Question.{Question}
 use Rattle.im_dialogue.specs.declared.asking.Question.TheVariants as asks
-use Rattle.im_dialogue.specs.declared.answers.LineAnswer.{LineAnswer}
-use Rattle.im_dialogue.specs.declared.answers.LineAnswer.TheVariants.{Served}
 
 -- E.N now REPLY: the answer to a request that waited
 abbrev pub told_now : Waiter × Reply → List ℕ

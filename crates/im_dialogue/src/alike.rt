@@ -1,7 +1,7 @@
 //! A law of two dialogues, as the contract of a function that does nothing.
 ghost use Rattle.std.specs.Prelude.{◌≡◌, ℕ};
-ghost use Rattle.im_types.specs.Contents.{Contents};
-ghost use Rattle.im_dialogue.specs.Alike.{AskAlike, EndAlike, LeaveOne, LineOf, TalkOf, commands_said};
+ghost use Rattle.im_types.specs.Types.{Contents};
+ghost use Rattle.im_dialogue.specs.Alike.{AskAlike, commands_said, EndAlike, LeaveOne, LineOf, TalkOf};
 ghost use Rattle.im_dialogue.specs.Talk.{put_of};
 
 use im_disk::Disk;

@@ -1,11 +1,10 @@
 //! The answers to lines.
-ghost use Rattle.std.specs.Prelude.{◌≡◌, ◌++◌, OnOk, codes, string_bytes};
+ghost use Rattle.std.specs.Prelude.{◌≡◌, ◌++◌, OnOk, string_bytes, codes};
 ghost use Rattle.im_text.specs.Printing.{refused_line, told_line};
 ghost use Rattle.im_dialogue.specs.Answers.{about_line, answer_text, backup_line, cells_said, confirmed_line};
-ghost use Rattle.im_dialogue.specs.Answers.{element_refused};
-ghost use Rattle.im_dialogue.specs.Answers.{kept_line, operation_line};
+ghost use Rattle.im_dialogue.specs.Answers.{element_refused, kept_line, operation_line, request_refused, served_line};
+ghost use Rattle.im_dialogue.specs.Answers.{turn_text, window_line, wrong_line};
 ghost use Rattle.im_dialogue.specs.Backups.{bytes_of};
-ghost use Rattle.im_dialogue.specs.Answers.{request_refused, served_line, turn_text, window_line, wrong_line};
 
 use crate::about::About;
 use crate::backup_name::BackupName;

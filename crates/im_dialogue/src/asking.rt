@@ -1,15 +1,13 @@
 //! What a line asks for.
-ghost use Rattle.std.specs.Prelude.{◌≡◌, ◌==◌, ◌∷◌, [], IfOk};
-ghost use Rattle.im_types.specs.declared.commands.Command.TheVariants.{Request as Asks};
+ghost use Rattle.std.specs.Prelude.{◌≡◌, [], ◌∷◌, IfOk, ◌==◌, option_map, option_and_then};
+ghost use Rattle.std.specs.{List.slice_split, Option.option_or};
+ghost use Rattle.{im_types.specs.Types.Asks, im_script.specs.Grammar.texts, im_script.specs.Grammar.words_of};
+ghost use Rattle.im_dialogue.specs.Asking.{asked_at, asked_by_one, asked_by_request, asked_by_three, asked_by_two};
+ghost use Rattle.im_dialogue.specs.Asking.{asked_in, asked_of, element_of, op_in, request_number_of, waiter_by};
+ghost use Rattle.im_dialogue.specs.Asking.{waiter_from, waiter_named};
+ghost use Rattle.im_dialogue.specs.Backups.{backup_name_of};
 ghost use Rattle.im_dialogue.specs.declared.asking.Question.TheVariants.{Backup, Look as Looks, Serve, Window};
 ghost use Rattle.im_dialogue.specs.declared.look.Look.TheVariants.{Collect, Entry};
-ghost use Rattle.std.specs.List.{slice_split};
-ghost use Rattle.std.specs.Option.{option_and_then, option_map, option_or};
-ghost use Rattle.im_script.specs.Grammar.{texts, words_of};
-ghost use Rattle.im_dialogue.specs.Asking.{asked_at, asked_by_one, asked_by_three, asked_by_two, asked_in, asked_of};
-ghost use Rattle.im_dialogue.specs.Asking.{asked_by_request, element_of, op_in, request_number_of};
-ghost use Rattle.im_dialogue.specs.Asking.{waiter_by, waiter_from, waiter_named};
-ghost use Rattle.im_dialogue.specs.Backups.{backup_name_of};
 
 use crate::backup_name::BackupName;
 use crate::look::Look;

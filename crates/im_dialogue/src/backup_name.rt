@@ -1,6 +1,5 @@
 //! The name of a backup.
-ghost use Rattle.std.specs.Prelude.{◌≡◌, ◌≤◌, length, IfSome};
-ghost use Rattle.std.specs.List.{list_all};
+ghost use Rattle.std.specs.{Prelude.◌≡◌, Prelude.◌≤◌, Prelude.length, Prelude.IfSome, List.list_all};
 ghost use Rattle.im_dialogue.specs.Backups.{backup_name_of, backup_named, bytes_of, is_backup_byte, is_backup_name};
 
 use std::str;

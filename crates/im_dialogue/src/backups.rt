@@ -27,7 +27,7 @@ impl Display for BackupFault {
 
 /// Keeps copies of an image, each in a file of its own that has a name.
 pub trait Backups {
-    ghost use Rattle.std.specs.Prelude.{◌≡◌, ◌∷◌, List, OnErr, OnOk};
+    ghost use Rattle.std.specs.Prelude.{◌≡◌, List, ◌∷◌, OnOk, OnErr};
     ghost use Rattle.im_dialogue.specs.Backups.{Backup, bytes_of};
 
     /// The copies that were kept so far, the newest first: the name of each, and what it means.

@@ -1,7 +1,6 @@
 //! What the first lines in a reader's buffer ask for.
-ghost use Rattle.std.specs.Prelude.{◌≡◌, ◌≤◌, ◌∷◌, ◌++◌, [], false, length};
-ghost use Rattle.std.specs.Prelude.{IfOk, IfSome, OnOk, Some, List, ℕ};
-ghost use Rattle.im_dialogue.specs.Hearing.{IsLinePart, ShowsText, StandsIn, TakesLine, end_at, is_quit};
+ghost use Rattle.std.specs.Prelude.{◌≡◌, ℕ, ◌≤◌, false, List, [], ◌∷◌, ◌++◌, length, IfSome, IfOk, OnOk, Some};
+ghost use Rattle.im_dialogue.specs.Hearing.{end_at, is_quit, IsLinePart, ShowsText, StandsIn, TakesLine};
 ghost use Rattle.im_dialogue.specs.Together.{AreAsked};
 
 use crate::asking::{Question, read_asked};

@@ -1,8 +1,6 @@
 //! A dialogue on the image of a disk.
 ghost use Rattle.std.specs.Prelude.{◌≡◌, ◌≤◌, false};
-ghost use Rattle.im_dialogue.specs.Dialogue.{BeginsNow, TalkedOn};
-ghost use Rattle.im_dialogue.specs.Serving.{ClosesDialogue};
-ghost use Rattle.im_dialogue.specs.Talk.{outputs};
+ghost use Rattle.im_dialogue.specs.{Dialogue.BeginsNow, Dialogue.TalkedOn, Serving.ClosesDialogue, Talk.outputs};
 
 use crate::backups::Backups;
 use crate::resting::open_with_slots;

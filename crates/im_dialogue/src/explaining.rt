@@ -1,7 +1,6 @@
 //! Finds where a line that isn't in the grammar goes wrong.
-ghost use Rattle.std.specs.Prelude.{◌≡◌, IfOk, false, not};
-ghost use Rattle.im_script.specs.Faults.{is_of_length};
-ghost use Rattle.im_script.specs.Grammar.{is_short};
+ghost use Rattle.std.specs.Prelude.{◌≡◌, false, not, IfOk};
+ghost use Rattle.im_script.specs.{Faults.is_of_length, Grammar.is_short};
 
 use crate::asking::{read_element, read_one, read_waiter};
 use crate::backup_name::BackupName;

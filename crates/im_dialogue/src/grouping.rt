@@ -3,14 +3,13 @@
 //! A group acts as one, so nobody sees the memory between two of its members. The answer to a line that changes nothing
 //! is known all the same: from the memory before the group and the members ahead of the line, or from the memory behind
 //! the group, as long as no member behind the line may change that answer.
-ghost use Rattle.std.specs.Prelude.{◌≡◌, ◌≤◌, ◌++◌, [], ◌∷◌, length, map, not, true, ◌||◌, IfOk, IfSome, OnOk};
-ghost use Rattle.std.specs.Prelude.{ℕ, Some, if◌then◌else◌, string_bytes, take};
+ghost use Rattle.std.specs.Prelude.{◌≡◌, ℕ, ◌≤◌, true, not, ◌||◌, [], ◌∷◌, ◌++◌, map, length, take, IfSome, IfOk};
+ghost use Rattle.std.specs.Prelude.{if◌then◌else◌, OnOk, Some, string_bytes};
 ghost use Rattle.std.specs.List.{list_any};
-ghost use Rattle.im_types.specs.declared.TheConstants.{MAX_GROUP};
-ghost use Rattle.im_dialogue.specs.Hearing.{as_asked};
-ghost use Rattle.im_dialogue.specs.Together.{AreAsked, GroupStart, LineAsksFor, MayBeServed, MayStandNext};
-ghost use Rattle.im_dialogue.specs.Together.{TellsWatchers, disturbs, group_start, part_question, with_member};
-ghost use Rattle.im_dialogue.specs.Watching.{answers_nobody};
+ghost use Rattle.im_types.specs.Types.{MAX_GROUP};
+ghost use Rattle.im_dialogue.specs.{Hearing.as_asked, Watching.answers_nobody};
+ghost use Rattle.im_dialogue.specs.Together.{AreAsked, disturbs, group_start, GroupStart, LineAsksFor, MayBeServed};
+ghost use Rattle.im_dialogue.specs.Together.{MayStandNext, part_question, TellsWatchers, with_member};
 
 use crate::asking::Question;
 use crate::group_line::GroupLine;

@@ -1,14 +1,11 @@
 //! The answers to lines of a group that are known before its members act: an element's window, and counts.
-ghost use Rattle.std.specs.Prelude.{◌≡◌, ◌≤◌, ◌+◌, ◌-◌, [], Bool, List, ℕ, length, true, if◌then◌else◌, IfOk, IfSome};
+ghost use Rattle.std.specs.Prelude.{◌≡◌, ℕ, ◌+◌, ◌-◌, ◌≤◌, Bool, true, List, [], length, IfSome, IfOk, if◌then◌else◌};
 ghost use Rattle.std.specs.Prelude.{Some};
-ghost use Rattle.im_types.specs.declared.TheConstants.{LAST, MAX_GROUP};
-ghost use Rattle.im_types.specs.Window.{bounds};
-ghost use Rattle.im_types.specs.Memory.{IsMemory};
+ghost use Rattle.im_types.specs.Types.{MAX_GROUP, LAST, IsMemory, bounds};
 ghost use Rattle.im_groups.specs.Ahead.{bounds_behind, moved_by};
-ghost use Rattle.im_engine.specs.Commands.{commands_put};
-ghost use Rattle.im_turning.specs.Turning.{point_of};
+ghost use Rattle.{im_engine.specs.Commands.commands_put, im_turning.specs.Turning.point_of};
 ghost use Rattle.im_dialogue.specs.Talk.{about_of, point_behind};
-ghost use Rattle.im_dialogue.specs.Together.{LineAsksFor, IsKnownBehind, IsPlain, MayStandNext, group_start};
+ghost use Rattle.im_dialogue.specs.Together.{group_start, IsKnownBehind, IsPlain, LineAsksFor, MayStandNext};
 ghost use Rattle.im_dialogue.specs.Together.{part_question, question_of};
 
 use crate::about::About;

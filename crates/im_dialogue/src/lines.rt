@@ -1,5 +1,5 @@
 //! Reads lines, and keeps at most a bound of each.
-ghost use Rattle.std.specs.Prelude.{◌≡◌, ◌≤◌, ◌<◌, ◌+◌, ◌∷◌, ◌++◌, [], length, take, IfOk, OnOk};
+ghost use Rattle.std.specs.Prelude.{◌≡◌, ◌+◌, ◌<◌, ◌≤◌, [], ◌∷◌, ◌++◌, length, take, IfOk, OnOk};
 ghost use Rattle.im_dialogue.specs.Hearing.{IsLinePart, ReadsLine, ReadsMore};
 
 use crate::line_part::LinePart;

@@ -1,10 +1,8 @@
 //! What a command may change of what is kept for a request, and of a cell, before the commands ahead of it act.
-ghost use Rattle.std.specs.Prelude.{◌≡◌, is_none};
-ghost use Rattle.im_types.specs.Contents.{kept_for};
-ghost use Rattle.std.specs.List.{list_any};
-ghost use Rattle.im_dialogue.specs.Looks.{asks_at, asks_for, is_first, kept_waits_at, may_answer, may_change};
-ghost use Rattle.im_dialogue.specs.Looks.{may_reach};
-ghost use Rattle.im_dialogue.specs.Looks.{may_alter, may_wait, reaches, op_waits_at};
+ghost use Rattle.std.specs.{Prelude.◌≡◌, Prelude.is_none, List.list_any};
+ghost use Rattle.im_types.specs.Types.{kept_for};
+ghost use Rattle.im_dialogue.specs.Looks.{asks_at, asks_for, is_first, kept_waits_at, may_alter, may_answer};
+ghost use Rattle.im_dialogue.specs.Looks.{may_change, may_reach, may_wait, op_waits_at, reaches};
 
 use crate::look::Look;
 use im_memory::Memory;

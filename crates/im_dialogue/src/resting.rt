@@ -1,6 +1,6 @@
 //! How many slots the journal of an image has, and when a dialogue makes room while nobody asks.
-ghost use Rattle.std.specs.Prelude.{◌≡◌, ◌≤◌, ◌/◌, ℕ, IfOk, IfErr};
-ghost use Rattle.im_types.specs.Layout.{image_length as length_of_image, layout_in_use};
+ghost use Rattle.std.specs.Prelude.{◌≡◌, ℕ, ◌/◌, ◌≤◌, IfOk, IfErr};
+ghost use Rattle.im_types.specs.Types.{layout_in_use, image_length as length_of_image};
 ghost use Rattle.im_engine.specs.Leaving.{LeavesAsBefore};
 ghost use Rattle.im_dialogue.specs.Dialogue.{BeginsTalk, CountsSlots};
 

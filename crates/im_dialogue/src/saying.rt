@@ -1,8 +1,6 @@
 //! Prints the lines of answers.
-ghost use Rattle.std.specs.Prelude.{◌≡◌, ◌++◌, List, ℕ, None, OnOk, string_bytes};
-ghost use Rattle.im_dialogue.specs.Answers.{answer_text};
-ghost use Rattle.im_dialogue.specs.Asking.{asked_of};
-ghost use Rattle.im_dialogue.specs.Talk.{PrintsAnswer, TalksWrong};
+ghost use Rattle.std.specs.Prelude.{◌≡◌, ℕ, List, ◌++◌, OnOk, None, string_bytes};
+ghost use Rattle.im_dialogue.specs.{Answers.answer_text, Asking.asked_of, Talk.PrintsAnswer, Talk.TalksWrong};
 
 use crate::answers::{LineAnswer, add_answer};
 use crate::explaining::explain;

@@ -1,9 +1,8 @@
 //! Serves a dialogue, line by line.
-ghost use Rattle.std.specs.Prelude.{◌≡◌, ◌≤◌, IfOk, length};
+ghost use Rattle.std.specs.Prelude.{◌≡◌, ◌≤◌, length, IfOk};
 ghost use Rattle.im_session.specs.Kept.{Kept};
-ghost use Rattle.im_dialogue.specs.Hearing.{as_asked};
-ghost use Rattle.im_dialogue.specs.Talk.{TalksAsked, TalksQueue, outputs};
-ghost use Rattle.im_dialogue.specs.Together.{AreAsked};
+ghost use Rattle.im_dialogue.specs.{Hearing.as_asked, Together.AreAsked};
+ghost use Rattle.im_dialogue.specs.Talk.{outputs, TalksAsked, TalksQueue};
 
 use crate::asking::{Question, read_asked};
 use crate::backups::Backups;

@@ -1,9 +1,8 @@
 //! Adds what lines show that only look at the memory.
 ghost use Rattle.std.specs.Prelude.{◌≡◌, ◌++◌, OnOk, string_bytes};
-ghost use Rattle.im_types.specs.Contents.{block_at, held_at, waiters_at};
-ghost use Rattle.im_types.specs.Presences.{presence_in};
+ghost use Rattle.im_types.specs.Types.{held_at, waiters_at, block_at, presence_in};
 ghost use Rattle.im_dialogue.specs.Answers.{look_text, recalled_line};
-ghost use Rattle.im_dialogue.specs.Showing.{block_said, blocks_said, cell_said, entries_said, help_line, held_text};
+ghost use Rattle.im_dialogue.specs.Showing.{block_said, blocks_said, cell_said, entries_said, held_text, help_line};
 ghost use Rattle.im_dialogue.specs.Showing.{queue_text, recall, stat_line, state_text, states_said};
 
 use crate::answers::{add_kept, add_operation, add_request_refused};

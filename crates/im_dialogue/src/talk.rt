@@ -1,13 +1,11 @@
 //! Does with a session what is asked. The dialogue does so for each line that it serves by itself.
-ghost use Rattle.std.specs.Prelude.{◌≡◌, ◌≤◌, ◌++◌, true, Some, None, IfOk, OnOk};
-ghost use Rattle.im_dialogue.specs.declared.asking.Question.TheVariants.{Backup, Count, Room};
-ghost use Rattle.im_dialogue.specs.declared.asking.Question.TheVariants.{Serve, Turn, Window};
-ghost use Rattle.im_dialogue.specs.declared.answers.LineAnswer.TheVariants as answer;
+ghost use Rattle.std.specs.Prelude.{◌≡◌, ◌≤◌, true, ◌++◌, IfOk, OnOk, Some, None};
+ghost use Rattle.{im_turning.specs.Turning.IsSpent, im_turning.specs.Turning.point_of, im_session.specs.Serving.Rests};
+ghost use Rattle.im_dialogue.specs.declared.asking.Question.TheVariants.{Backup, Count, Room, Serve, Turn, Window};
 ghost use Rattle.im_dialogue.specs.declared.look.Look.{Look};
-ghost use Rattle.im_turning.specs.Turning.{IsSpent, point_of};
-ghost use Rattle.im_session.specs.Serving.{Rests};
-ghost use Rattle.im_dialogue.specs.Talk.{AnswersOrHalts, KeepsAnswered, KeepsNone, OnlyTurned, SaysNow, SaysOrHalts};
-ghost use Rattle.im_dialogue.specs.Talk.{about_of, backup_by, is_end};
+ghost use Rattle.im_dialogue.specs.Talk.{about_of, AnswersOrHalts, backup_by, is_end, KeepsAnswered, KeepsNone};
+ghost use Rattle.im_dialogue.specs.Talk.{OnlyTurned, SaysNow, SaysOrHalts};
+ghost use Rattle.im_dialogue.specs.declared.answers.LineAnswer.TheVariants as answer;
 
 use crate::about::About;
 use crate::answers::LineAnswer;

@@ -1,10 +1,7 @@
 //! Lines that stand together in the reader's buffer are served as one group, and answered.
-ghost use Rattle.std.specs.Prelude.{◌≡◌, ◌≤◌, ◌-◌, ◌++◌, false, length, map};
-ghost use Rattle.std.specs.Prelude.{IfOk, OnOk, List, ℕ, string_bytes};
-ghost use Rattle.im_dialogue.specs.Answers.{answer_text};
+ghost use Rattle.std.specs.Prelude.{◌≡◌, ℕ, ◌-◌, ◌≤◌, false, List, ◌++◌, map, length, IfOk, OnOk, string_bytes};
+ghost use Rattle.im_dialogue.specs.{Answers.answer_text, Telling.TalksAsGroup, Telling.TellsGroup, Watching.told_with};
 ghost use Rattle.im_dialogue.specs.Together.{answers_behind, group_start, line_answer};
-ghost use Rattle.im_dialogue.specs.Telling.{TalksAsGroup, TellsGroup};
-ghost use Rattle.im_dialogue.specs.Watching.{told_with};
 
 use crate::answers::{LineAnswer, add_answer};
 use crate::group_line::GroupLine;

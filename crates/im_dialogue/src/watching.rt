@@ -1,10 +1,6 @@
 //! The lines for those that watch. They follow an answer, and tell which waiting requests the line answered.
 ghost use Rattle.std.specs.Prelude.{◌≡◌, ◌++◌, OnOk, string_bytes};
-ghost use Rattle.im_types.specs.declared.operations.Kind.TheVariants.{I, M};
-ghost use Rattle.im_types.specs.declared.operations.Reply.TheVariants.{Value};
-ghost use Rattle.im_types.specs.Act.{act, at_cell, put, store};
-ghost use Rattle.im_types.specs.Contents.{held_at};
-ghost use Rattle.im_types.specs.Step.{asker, is_accepted};
+ghost use Rattle.im_types.specs.Types.{I, M, Value, held_at, store, put, at_cell, act, asker, is_accepted};
 ghost use Rattle.im_dialogue.specs.Watching.{answers_nobody, is_of_kind, is_quiet, nows_text, resumed_by, told_by};
 ghost use Rattle.im_dialogue.specs.Watching.{told_now, told_with};
 

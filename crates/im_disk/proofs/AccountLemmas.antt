@@ -1,11 +1,11 @@
 -- A sync or a write that failed has an outcome that the contract of disks allows.
-use Rattle.std.proofs.Common.{◌≡◌, ◌<◌, ◌≤◌, inl, inr, ⊎_elim, ℕ, suc, zero, ◌+◌, nat_lt, nat_le, Bool, true, false}
-use Rattle.std.proofs.Common.{◌&&◌, ◌||◌, ◌==◌, if◌then◌else◌, List, [], ◌∷◌, length, get_or, refl, ◌∙◌, ap, subst}
-use Rattle.std.proofs.Common.{arith}
-use Rattle.std.proofs.lemmas.Bool.{both_ways, eqb-true, le-ltb, lt-leb, and_parts, and_left, and_right, or_cases}
-use Rattle.im_disk.specs.Moment.{Moment, Outside, Shaken, Torn, overlaid}
-use Rattle.im_disk.specs.Account.{is_inside, are_same_outside, shaken_by, torn_by}
+use Rattle.std.proofs.Common.{◌≡◌, ℕ, zero, suc, ◌+◌, ◌<◌, ◌≤◌, Bool, true, false, ◌&&◌, ◌||◌, List, [], ◌∷◌, length}
+use Rattle.std.proofs.Common.{get_or, if◌then◌else◌, nat_lt, nat_le, ◌==◌, refl, ap, ◌∙◌, subst, inl, inr, ⊎_elim}
+use Rattle.std.proofs.Common.{arith, le-ltb, eqb-true}
+use Rattle.std.proofs.lemmas.Bool.{and_left, and_parts, and_right, both_ways, lt-leb, or_cases}
 use Rattle.im_disk.proofs.OverlayLemmas.{length-overlaid, overlaid_outside}
+use Rattle.im_disk.specs.Account.{are_same_outside, is_inside, shaken_by, torn_by}
+use Rattle.im_disk.specs.Moment.{Moment, Outside, overlaid, Shaken, Torn}
 
 not_inside : (rs : List (ℕ × ℕ)) (i : ℕ) → Outside rs i → is_inside rs i ≡ false
 not_inside [] i out = refl

@@ -1,16 +1,15 @@
 -- Bytes behind a gate: what each call that writes them leaves, and what stands there once they are written.
-use Rattle.std.proofs.Common.{◌≡◌, ◌≢◌, inl, inr, ⊎_elim, ℕ, zero, suc, ◌+◌, ◌-◌, ◌<◌, ◌≤◌, List, [], ◌∷◌, length}
-use Rattle.std.proofs.Common.{get_or, take, drop, refl, sym, ◌∙◌, ap, subst, arith, length-take, length-drop}
-use Rattle.std.proofs.Common.{get_or-take, get_or-drop}
-use Rattle.std.proofs.lemmas.Bool.{cases_lt, cases_eq}
-use Rattle.std.proofs.lemmas.List.{ext_get_or, take_all}
-use Rattle.im_types.specs.Bytes.{open_gate}
-use Rattle.im_disk.specs.Moment.{Moment, Left, Torn, Shaken, MayTick, overlaid, written, synced}
+use Rattle.std.proofs.Common.{◌≡◌, ℕ, zero, suc, ◌+◌, ◌-◌, ◌<◌, ◌≤◌, ◌≢◌, List, [], ◌∷◌, length, get_or, take, drop}
+use Rattle.std.proofs.Common.{sym, refl, ap, ◌∙◌, subst, inl, inr, ⊎_elim, arith, length-drop, length-take, get_or-drop}
+use Rattle.std.proofs.Common.{take_all, get_or-take, ext_get_or}
+use Rattle.std.proofs.lemmas.Bool.{cases_eq, cases_lt}
+use Rattle.im_types.specs.Types.{open_gate}
+use Rattle.im_disk.proofs.OverlayLemmas.{length-overlaid, overlaid_inside, overlaid_outside, overlaid_part}
+use Rattle.im_disk.proofs.SinceLemmas.{leaves_start, leaves_step, leaves_then, left_now, left_sync, left_synced}
+use Rattle.im_disk.proofs.SinceLemmas.{left_torn}
+use Rattle.im_disk.specs.Gate.{HasThere, IsClosed, MayOpen, MayWrite}
+use Rattle.im_disk.specs.Moment.{Left, MayTick, Moment, overlaid, Shaken, synced, Torn, written}
 use Rattle.im_disk.specs.Since.{LeavesNow, LeavesOnly, SameBut}
-use Rattle.im_disk.specs.Gate.{HasThere, IsClosed, MayWrite, MayOpen}
-use Rattle.im_disk.proofs.OverlayLemmas.{length-overlaid, overlaid_outside, overlaid_inside, overlaid_part}
-use Rattle.im_disk.proofs.SinceLemmas.{left_now, left_sync, left_torn, left_synced, leaves_start, leaves_step}
-use Rattle.im_disk.proofs.SinceLemmas.{leaves_then}
 
 -- a sync, the gate, a sync
 module _ {D : Type 0} (now : D → Moment) (past : D → List Moment) (at : ℕ) (d0 : D)

@@ -1,20 +1,18 @@
 -- What a call that is noted makes of the record of a disk in memory, and what a crash leaves of it.
-use Rattle.std.proofs.Common.{◌≡◌, ◌⊎◌, inl, inr, ⊎_elim, ℕ, suc, ◌+◌, ◌-◌, ◌<◌, ◌≤◌, List, [], ◌∷◌, ◌++◌, length}
-use Rattle.std.proofs.Common.{get_or, take, drop, reverse, replicate, Vec, refl, sym, ◌∙◌, ap, subst, arith}
-use Rattle.std.proofs.Common.{length-take, length-drop, length-append, Option, Some, None, min, ◌^◌}
-use Rattle.std.proofs.lemmas.Bool.{cases_lt}
-use Rattle.std.proofs.lemmas.List.{reverse-append, length-replicate, get_or-replicate, ext_get_or}
+use Rattle.std.proofs.Common.{◌≡◌, ℕ, suc, ◌+◌, ◌-◌, ◌^◌, ◌<◌, ◌≤◌, min, ◌⊎◌, List, [], ◌∷◌, ◌++◌, reverse, length}
+use Rattle.std.proofs.Common.{get_or, take, drop, replicate, Some, None, Option, Vec, sym, refl, ap, ◌∙◌, subst, inl}
+use Rattle.std.proofs.Common.{inr, ⊎_elim, arith, length-append, length-drop, length-take, ext_get_or}
+use Rattle.std.proofs.lemmas.{Bool.cases_lt, List.get_or-replicate, List.length-replicate, List.reverse-append}
 use Rattle.std.specs.declared.alloc.Global.{Global}
+use Rattle.im_disk.proofs.OverlayLemmas.{length-overlaid, overlaid_back, overlaid_front, overlaid_inside}
+use Rattle.im_disk.proofs.OverlayLemmas.{overlaid_outside, put_back}
+use Rattle.im_disk.specs.declared.memory.Crash.{Crash, TheVariants.Byte, TheVariants.Kept, TheVariants.Lost}
 use Rattle.im_disk.specs.declared.record.DeviceCall.{DeviceCall}
-use Rattle.im_disk.specs.declared.record.DeviceCall.TheVariants.{Other, Wrote, Synced}
-use Rattle.im_disk.specs.declared.memory.Crash.{Crash}
-use Rattle.im_disk.specs.declared.memory.Crash.TheVariants.{Kept, Lost, Byte}
-use Rattle.im_disk.specs.Moment.{Moment, Outside, Inside, Left, overlaid, written}
-use Rattle.im_disk.specs.Recording.{HasByte, LeftBy, ticked, crashed, failed, scarred}
-use Rattle.im_disk.specs.Record.{ranges_of, before, settled_of, filled, left_by, moment_of, past_of, LieWithin, shown}
-use Rattle.im_disk.specs.Record.{IsSound}
-use Rattle.im_disk.proofs.OverlayLemmas.{length-overlaid, overlaid_outside, overlaid_inside, overlaid_front}
-use Rattle.im_disk.proofs.OverlayLemmas.{overlaid_back, put_back}
+use Rattle.im_disk.specs.declared.record.DeviceCall.TheVariants.{Other, Synced, Wrote}
+use Rattle.im_disk.specs.Moment.{Inside, Left, Moment, Outside, overlaid, written}
+use Rattle.im_disk.specs.Record.{before, filled, IsSound, left_by, LieWithin, moment_of, past_of, ranges_of, settled_of}
+use Rattle.im_disk.specs.Record.{shown}
+use Rattle.im_disk.specs.Recording.{crashed, failed, HasByte, LeftBy, scarred, ticked}
 
 newest_first : (calls more : List DeviceCall) (call : DeviceCall) → more ≡ calls ++ call ∷ []
     → reverse more ≡ call ∷ reverse calls

@@ -1,9 +1,8 @@
 -- What a failed write of a disk in memory is to a reader of the contract of disks.
-use Rattle.std.proofs.Common.{inl, inr, ℕ, ◌+◌, ◌≤◌, length, replicate, Option, Some, None, refl, sym, ap, subst, arith}
+use Rattle.std.proofs.Common.{ℕ, ◌+◌, ◌≤◌, length, replicate, Some, None, Option, sym, refl, ap, subst, inl, inr, arith}
 use Rattle.std.proofs.lemmas.List.{length-replicate}
-use Rattle.im_disk.specs.Moment.{Moment, Torn, MayTick, written}
-use Rattle.im_disk.specs.Recording.{Recording, Fails, scarred}
-use Rattle.im_disk.proofs.OverlayLemmas.{torn_by_write}
+use Rattle.im_disk.{proofs.OverlayLemmas.torn_by_write, specs.Moment.MayTick, specs.Moment.Moment, specs.Moment.Torn}
+use Rattle.im_disk.{specs.Moment.written, specs.Recording.Fails, specs.Recording.Recording, specs.Recording.scarred}
 
 torn_by_scar : (at n : ℕ) (byte : Option ℕ) (m : Moment) → at + n ≤ length m.bytes → Torn at n m (scarred at n byte m)
 torn_by_scar at n None m fits = record { size = refl; same = λ i out. refl; ranges = refl }

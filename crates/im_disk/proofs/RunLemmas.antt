@@ -1,11 +1,8 @@
 -- Runs of calls that only read, one behind the other, as a record says it.
-use Rattle.std.proofs.Common.{Result, Ok, Err, subst, ℕ}
-use Rattle.im_types.specs.declared.refusals.Refusal.{Refusal}
-use Rattle.im_disk.specs.declared.disk.Disk.{Ghosts}
-use Rattle.im_disk.specs.Moment.{Faults, Fault}
-use Rattle.im_disk.specs.Since.{OnlyReads}
-use Rattle.im_disk.specs.Runs.{ReadsOrRefuses}
+use Rattle.std.proofs.Common.{ℕ, Ok, Err, Result, subst}
+use Rattle.im_types.specs.Types.{Refusal}
 use Rattle.im_disk.proofs.SinceLemmas.{reads_then}
+use Rattle.im_disk.specs.{declared.disk.Disk.Ghosts, Moment.Fault, Moment.Faults, Runs.ReadsOrRefuses, Since.OnlyReads}
 
 module _ {D : Type 0} (disk : Ghosts D) (old mid new : D) where
   both : (disk.honest mid → OnlyReads disk.now disk.past old mid) → (disk.honest new → disk.honest mid)

@@ -1,12 +1,11 @@
 -- Laws of what a run of calls may leave, for the proofs of callers.
-use Rattle.std.specs.Prelude.{◌≡◌, ◌⊎◌, ℕ, ◌+◌, ◌-◌, ◌<◌, ◌≤◌, List, [], ◌∷◌, length, take, drop, get_or, refl}
-use Rattle.std.proofs.Common.{inl, inr, ⊎_elim, sym, ◌∙◌, ap, subst, arith, length-take, length-drop, get_or-take}
-use Rattle.std.proofs.Common.{get_or-drop}
-use Rattle.std.proofs.lemmas.Bool.{cases_lt}
-use Rattle.std.proofs.lemmas.List.{ext_get_or}
-use Rattle.im_disk.specs.Moment.{Moment, Outside, Left, LeftSince, Torn, Shaken, MayTick, overlaid, synced}
-use Rattle.im_disk.specs.Since.{Leaves, LeavesNow, LeavesOnly, SameBut, ReadsOnly}
-use Rattle.im_disk.proofs.OverlayLemmas.{length-overlaid, overlaid_outside, overlaid_inside}
+use Rattle.std.proofs.Common.{◌≡◌, ℕ, ◌+◌, ◌-◌, ◌<◌, ◌≤◌, ◌⊎◌, List, [], ◌∷◌, length, take, drop, sym, refl, ap, ◌∙◌}
+use Rattle.std.proofs.Common.{subst, inl, inr, ⊎_elim, arith, length-drop, length-take, get_or-drop, get_or-take}
+use Rattle.std.proofs.Common.{ext_get_or}
+use Rattle.std.{specs.Prelude.get_or, proofs.lemmas.Bool.cases_lt}
+use Rattle.im_disk.proofs.OverlayLemmas.{length-overlaid, overlaid_inside, overlaid_outside}
+use Rattle.im_disk.specs.Moment.{Left, LeftSince, MayTick, Moment, Outside, overlaid, Shaken, synced, Torn}
+use Rattle.im_disk.specs.Since.{Leaves, LeavesNow, LeavesOnly, ReadsOnly, SameBut}
 
 none_before : (past : List Moment) (t : ℕ) (c : List ℕ) → length past ≤ t → LeftSince past t c → ⊥
 none_before [] t c le left = left

@@ -1,8 +1,7 @@
 -- What an honest file would have come to, if it had given the answers of a real one.
-use Rattle.std.specs.Prelude.{ℕ, zero, suc, ◌+◌, nat_lt, nat_le, Bool, true, false, not, ◌&&◌, ◌||◌, ◌==◌}
-use Rattle.std.specs.Prelude.{if◌then◌else◌, List, [], ◌∷◌, length, take, drop, replicate, slice_index, bytes_eq}
-use Rattle.std.specs.Prelude.{IsTrue}
-use Rattle.im_disk.specs.Moment.{Moment, overlaid, written, synced}
+use Rattle.std.specs.Prelude.{ℕ, zero, suc, ◌+◌, Bool, true, false, not, ◌&&◌, ◌||◌, List, [], ◌∷◌, length, take, drop}
+use Rattle.std.specs.Prelude.{replicate, if◌then◌else◌, IsTrue, nat_lt, nat_le, ◌==◌, slice_index, bytes_eq}
+use Rattle.im_disk.specs.Moment.{Moment, overlaid, synced, written}
 
 -- what is known of a file from its calls and their answers
 pub record Account : Type 0 where

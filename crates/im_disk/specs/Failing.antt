@@ -1,7 +1,7 @@
 -- The failure that is reported of a file.
-use Rattle.std.specs.Prelude.{Bool, true, false, Option, Some, None}
+use Rattle.std.specs.Prelude.{Bool, true, false, Some, None, Option}
 use Rattle.im_disk.specs.declared.failure.Failure.{Failure}
-use Rattle.im_disk.specs.declared.failure.Failure.TheVariants.{Length, Read, Write, Sync}
+use Rattle.im_disk.specs.declared.failure.Failure.TheVariants.{Length, Read, Sync, Write}
 
 -- a failed sync is reported
 abbrev pub is_of_sync : Option Failure → Bool

@@ -1,9 +1,8 @@
 -- A file of the operating system, by the account of its calls.
 use Rattle.std.specs.Prelude.{◌≡◌, ℕ, Bool, not, List}
-use Rattle.im_disk.specs.declared.file.FileDisk.{FileDisk}
-use Rattle.im_disk.specs.declared.start.Start.{Ghosts}
-use Rattle.im_disk.specs.Account.{Account, IsHonest, replay, is_usable}
-use Rattle.im_disk.specs.Moment.{Ticks, MayTick, Torn, written}
+use Rattle.im_disk.specs.Account.{Account, is_usable, IsHonest, replay}
+use Rattle.im_disk.specs.declared.{file.FileDisk.FileDisk, start.Start.Ghosts}
+use Rattle.im_disk.specs.Moment.{MayTick, Ticks, Torn, written}
 
 module _ {S : Type 0} where
   -- what an honest file with this start would have come to, after the calls so far

@@ -1,8 +1,7 @@
 -- What a fuse shows, and which calls it fails.
-use Rattle.std.specs.Prelude.{ℕ, ◌+◌, min, Bool, Option, None, Some, nat_eq, nat_le}
-use Rattle.im_types.specs.declared.TheConstants.{LAST}
-use Rattle.im_disk.specs.declared.fuse.Mode.{Mode}
-use Rattle.im_disk.specs.declared.fuse.Mode.TheVariants.{Stop, Once, Scar}
+use Rattle.std.specs.Prelude.{ℕ, ◌+◌, min, Bool, nat_eq, nat_le, Some, None, Option}
+use Rattle.im_types.specs.Types.{LAST}
+use Rattle.im_disk.specs.declared.fuse.Mode.{Mode, TheVariants.Once, TheVariants.Scar, TheVariants.Stop}
 use Rattle.im_disk.specs.Recording.{Recording}
 
 -- a disk with a fuse, as contracts see it

@@ -1,11 +1,8 @@
 -- The moments of a disk in memory, from its bytes and the record of its calls, newest first.
-use Rattle.std.specs.Prelude.{ℕ, ◌+◌, ◌-◌, ◌≤◌, List, [], ◌∷◌, length, take, replicate, reverse}
-use Rattle.im_disk.specs.declared.record.DeviceCall.{DeviceCall}
-use Rattle.im_disk.specs.declared.record.DeviceCall.TheVariants.{Other, Wrote, Synced}
-use Rattle.im_disk.specs.declared.memory.Crash.{Crash}
-use Rattle.im_disk.specs.declared.memory.Crash.TheVariants.{Kept, Lost, Byte}
-use Rattle.im_disk.specs.Moment.{Moment, overlaid}
-use Rattle.im_disk.specs.Recording.{Recording}
+use Rattle.std.specs.Prelude.{ℕ, ◌+◌, ◌-◌, ◌≤◌, List, [], ◌∷◌, reverse, length, take, replicate}
+use Rattle.im_disk.specs.declared.memory.Crash.{Crash, TheVariants.Byte, TheVariants.Kept, TheVariants.Lost}
+use Rattle.im_disk.specs.{declared.record.DeviceCall.DeviceCall, Moment.Moment, Moment.overlaid, Recording.Recording}
+use Rattle.im_disk.specs.declared.record.DeviceCall.TheVariants.{Other, Synced, Wrote}
 
 -- the ranges since the last sync
 abbrev pub ranges_of : List DeviceCall → List (ℕ × ℕ)

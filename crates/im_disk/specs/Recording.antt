@@ -1,9 +1,8 @@
 -- What a disk in memory shows, and what its calls do to it.
-use Rattle.std.specs.Prelude.{◌≡◌, ◌⊎◌, ℕ, ◌+◌, ◌-◌, ◌^◌, min, List, [], ◌∷◌, length, replicate, slice_index, Option}
-use Rattle.std.specs.Prelude.{None, Some, Result, MatchResult}
-use Rattle.im_disk.specs.declared.memory.Crash.{Crash}
-use Rattle.im_disk.specs.declared.memory.Crash.TheVariants.{Kept, Lost, Byte}
-use Rattle.im_disk.specs.Moment.{Moment, Outside, Inside, written, synced}
+use Rattle.std.specs.Prelude.{◌≡◌, ℕ, ◌+◌, ◌-◌, ◌^◌, min, ◌⊎◌, List, [], ◌∷◌, length, replicate, slice_index}
+use Rattle.std.specs.Prelude.{MatchResult, Some, None, Option, Result}
+use Rattle.im_disk.specs.declared.memory.Crash.{Crash, TheVariants.Byte, TheVariants.Kept, TheVariants.Lost}
+use Rattle.im_disk.specs.Moment.{Inside, Moment, Outside, synced, written}
 
 -- a disk in memory, as contracts see it
 pub record Recording : Type 0 where

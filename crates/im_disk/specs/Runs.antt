@@ -2,10 +2,9 @@
 -- `D.Disk`, and its values before and after the run. All but the failures is known only if the disk is honest at the
 -- end.
 use Rattle.std.specs.Prelude.{ℕ, List, Result}
-use Rattle.im_types.specs.declared.refusals.Refusal.{Refusal}
-use Rattle.im_disk.specs.declared.disk.Disk.{Ghosts}
-use Rattle.im_disk.specs.Moment.{Counts, Faults}
-use Rattle.im_disk.specs.Since.{LeavesOnly, OnlyReads, CallsBy}
+use Rattle.im_types.specs.Types.{Refusal}
+use Rattle.im_disk.specs.{declared.disk.Disk.Ghosts, Moment.Counts, Moment.Faults}
+use Rattle.im_disk.specs.Since.{CallsBy, LeavesOnly, OnlyReads}
 
 module _ {D : Type 0} (disk : Ghosts D) (old new : D) where
   -- The run leaves only P. It makes n calls, or no more if it fails. It fails if and only if a call of the disk does.

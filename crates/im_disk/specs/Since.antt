@@ -1,6 +1,6 @@
 -- What a run of calls may leave from its start on, in one clause. proofs/SinceLemmas.antt has the laws.
-use Rattle.std.specs.Prelude.{◌≡◌, ◌⊎◌, ℕ, ◌+◌, ◌<◌, ◌≤◌, List, ◌∷◌, length, slice_index, Result, MatchResult}
-use Rattle.im_disk.specs.Moment.{Moment, Left, LeftSince}
+use Rattle.std.specs.Prelude.{◌≡◌, ℕ, ◌+◌, ◌<◌, ◌≤◌, ◌⊎◌, List, ◌∷◌, length, slice_index, MatchResult, Result}
+use Rattle.im_disk.specs.Moment.{Left, LeftSince, Moment}
 
 -- The run leaves only P: since any time up to its start, a crash leaves a file with P, or one that it could leave
 -- before the run.

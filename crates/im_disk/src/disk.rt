@@ -1,6 +1,6 @@
 //! The contract of a disk.
-ghost use Rattle.std.specs.Prelude.{◌≡◌, ◌+◌, ◌≤◌, ◌∷◌, List, ℕ, length, take, drop, IfOk, OnOk, OnErr};
-ghost use Rattle.im_disk.specs.Moment.{Moment, Torn, Shaken, Ticks, MayTick, Counts, written, synced};
+ghost use Rattle.std.specs.Prelude.{◌≡◌, ℕ, ◌+◌, ◌≤◌, List, ◌∷◌, length, take, drop, IfOk, OnOk, OnErr};
+ghost use Rattle.im_disk.specs.Moment.{Counts, MayTick, Moment, Shaken, synced, Ticks, Torn, written};
 
 use im_types::Refusal;
 
@@ -9,7 +9,7 @@ use im_types::Refusal;
 pub struct DeviceFault;
 
 impl From<DeviceFault> for Refusal {
-    ghost use Rattle.im_types.specs.declared.refusals.Refusal.TheVariants.{Device};
+    ghost use Rattle.im_types.specs.Types.{Device};
 
     ghost from_gives = { λ _ refusal. refusal ≡ Device };
 

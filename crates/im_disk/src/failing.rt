@@ -1,7 +1,6 @@
 //! Counts the failed calls of the system, and keeps the one to report.
-ghost use Rattle.std.specs.Prelude.{◌≡◌, ◌≤◌, true, false, nat_lt, Some, is_some};
-ghost use Rattle.im_disk.specs.Failing.{is_of_sync};
-ghost use Rattle.im_disk.specs.Moment.{Rises};
+ghost use Rattle.std.specs.Prelude.{◌≡◌, ◌≤◌, true, false, is_some, nat_lt, Some};
+ghost use Rattle.im_disk.specs.{Failing.is_of_sync, Moment.Rises};
 
 use crate::record::fault;
 use crate::{DeviceFault, Failure};

@@ -1,7 +1,7 @@
 //! A disk over a file of the operating system.
-ghost use Rattle.std.specs.Prelude.{◌≡◌, ◌↔◌, ◌+◌, ◌≤◌, ◌∷◌, [], not, nat_lt, is_some, length, replicate};
-ghost use Rattle.std.specs.Prelude.{IsTrue, IsOk, IfOk, OnOk};
-ghost use Rattle.im_disk.specs.Account.{IsHonest, accounted_call, is_measured, is_usable};
+ghost use Rattle.std.specs.Prelude.{◌≡◌, ◌+◌, ◌≤◌, not, ◌↔◌, [], ◌∷◌, length, replicate, is_some, IfOk, OnOk, IsOk};
+ghost use Rattle.std.specs.Prelude.{IsTrue, nat_lt};
+ghost use Rattle.im_disk.specs.Account.{accounted_call, is_measured, is_usable, IsHonest};
 ghost use Rattle.im_disk.specs.Failing.{is_of_sync};
 
 use crate::account::Ledger;
@@ -43,7 +43,7 @@ pub struct FileDisk<S: Start> {
 }
 
 impl<S: Start> FileDisk<S> {
-    ghost use Rattle.im_disk.specs.File.{HasTorn, HasWritten, IsAsBefore, account_of, has_failed_sync};
+    ghost use Rattle.im_disk.specs.File.{account_of, has_failed_sync, HasTorn, HasWritten, IsAsBefore};
     ghost use Rattle.im_disk.specs.Moment.{Counts};
 
     /// Makes a file of `len` zero bytes at the path, also over a file that is there. It puts the file and its name on

@@ -1,6 +1,6 @@
 //! A disk in memory that passes a given number of calls and then fails.
-ghost use Rattle.std.specs.Prelude.{◌≡◌, ◌+◌, ◌≤◌, length, take, drop, min, true, false, Ok, OnOk, IsErr};
-ghost use Rattle.im_types.specs.declared.TheConstants.{LAST};
+ghost use Rattle.std.specs.Prelude.{◌≡◌, ◌+◌, ◌≤◌, min, true, false, length, take, drop, OnOk, IsErr, Ok};
+ghost use Rattle.im_types.specs.Types.{LAST};
 
 use crate::{DeviceFault, Disk, MemDisk};
 use im_types::LAST;
@@ -33,7 +33,7 @@ impl Model for FuseDisk {
     ghost Value = { Fused };
 
     ghost use Rattle.std.specs.Prelude.{◌≤◌};
-    ghost use Rattle.im_types.specs.declared.TheConstants.{LAST};
+    ghost use Rattle.im_types.specs.Types.{LAST};
 
     ghost view = { λ f. record { disk = f.disk; passes = f.passes; mode = f.mode; calls = f.calls } };
 
@@ -105,9 +105,9 @@ impl FuseDisk {
 }
 
 impl Disk for FuseDisk {
-    ghost use Rattle.im_disk.specs.Moment.{Moment, MayTick, Torn, Ticks, Shaken, Counts, written, synced};
-    ghost use Rattle.im_disk.specs.Recording.{Answers, Fails, ticked, settled_by_sync, scarred};
-    ghost use Rattle.im_disk.specs.Fuse.{fails, scar_of, counted};
+    ghost use Rattle.im_disk.specs.Fuse.{counted, fails, scar_of};
+    ghost use Rattle.im_disk.specs.Moment.{Counts, MayTick, Moment, Shaken, synced, Ticks, Torn, written};
+    ghost use Rattle.im_disk.specs.Recording.{Answers, Fails, scarred, settled_by_sync, ticked};
 
     ghost now = { λ f. f.disk.moment };
 

@@ -1,9 +1,7 @@
 //! Bytes behind a gate: they count only once the gate, their first byte, is open.
-ghost use Rattle.std.specs.Prelude.{◌≡◌, ◌+◌, ◌≤◌, ◌<◌, [], ◌∷◌, length, slice_index, OnOk};
-ghost use Rattle.im_types.specs.Bytes.{open_gate};
-ghost use Rattle.im_disk.specs.Moment.{written, synced};
-ghost use Rattle.im_disk.specs.Runs.{Runs};
-ghost use Rattle.im_disk.specs.Gate.{IsClosed, MayWrite, MayOpen};
+ghost use Rattle.std.specs.Prelude.{◌≡◌, ◌+◌, ◌<◌, ◌≤◌, [], ◌∷◌, length, OnOk, slice_index};
+ghost use Rattle.im_types.specs.Types.{open_gate};
+ghost use Rattle.im_disk.specs.{Gate.IsClosed, Gate.MayOpen, Gate.MayWrite, Moment.synced, Moment.written, Runs.Runs};
 
 use crate::{DeviceFault, Disk};
 use im_types::layout::OPEN;

@@ -1,5 +1,5 @@
 //! A disk in memory. It keeps a record of its calls, which gives each past moment.
-ghost use Rattle.std.specs.Prelude.{◌≡◌, ◌+◌, ◌≤◌, ◌∷◌, [], length, take, drop, Ok, IfOk, IfErr, OnOk};
+ghost use Rattle.std.specs.Prelude.{◌≡◌, ◌+◌, ◌≤◌, [], ◌∷◌, length, take, drop, IfOk, IfErr, OnOk, Ok};
 
 use crate::record::{DeviceCall, add, fault, fill, leave, note, put};
 use crate::{DeviceFault, Disk};
@@ -44,7 +44,7 @@ impl Model for MemDisk {
 
     ghost Value = { Recording };
 
-    ghost use Rattle.im_disk.specs.Record.{shown, IsSound};
+    ghost use Rattle.im_disk.specs.Record.{IsSound, shown};
 
     ghost view = { λ d. shown d.bytes.items d.calls.items d.begun d.failures };
 
@@ -81,8 +81,8 @@ impl MemDisk {
 }
 
 impl Disk for MemDisk {
-    ghost use Rattle.im_disk.specs.Moment.{Moment, Counts, written};
-    ghost use Rattle.im_disk.specs.Recording.{Answers, ticked, settled_by_sync};
+    ghost use Rattle.im_disk.specs.Moment.{Counts, Moment, written};
+    ghost use Rattle.im_disk.specs.Recording.{Answers, settled_by_sync, ticked};
 
     ghost now = { λ d. d.moment };
 
@@ -140,8 +140,8 @@ impl Disk for MemDisk {
 }
 
 impl MemDisk {
-    ghost use Rattle.im_disk.specs.Moment.{Left, Torn, MayTick, Rises};
-    ghost use Rattle.im_disk.specs.Recording.{Fails, scarred, LeftBy, crashed};
+    ghost use Rattle.im_disk.specs.Moment.{Left, MayTick, Rises, Torn};
+    ghost use Rattle.im_disk.specs.Recording.{crashed, Fails, LeftBy, scarred};
 
     /// Returns the disk after a crash of this kind. The ranges in doubt, and what they held, stay the same until a sync
     /// succeeds. A second crash before that may still lose them. A new record of calls begins.

@@ -1,7 +1,6 @@
 //! Makes or opens a file of the operating system: which files are accepted, under which lock, and what is then on the
 //! disk.
-ghost use Rattle.std.specs.Prelude.{◌≡◌, true};
-ghost use Rattle.std.specs.Fs.{asks_create_new};
+ghost use Rattle.std.specs.{Prelude.◌≡◌, Prelude.true, Fs.asks_create_new};
 
 use crate::Start;
 use im_types::Refusal;
@@ -46,7 +45,7 @@ impl From<TryLockError> for OpenFault {
 }
 
 impl From<OpenFault> for Refusal {
-    ghost use Rattle.im_types.specs.declared.refusals.Refusal.TheVariants.{Device};
+    ghost use Rattle.im_types.specs.Types.{Device};
 
     ghost from_gives = { λ _ refusal. refusal ≡ Device };
 

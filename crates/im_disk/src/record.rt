@@ -1,8 +1,8 @@
 //! The record of a disk in memory: each call, with what undoes it.
-ghost use Rattle.std.specs.Prelude.{◌≡◌, ◌+◌, ◌-◌, ◌^◌, ◌≤◌, ◌++◌, ◌∷◌, [], length, min, replicate, reverse};
-ghost use Rattle.std.specs.Prelude.{OnOk, OnErr};
-ghost use Rattle.im_disk.specs.Moment.{Rises, overlaid};
-ghost use Rattle.im_disk.specs.Record.{ranges_of, settled_of, filled, left_by, LieWithin};
+ghost use Rattle.std.specs.Prelude.{◌≡◌, ◌+◌, ◌-◌, ◌^◌, ◌≤◌, min, [], ◌∷◌, ◌++◌, reverse, length, replicate, OnOk};
+ghost use Rattle.std.specs.Prelude.{OnErr};
+ghost use Rattle.im_disk.specs.Moment.{overlaid, Rises};
+ghost use Rattle.im_disk.specs.Record.{filled, left_by, LieWithin, ranges_of, settled_of};
 
 use crate::{Crash, DeviceFault};
 use std::alloc::AllocError;

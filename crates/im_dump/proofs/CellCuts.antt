@@ -1,22 +1,16 @@
 -- The lines of cells, cut off one after another. (Own.)
-use Rattle.std.proofs.Common.{◌≡◌, ◌∙◌, ◌⊎◌, inl, inr, ℕ, zero, suc, ◌+◌, ◌<◌, ◌≤◌, ◌^◌, ◌==◌, Bool, List, [], ◌∷◌}
-use Rattle.std.proofs.Common.{◌++◌, length, refl, ap, ap₂, sym, arith, append_assoc, Some, subst}
-use Rattle.std.specs.Prelude.{Option, None, codes, decimal, if◌then◌else◌, option_map}
+use Rattle.std.proofs.Common.{◌≡◌, ℕ, zero, suc, ◌+◌, ◌^◌, ◌<◌, ◌≤◌, Bool, ◌⊎◌, List, [], ◌∷◌, ◌++◌, length}
+use Rattle.std.proofs.Common.{if◌then◌else◌, ◌==◌, Some, None, codes, decimal, Option, option_map, sym, refl, ap, ◌∙◌}
+use Rattle.std.proofs.Common.{subst, ap₂, inl, inr, append_assoc, arith, eq-eqb, ne_eqb, eqb-true}
+use Rattle.std.proofs.lemmas.{Bool.cases_Bool, Bool.cases_lt, Bool.eqb-false, List.append_cancel_left}
 use Rattle.std.specs.List.{AllByRecursion}
-use Rattle.std.proofs.lemmas.Bool.{cases_Bool, cases_lt, eq-eqb, eqb-false, eqb-true, ne_eqb}
-use Rattle.std.proofs.lemmas.List.{append_cancel_left}
-use Rattle.im_types.specs.declared.operations.Block.{Block}
-use Rattle.im_types.specs.declared.operations.Kind.{Kind}
-use Rattle.im_types.specs.declared.operations.Waiter.{Waiter}
-use Rattle.im_types.specs.Contents.{CellState, Empty, Full, Clashed, Held, HasBlocks, block_at, held_at, waiters_in}
-use Rattle.im_types.specs.Contents.{waiters_of}
-use Rattle.im_types.specs.declared.cells.Cell.TheVariants.{Full as IsFull, Clashed as IsClashed}
-use Rattle.im_types.specs.Presences.{presence_in, presence_of}
+use Rattle.im_types.specs.Types.{Kind, Waiter, Block, CellState, Empty, Full, Clashed, Held, held_at, waiters_of}
+use Rattle.im_types.specs.Types.{waiters_in, block_at, HasBlocks, presence_of, presence_in, CellFull as IsFull}
+use Rattle.im_types.specs.Types.{CellClashed as IsClashed}
 use Rattle.im_text.specs.Texts.{kind_text, line_feed}
+use Rattle.im_dump.proofs.{Cuts.field_cut, Cuts.kind_cut, Cuts.number_then, Steps.three_same}
 use Rattle.im_dump.specs.Dump.{begun_line, state_lines, waits_line, waits_lines}
 use Rattle.im_dump.specs.Fitting.{FitsHeld, FitsState, FitsWaiter}
-use Rattle.im_dump.proofs.Steps.{three_same}
-use Rattle.im_dump.proofs.Cuts.{field_cut, kind_cut, number_then}
 
 -- a line of the cell at an address, from behind its start on
 abbrev pub at_cell : ℕ → List ℕ → List ℕ

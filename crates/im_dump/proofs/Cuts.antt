@@ -1,26 +1,16 @@
 -- Two texts that are the same have the same words and numbers at their fronts. (Own.)
-use Rattle.std.proofs.Common.{rules, ◌≡◌, ◌∙◌, ◌⊎◌, inl, inr, ℕ, ◌+◌, ◌*◌, ◌<◌, ◌≤◌, ◌^◌, ◌==◌, List, [], ◌∷◌, ◌++◌}
-use Rattle.std.proofs.Common.{refl, ap, sym, arith, append_assoc, Some, subst}
-use Rattle.std.specs.Prelude.{codes, decimal, if◌then◌else◌, slice_index_or}
-use Rattle.std.specs.Int.{IsInRange}
-use Rattle.std.specs.Str.Parse.{digits_value}
+use Rattle.std.proofs.Common.{◌≡◌, ℕ, ◌+◌, ◌*◌, ◌^◌, ◌<◌, ◌≤◌, ◌⊎◌, List, [], ◌∷◌, ◌++◌, if◌then◌else◌, ◌==◌}
+use Rattle.std.proofs.Common.{slice_index_or, Some, codes, decimal, sym, refl, ap, ◌∙◌, subst, inl, inr, append_assoc}
+use Rattle.std.proofs.Common.{arith, rules}
+use Rattle.std.proofs.lemmas.{Fmt.decimal_injective, Fmt.digits_decimal, List.append_cancel_left}
 use Rattle.std.proofs.lemmas.Str.Parse.{IsNumeralModel, numerals_by_value}
-use Rattle.std.proofs.lemmas.Fmt.{decimal_injective, digits_decimal}
-use Rattle.std.proofs.lemmas.List.{append_cancel_left}
-use Rattle.im_types.specs.declared.operations.Kind.{Kind}
-use Rattle.im_types.specs.declared.operations.Kind.TheVariants.{I, M}
-use Rattle.im_types.specs.declared.operations.Op.{Op}
-use Rattle.im_types.specs.declared.operations.Op.TheVariants.{Alloc, Release, Reset, Fetch, Store, Take, Put}
-use Rattle.im_types.specs.declared.operations.Reply.TheVariants.{Base, NoSpace, BadLength, Value, Stored, Clash}
-use Rattle.im_types.specs.declared.operations.Reply.TheVariants.{NoCell, WrongKind, Released, NoBlock, StillWaiting}
-use Rattle.im_types.specs.declared.operations.Reply.TheVariants.{Cleared}
-use Rattle.im_types.specs.declared.operations.Entry.{Entry}
-use Rattle.im_types.specs.declared.operations.Entry.TheVariants.{Waiting, Answered}
-use Rattle.im_types.specs.Agreement.{address_of}
-use Rattle.im_types.specs.Bytes.{FitsEntry, FitsOp, entry_code, entry_number, op_code, op_value}
-use Rattle.im_types.specs.Slot.{op_of}
+use Rattle.std.specs.{Int.IsInRange, Str.Parse.digits_value}
+use Rattle.im_types.specs.Types.{Entry, Kind, Op, Waiting, Answered, I, M, Alloc, Release, Reset, Fetch, Store, Take}
+use Rattle.im_types.specs.Types.{Put, Base, NoSpace, BadLength, Value, Stored, Clash, NoCell, WrongKind, Released}
+use Rattle.im_types.specs.Types.{NoBlock, StillWaiting, Cleared, address_of, op_code, op_value, entry_code}
+use Rattle.im_types.specs.Types.{entry_number, FitsOp, FitsEntry, op_of}
+use Rattle.im_formats.proofs.Fields.{entry_of-spelled, number_fits, op_of-spelled}
 use Rattle.im_formats.specs.Reading.{entry_of}
-use Rattle.im_formats.proofs.Fields.{op_of-spelled, entry_of-spelled, number_fits}
 use Rattle.im_text.specs.Texts.{entry_text, kind_text, op_text}
 
 -- ---- numbers

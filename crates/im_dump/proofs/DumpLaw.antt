@@ -1,23 +1,18 @@
 -- A text is the dump of at most one memory. (Own.)
-use Rattle.std.proofs.Common.{◌≡◌, ◌∙◌, inl, inr, ℕ, zero, suc, ◌+◌, ◌<◌, ◌≤◌, ◌^◌, List, ◌∷◌, ◌++◌, length, refl}
-use Rattle.std.proofs.Common.{ap, ap₂, sym, arith, append_assoc, Some, subst}
-use Rattle.std.specs.Prelude.{Option, None, codes, decimal, slice_get}
-use Rattle.std.proofs.lemmas.Bool.{cases_lt, eqb-false}
-use Rattle.std.proofs.lemmas.List.{append_cancel_left, ext_get_or}
-use Rattle.std.proofs.lemmas.Option.{slice_get_past, slice_get_cases}
-use Rattle.im_types.specs.declared.TheConstants.{MAX_CELLS, MAX_ELEMENTS, MAX_SLOTS}
-use Rattle.im_types.specs.Contents.{Contents, HasBlocks, Held, Window, held_at}
-use Rattle.im_types.specs.Layout.{Sizes}
-use Rattle.im_types.specs.Memory.{IsWindow}
-use Rattle.im_types.specs.Sizes.{AreLimits}
+use Rattle.std.proofs.Common.{◌≡◌, ℕ, zero, suc, ◌+◌, ◌^◌, ◌<◌, ◌≤◌, List, ◌∷◌, ◌++◌, length, slice_get, Some, None}
+use Rattle.std.proofs.Common.{codes, decimal, Option, sym, refl, ap, ◌∙◌, subst, ap₂, inl, inr, append_assoc, arith}
+use Rattle.std.proofs.Common.{ext_get_or}
+use Rattle.std.proofs.lemmas.{Bool.cases_lt, Bool.eqb-false, List.append_cancel_left}
+use Rattle.std.proofs.lemmas.Option.{slice_get_cases, slice_get_past}
+use Rattle.im_types.specs.Types.{MAX_CELLS, MAX_ELEMENTS, MAX_SLOTS, AreLimits, Held, Window, Contents, held_at}
+use Rattle.im_types.specs.Types.{HasBlocks, IsWindow, Sizes}
 use Rattle.im_text.specs.Texts.{texts_below}
-use Rattle.im_dump.specs.Dump.{all_cells, all_windows, cell_lines, dump_text, first_line, head_lines, last_line}
-use Rattle.im_dump.specs.Dump.{window_lines}
-use Rattle.im_dump.specs.Fitting.{FitsContents, FitsDump}
+use Rattle.im_dump.proofs.CellCuts.{at_cell, block_in, FitsLength, from_before, held_cut, later_held, NoCell}
 use Rattle.im_dump.proofs.Cuts.{field_cut, second, third}
-use Rattle.im_dump.proofs.Steps.{three_same, below_is, in_step, lists_by_get, texts_from}
-use Rattle.im_dump.proofs.CellCuts.{FitsLength, NoCell, at_cell, block_in, from_before, held_cut, later_held}
-use Rattle.im_dump.proofs.WindowCuts.{BeginsE, NoWindow, at_window, begins_window, later_window, window_cut}
+use Rattle.im_dump.proofs.Steps.{below_is, in_step, lists_by_get, texts_from, three_same}
+use Rattle.im_dump.proofs.WindowCuts.{at_window, begins_window, BeginsE, later_window, NoWindow, window_cut}
+use Rattle.im_dump.specs.{Dump.all_cells, Dump.all_windows, Dump.cell_lines, Dump.dump_text, Dump.first_line}
+use Rattle.im_dump.specs.{Dump.head_lines, Dump.last_line, Dump.window_lines, Fitting.FitsContents, Fitting.FitsDump}
 
 -- ---- the head
 

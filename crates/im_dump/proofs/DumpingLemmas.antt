@@ -1,19 +1,12 @@
 -- What is dumped of an image, and that it was written. (Own.)
-use Rattle.std.proofs.Common.{◌≡◌, ◌∙◌, ◌<◌, ◌^◌, ℕ, List, [], Some, length, subst, sym}
-use Rattle.std.specs.Prelude.{Option, Result, Ok, Err, IfOk, OnOk}
+use Rattle.std.proofs.Common.{◌≡◌, ℕ, ◌^◌, ◌<◌, List, [], length, IfOk, OnOk, Some, Ok, Err, Option, Result, sym, ◌∙◌}
+use Rattle.std.proofs.Common.{subst}
 use Rattle.std.specs.Io.KnownBytes.{Appends}
-use Rattle.im_types.specs.Header.{Header, header_of, layout_in}
-use Rattle.im_types.specs.Meaning.{Reached, Reads}
-use Rattle.im_dump.specs.Dump.{dump_text}
+use Rattle.im_types.specs.Types.{Contents, IsMemory, Sizes, sizes_of, Header, header_of, layout_in, Reached, Reads}
+use Rattle.im_image.specs.{declared.ImageParts.ImageParts, Reading.AreParts}
+use Rattle.im_dump.specs.declared.{faults.DumpFault.DumpFault, loading.Loaded.Loaded}
+use Rattle.im_dump.specs.{Dump.dump_text, Fitting.FitsContents, Fitting.FitsDump}
 use Rattle.im_dump.specs.Dumping.{Dumps, IsDumpOf, IsSame, MeansLoaded, WasDumped}
-use Rattle.im_dump.specs.Fitting.{FitsContents, FitsDump}
-use Rattle.im_dump.specs.declared.faults.DumpFault.{DumpFault}
-use Rattle.im_dump.specs.declared.loading.Loaded.{Loaded}
-use Rattle.im_types.specs.Contents.{Contents}
-use Rattle.im_types.specs.Memory.{IsMemory}
-use Rattle.im_image.specs.Reading.{AreParts}
-use Rattle.im_image.specs.declared.reading.ImageParts.{ImageParts}
-use Rattle.im_types.specs.Layout.{Sizes, sizes_of}
 
 -- the dump was written with the sizes of the header in force
 pub dumps : (file : List ℕ) (h : Header) (it : Reached) (was now : Option (List ℕ)) → h ≡ header_of file

@@ -1,10 +1,8 @@
 -- Texts by index, one after another: if two such rows are the same text, so are their parts. (Own.)
-use Rattle.std.proofs.Common.{◌≡◌, ◌∙◌, inl, inr, ℕ, zero, suc, ◌+◌, ◌<◌, ◌≤◌, List, [], ◌∷◌, ◌++◌, refl, ap, ap₂}
-use Rattle.std.proofs.Common.{sym, arith, append_assoc, append-nil, Some, subst}
-use Rattle.std.specs.Prelude.{None, slice_get}
+use Rattle.std.proofs.Common.{◌≡◌, ℕ, zero, suc, ◌+◌, ◌<◌, ◌≤◌, List, [], ◌∷◌, ◌++◌, slice_get, Some, None, sym, refl}
+use Rattle.std.proofs.Common.{ap, ◌∙◌, subst, ap₂, inl, inr, append_assoc, append-nil, arith}
 use Rattle.std.proofs.lemmas.Bool.{cases_lt}
-use Rattle.im_text.specs.Texts.{texts_below}
-use Rattle.im_text.proofs.TextLemmas.{written_none}
+use Rattle.im_text.{proofs.TextLemmas.written_none, specs.Texts.texts_below}
 
 -- this many texts from an index on
 abbrev pub texts_from : (ℕ → List ℕ) → ℕ → ℕ → List ℕ

@@ -1,22 +1,15 @@
 -- The lines of windows, cut off one after another. (Own.)
-use Rattle.std.proofs.Common.{◌≡◌, ◌∙◌, inl, inr, ℕ, ◌+◌, ◌-◌, ◌<◌, ◌≤◌, ◌^◌, ◌==◌, ◌&&◌, Bool, true, false, List, []}
-use Rattle.std.proofs.Common.{◌∷◌, ◌++◌, length, refl, ap, ap₂, sym, arith, append_assoc, Some, subst}
-use Rattle.std.specs.Prelude.{Option, None, codes, decimal, if◌then◌else◌, slice_get}
-use Rattle.std.proofs.lemmas.Bool.{cases_Bool, cases_lt, eqb-false, eqb-true, and_parts}
-use Rattle.std.proofs.lemmas.List.{append_cancel_left}
-use Rattle.std.proofs.lemmas.Option.{slice_get_past}
-use Rattle.im_types.specs.declared.operations.Entry.{Entry}
-use Rattle.im_types.specs.declared.operations.Kept.{Kept}
-use Rattle.im_types.specs.declared.operations.Op.{Op}
-use Rattle.im_types.specs.declared.TheConstants.{LAST}
-use Rattle.im_types.specs.Contents.{Window}
-use Rattle.im_types.specs.Memory.{IsWindow}
-use Rattle.im_types.specs.Records.{FitsPlace}
+use Rattle.std.proofs.Common.{◌≡◌, ℕ, ◌+◌, ◌-◌, ◌^◌, ◌<◌, ◌≤◌, Bool, true, false, ◌&&◌, List, [], ◌∷◌, ◌++◌, length}
+use Rattle.std.proofs.Common.{if◌then◌else◌, ◌==◌, slice_get, Some, None, codes, decimal, Option, sym, refl, ap, ◌∙◌}
+use Rattle.std.proofs.Common.{subst, ap₂, inl, inr, append_assoc, arith, eqb-true}
+use Rattle.std.proofs.lemmas.Bool.{and_parts, cases_Bool, cases_lt, eqb-false}
+use Rattle.std.proofs.lemmas.{List.append_cancel_left, Option.slice_get_past}
+use Rattle.im_types.specs.Types.{Entry, Op, Kept, LAST, Window, IsWindow, FitsPlace}
 use Rattle.im_records.specs.Entries.{FitEntries}
 use Rattle.im_text.specs.Texts.{entry_text, op_text, texts_below}
-use Rattle.im_dump.specs.Dump.{base_line, kept_entry, kept_lines, window_lines}
 use Rattle.im_dump.proofs.Cuts.{entry_cut, field_cut, number_then, op_cut, third}
 use Rattle.im_dump.proofs.Steps.{below_is, below_more, in_step, lists_by_get, texts_from}
+use Rattle.im_dump.specs.Dump.{base_line, kept_entry, kept_lines, window_lines}
 
 -- ---- entries
 

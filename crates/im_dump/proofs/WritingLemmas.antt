@@ -1,20 +1,13 @@
 -- Texts of a dump, one after another, and the lines of a window. (Own.)
-use Rattle.std.proofs.Common.{◌≡◌, inl, inr, ℕ, subst, ◌+◌, ◌-◌, ◌<◌, ◌≤◌, List, [], ◌∷◌, ◌++◌}
-use Rattle.std.proofs.Common.{length, ap, ap₂, sym, ◌∙◌, append_assoc, append-nil, arith, Bool, false, Some}
-use Rattle.std.specs.Prelude.{Option, ◌==◌, ◌&&◌, if◌then◌else◌, slice_get}
-use Rattle.im_types.specs.declared.operations.Kept.{Kept}
-use Rattle.im_types.specs.declared.operations.Waiter.{Waiter}
-use Rattle.std.specs.List.{AllByRecursion}
-use Rattle.std.proofs.lemmas.Bool.{cases_lt}
-use Rattle.std.proofs.lemmas.Option.{slice_get_within}
-use Rattle.im_types.specs.Records.{FitsPlace}
-use Rattle.im_types.specs.Contents.{Held, Contents, Window, held_at, kept_for}
-use Rattle.im_records.specs.Entries.{FitEntries}
-use Rattle.im_dump.specs.Fitting.{FitWindows, FitsHeld, FitsWaiter, FitsWindowOf}
-use Rattle.im_types.specs.Layout.{Sizes}
-use Rattle.im_text.proofs.WindowLemmas.{kept_at}
-use Rattle.im_dump.specs.Dump.{waits_line, waits_lines, kept_entry, base_line, kept_lines, window_lines, dump_text}
-use Rattle.im_dump.specs.Dump.{first_line, head_lines, all_cells, all_windows, last_line}
+use Rattle.std.proofs.Common.{◌≡◌, ℕ, ◌+◌, ◌-◌, ◌<◌, ◌≤◌, Bool, false, ◌&&◌, List, [], ◌∷◌, ◌++◌, length, if◌then◌else◌}
+use Rattle.std.proofs.Common.{◌==◌, slice_get, Some, Option, sym, ap, ◌∙◌, subst, ap₂, inl, inr, append_assoc}
+use Rattle.std.proofs.Common.{append-nil, arith}
+use Rattle.std.{proofs.lemmas.Bool.cases_lt, proofs.lemmas.Option.slice_get_within, specs.List.AllByRecursion}
+use Rattle.im_types.specs.Types.{Waiter, Kept, Held, Window, Contents, held_at, kept_for, Sizes, FitsPlace}
+use Rattle.{im_records.specs.Entries.FitEntries, im_text.proofs.WindowLemmas.kept_at}
+use Rattle.im_dump.specs.Dump.{all_cells, all_windows, base_line, dump_text, first_line, head_lines, kept_entry}
+use Rattle.im_dump.specs.Dump.{kept_lines, last_line, waits_line, waits_lines, window_lines}
+use Rattle.im_dump.specs.Fitting.{FitsHeld, FitsWaiter, FitsWindowOf, FitWindows}
 
 -- ---- texts one after another
 

@@ -1,15 +1,9 @@
 -- The text of a dump: the sizes and the count of an image, and its memory, line by line. (Own.)
-use Rattle.std.specs.Prelude.{ℕ, ◌+◌, List, [], ◌∷◌, ◌++◌, length, codes, decimal, ◌&&◌, ◌==◌, if◌then◌else◌}
-use Rattle.std.specs.Prelude.{Option, None, Some, slice_get}
-use Rattle.im_types.specs.declared.operations.Waiter.{Waiter}
-use Rattle.im_types.specs.declared.operations.Block.{Block}
-use Rattle.im_types.specs.declared.operations.Kept.{Kept}
-use Rattle.im_types.specs.Contents.{Contents, Window, block_at, held_at, waiters_at}
-use Rattle.im_types.specs.Layout.{Sizes}
-use Rattle.im_types.specs.declared.cells.Cell.{Cell}
-use Rattle.im_types.specs.declared.cells.Cell.TheVariants.{Empty as IsEmpty, Waiting as IsWaiting, Full as IsFull}
-use Rattle.im_types.specs.declared.cells.Cell.TheVariants.{Clashed as IsClashed}
-use Rattle.im_types.specs.Presences.{presence_in}
+use Rattle.std.specs.Prelude.{ℕ, ◌+◌, ◌&&◌, List, [], ◌∷◌, ◌++◌, length, if◌then◌else◌, ◌==◌, slice_get, Some, None}
+use Rattle.std.specs.Prelude.{codes, decimal, Option}
+use Rattle.im_types.specs.Types.{Waiter, Block, Kept, Window, Contents, held_at, waiters_at, block_at, presence_in}
+use Rattle.im_types.specs.Types.{Cell, CellEmpty as IsEmpty, CellWaiting as IsWaiting, CellFull as IsFull}
+use Rattle.im_types.specs.Types.{CellClashed as IsClashed, Sizes}
 use Rattle.im_text.specs.Texts.{entry_text, kind_text, line_feed, op_text, texts_below}
 
 -- ---- the head

@@ -1,13 +1,7 @@
 -- What dumping an image writes, and what a dump is read as. (Own.)
-use Rattle.std.specs.Prelude.{◌≡◌, ℕ, List, Option, Ok}
-use Rattle.std.specs.Io.KnownBytes.{Appends}
-use Rattle.im_types.specs.Header.{header_of, layout_in}
-use Rattle.im_types.specs.Contents.{Contents}
-use Rattle.im_types.specs.Layout.{Sizes, sizes_of}
-use Rattle.im_types.specs.Meaning.{Reached, Reads}
-use Rattle.im_dump.specs.Dump.{dump_text}
-use Rattle.im_dump.specs.Fitting.{FitsDump}
-use Rattle.im_dump.specs.declared.loading.Loaded.{Loaded}
+use Rattle.std.specs.{Prelude.◌≡◌, Prelude.ℕ, Prelude.List, Prelude.Ok, Prelude.Option, Io.KnownBytes.Appends}
+use Rattle.im_types.specs.Types.{Contents, Sizes, sizes_of, header_of, layout_in, Reached, Reads}
+use Rattle.im_dump.specs.{declared.loading.Loaded.Loaded, Dump.dump_text, Fitting.FitsDump}
 
 -- the bytes of a file mean a memory, whose numbers have each its own spelling, and its dump was written
 pub record Dumps (file : List ℕ) (was now : Option (List ℕ)) : Type 0 where

@@ -1,8 +1,7 @@
 -- The refusal of a text that isn't loaded. (Own.)
-use Rattle.im_types.specs.declared.refusals.Refusal.{Refusal}
+use Rattle.im_types.specs.Types.{Refusal}
+use Rattle.im_dump.specs.declared.faults.DumpFault.{DumpFault, TheVariants.BadLine, TheVariants.NoMemory}
 use Rattle.im_types.specs.declared.refusals.Refusal.TheVariants as refusal
-use Rattle.im_dump.specs.declared.faults.DumpFault.{DumpFault}
-use Rattle.im_dump.specs.declared.faults.DumpFault.TheVariants.{NoMemory, BadLine}
 
 -- the refusal of a fault
 abbrev pub fault_refusal : DumpFault → Refusal

@@ -1,11 +1,8 @@
 -- When each number in a dump has its own spelling: it fits the field that it is kept in. (Own.)
-use Rattle.std.specs.Prelude.{◌≡◌, ℕ, ◌<◌, ◌^◌, Option, None, Some, slice_get}
+use Rattle.std.specs.Prelude.{◌≡◌, ℕ, ◌^◌, ◌<◌, slice_get, Some, None, Option}
 use Rattle.std.specs.List.{AllByRecursion}
-use Rattle.im_types.specs.declared.operations.Waiter.{Waiter}
-use Rattle.im_types.specs.Contents.{CellState, Empty, Full, Clashed, Held, Window, Contents, held_at}
-use Rattle.im_types.specs.Layout.{Sizes}
-use Rattle.im_types.specs.Memory.{IsMemory}
-use Rattle.im_types.specs.Sizes.{AreLimits}
+use Rattle.im_types.specs.Types.{Waiter, AreLimits, CellState, Empty, Full, Clashed, Held, Window, Contents, held_at}
+use Rattle.im_types.specs.Types.{IsMemory, Sizes}
 use Rattle.im_records.specs.Entries.{FitEntries}
 
 -- the numbers of a request fit their fields

@@ -1,12 +1,7 @@
 //! Dumps the image on a disk.
-ghost use Rattle.std.specs.Prelude.{OnOk};
-ghost use Rattle.std.specs.Io.KnownBytes.{Appends};
-ghost use Rattle.im_types.specs.Layout.{sizes_of};
-ghost use Rattle.im_disk.specs.Runs.{ReadsAlone};
-ghost use Rattle.im_dump.specs.Dump.{dump_text};
-ghost use Rattle.im_dump.specs.Dumping.{WasDumped};
-ghost use Rattle.im_dump.specs.Fitting.{FitsDump};
-ghost use Rattle.im_image.specs.Reading.{AreParts};
+ghost use Rattle.std.specs.{Prelude.OnOk, Io.KnownBytes.Appends};
+ghost use Rattle.{im_types.specs.Types.sizes_of, im_disk.specs.Runs.ReadsAlone, im_image.specs.Reading.AreParts};
+ghost use Rattle.im_dump.specs.{Dump.dump_text, Dumping.WasDumped, Fitting.FitsDump};
 
 use crate::writing::add_dump;
 use im_disk::Disk;

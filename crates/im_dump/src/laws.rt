@@ -1,12 +1,8 @@
 //! What dumping and loading come to together.
-ghost use Rattle.std.specs.Prelude.{◌≡◌, ℕ, List, [], Some, IfOk};
-ghost use Rattle.im_types.specs.Contents.{Contents};
-ghost use Rattle.im_types.specs.Layout.{Sizes, sizes_of};
-ghost use Rattle.im_types.specs.Memory.{IsMemory};
-ghost use Rattle.im_dump.specs.Dump.{dump_text};
+ghost use Rattle.std.specs.Prelude.{◌≡◌, ℕ, List, [], IfOk, Some};
+ghost use Rattle.im_types.specs.Types.{Contents, IsMemory, Sizes, sizes_of};
+ghost use Rattle.im_dump.specs.{declared.loading.Loaded.Loaded, Dump.dump_text, Fitting.FitsDump};
 ghost use Rattle.im_dump.specs.Dumping.{Dumps, IsDumpOf, IsSame, MeansLoaded};
-ghost use Rattle.im_dump.specs.declared.loading.Loaded.{Loaded};
-ghost use Rattle.im_dump.specs.Fitting.{FitsDump};
 
 use crate::faults::DumpFault;
 use crate::loading::{Loaded, read_dump};

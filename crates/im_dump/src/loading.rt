@@ -1,11 +1,8 @@
 //! Reads a dump: its lines are laid down as the records of an area, the memory is read of them, and the dump of that
 //! memory is compared with the text.
-ghost use Rattle.std.specs.Prelude.{◌≡◌, IfOk, IsTrue, OnOk, string_bytes};
-ghost use Rattle.im_types.specs.Layout.{sizes_of};
-ghost use Rattle.im_types.specs.Memory.{IsMemory};
-ghost use Rattle.im_dump.specs.Dump.{dump_text};
-ghost use Rattle.im_dump.specs.Dumping.{IsDumpOf};
-ghost use Rattle.im_dump.specs.Fitting.{FitsContents};
+ghost use Rattle.std.specs.Prelude.{◌≡◌, IfOk, OnOk, IsTrue, string_bytes};
+ghost use Rattle.im_types.specs.Types.{IsMemory, sizes_of};
+ghost use Rattle.im_dump.specs.{Dump.dump_text, Dumping.IsDumpOf, Fitting.FitsContents};
 
 use crate::faults::{DumpFault, TextLineFault, Wanted};
 use crate::head::{HEAD_LINES, Head, fault_of, read_head};

@@ -1,16 +1,13 @@
 //! Writes the lines of a dump.
-ghost use Rattle.std.specs.Prelude.{◌≡◌, ◌++◌, ◌==◌, ◌&&◌, OnOk, Some, length, slice_get, string_bytes};
-ghost use Rattle.im_types.specs.Contents.{Window, block_at, held_at, kept_for, waiters_at};
-ghost use Rattle.im_types.specs.Layout.{sizes_of};
-ghost use Rattle.im_types.specs.Window.{next_number};
-ghost use Rattle.im_types.specs.Presences.{presence_in};
+ghost use Rattle.std.specs.Prelude.{◌≡◌, ◌&&◌, ◌++◌, length, OnOk, ◌==◌, slice_get, Some, string_bytes};
+ghost use Rattle.std.specs.List.{AllByRecursion};
+ghost use Rattle.im_types.specs.Types.{Window, held_at, waiters_at, kept_for, block_at, presence_in, next_number};
+ghost use Rattle.im_types.specs.Types.{sizes_of, FitsPlace};
+ghost use Rattle.im_records.specs.Entries.{FitEntries};
 ghost use Rattle.im_dump.specs.Dump.{all_cells, all_windows, base_line, begun_line, cell_lines, dump_text, first_line};
 ghost use Rattle.im_dump.specs.Dump.{head_lines, kept_entry, kept_lines, last_line, state_lines, waits_line};
 ghost use Rattle.im_dump.specs.Dump.{waits_lines, window_lines};
-ghost use Rattle.im_dump.specs.Fitting.{FitCells, FitWindows, FitsContents, FitsHeld, FitsWaiter, FitsWindowOf};
-ghost use Rattle.im_records.specs.Entries.{FitEntries};
-ghost use Rattle.im_types.specs.Records.{FitsPlace};
-ghost use Rattle.std.specs.List.{AllByRecursion};
+ghost use Rattle.im_dump.specs.Fitting.{FitCells, FitsContents, FitsHeld, FitsWaiter, FitsWindowOf, FitWindows};
 
 use im_memory::Memory;
 use im_text::{add_entry, add_op, kind_text};

@@ -1,17 +1,8 @@
 -- An accepted command isn't refused.
-use Rattle.std.proofs.Common.{◌≡◌, true, Result, Ok, Err, slice_get, refl}
-use Rattle.std.specs.Prelude.{slice_index_or}
-use Rattle.im_types.specs.declared.commands.Command.{Command}
-use Rattle.im_types.specs.declared.commands.Command.TheVariants.{Request as Asks, Confirm}
-use Rattle.im_types.specs.declared.commands.Outcome.{Outcome}
-use Rattle.im_types.specs.declared.commands.Outcome.TheVariants.{Entry as Tells, Confirmed}
-use Rattle.im_types.specs.declared.commands.Judged.{Judged}
-use Rattle.im_types.specs.declared.commands.Judged.TheVariants.{Fresh, Repeat}
-use Rattle.im_types.specs.declared.refusals.Refusal.{Refusal}
-use Rattle.im_types.specs.Contents.{Window, Contents, new_window}
-use Rattle.im_types.specs.Act.{act}
-use Rattle.im_types.specs.Window.{judge, confirm_window}
-use Rattle.im_types.specs.Step.{asker, step, step_request, step_confirm, is_fresh, moves_base, is_accepted}
+use Rattle.std.proofs.Common.{◌≡◌, true, slice_get, slice_index_or, Ok, Err, Result, refl}
+use Rattle.im_types.specs.Types.{Command, Outcome, Judged, Asks, Confirm, Tells, Confirmed, Fresh, Repeat, Refusal}
+use Rattle.im_types.specs.Types.{Window, Contents, new_window, act, judge, confirm_window, asker, step_request}
+use Rattle.im_types.specs.Types.{step_confirm, step, is_fresh, moves_base, is_accepted}
 
 -- the answer is an outcome
 abbrev pub Answers : Result Outcome Refusal → Type 0

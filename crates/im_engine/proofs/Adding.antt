@@ -1,15 +1,12 @@
 -- The pages that the members of a group add to those that changed.
-use Rattle.std.proofs.Common.{◌≡◌, ℕ, ◌+◌, ◌<◌, ◌≤◌, Bool, true, false, List, [], ◌∷◌, ◌++◌, length, drop, get_or}
-use Rattle.std.proofs.Common.{suc, true≢false, refl, sym, ◌∙◌, ap, arith, if◌then◌else◌}
+use Rattle.std.proofs.Common.{◌≡◌, ℕ, suc, ◌+◌, ◌<◌, ◌≤◌, Bool, true, false, List, [], ◌∷◌, ◌++◌, length, get_or, drop}
+use Rattle.std.proofs.Common.{if◌then◌else◌, sym, refl, ap, ◌∙◌, true≢false, arith}
 use Rattle.std.proofs.Math.Seq.{drop-cons}
-use Rattle.im_types.specs.declared.commands.Command.{Command}
-use Rattle.im_types.specs.Contents.{Contents}
-use Rattle.im_pages.specs.PageSets.{size_of, IsWithin}
-use Rattle.im_memory.specs.Covering.{most_pages}
-use Rattle.im_checkpoint.specs.Step.{Changed}
-use Rattle.im_checkpoint.specs.Turns.{AddsAtMost}
-use Rattle.im_groups.specs.Commands.{takes_place, contents_with, places_behind, commands_at, most_pages_at}
-use Rattle.im_groups.specs.Commands.{most_pages_with}
+use Rattle.im_types.specs.Types.{Command, Contents}
+use Rattle.{im_pages.specs.PageSets.IsWithin, im_pages.specs.PageSets.size_of, im_memory.specs.Covering.most_pages}
+use Rattle.im_groups.specs.Commands.{commands_at, contents_with, most_pages_at, most_pages_with, places_behind}
+use Rattle.im_groups.specs.Commands.{takes_place}
+use Rattle.im_checkpoint.specs.{Step.Changed, Turns.AddsAtMost}
 
 -- ---- nothing is added
 

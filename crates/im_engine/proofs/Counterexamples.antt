@@ -1,38 +1,22 @@
 -- The laws of files say no more than they do: a new image whose gate is closed means nothing. And those of images say something:
 -- their premises are met.
-use Rattle.std.proofs.Common.{◌≡◌, ◌⊎◌, inl, inr, ℕ, ◌+◌, ◌*◌, ◌-◌, ◌<◌, ◌≤◌, ◌==◌, true, false, List}
-use Rattle.std.proofs.Common.{[], ◌∷◌, length, drop, get_or, slice_range, refl, sym, ap, ◌∙◌}
-use Rattle.std.proofs.Common.{subst, arith}
-use Rattle.std.proofs.lemmas.List.{ext_get_or}
-use Rattle.im_types.proofs.Tests.{true_false}
-use Rattle.im_types.specs.declared.commands.Command.{Command}
-use Rattle.im_types.specs.Bytes.{open_gate}
-use Rattle.im_types.specs.declared.refusals.Refusal.TheVariants.{NoHeader}
-use Rattle.im_types.specs.Contents.{Contents, empty_contents}
-use Rattle.im_types.specs.Sizes.{AreLimits}
-use Rattle.im_types.specs.Layout.{Layout, Sizes, layout_in_use, area_at, area_bytes, area_of}
-use Rattle.im_types.specs.Header.{Header, header_body, header_place, is_open_header}
-use Rattle.im_types.specs.Header.{generation_in}
-use Rattle.im_types.specs.Pages.{Shows}
-use Rattle.im_laws.proofs.MemoryLemmas.{empty-memory}
-use Rattle.im_disk.specs.Moment.{overlaid}
-use Rattle.im_disk.specs.Since.{SameBut}
-use Rattle.im_disk.proofs.OverlayLemmas.{overlaid_inside}
-use Rattle.im_image.specs.Fresh.{new_header, new_area, new_image}
-use Rattle.im_image.proofs.FreshArea.{length-area, new_area_shows}
-use Rattle.im_image.proofs.FreshImage.{length-image}
-use Rattle.im_meaning.specs.Images.{other, IsImage, Follows, IsPrepared}
+use Rattle.std.proofs.Common.{◌≡◌, ℕ, ◌+◌, ◌-◌, ◌*◌, ◌<◌, ◌≤◌, true, false, ◌⊎◌, List, [], ◌∷◌, length, get_or, drop}
+use Rattle.std.proofs.Common.{◌==◌, slice_range, sym, refl, ap, ◌∙◌, subst, inl, inr, arith, ext_get_or}
+use Rattle.im_types.specs.Types.{Command, NoHeader, AreLimits, Contents, empty_contents, Layout, layout_in_use, Sizes}
+use Rattle.im_types.specs.Types.{area_bytes, area_at, area_of, open_gate, Header, header_body, header_place}
+use Rattle.im_types.specs.Types.{is_open_header, generation_in, Shows, Means}
+use Rattle.{im_types.proofs.Tests.true_false, im_laws.proofs.MemoryLemmas.empty-memory}
+use Rattle.im_disk.{proofs.OverlayLemmas.overlaid_inside, specs.Moment.overlaid, specs.Since.SameBut}
 use Rattle.im_meaning.proofs.Meanings.{one_of_two, opened_image}
-use Rattle.im_meaning.proofs.Writes.{write_in_other_area, write_behind_closed_gate, write_lower_gate}
-use Rattle.im_checkpoint.specs.Turns.{next_header}
-use Rattle.im_checkpoint.proofs.Bytes.{same_all, same_overlaid, range_byte, range_length, range_outside, range_written}
-use Rattle.im_checkpoint.proofs.Files.{gate_is}
-use Rattle.im_checkpoint.proofs.Headers.{good, follows}
-use Rattle.im_types.specs.Meaning.{Means}
+use Rattle.im_meaning.proofs.Writes.{write_behind_closed_gate, write_in_other_area, write_lower_gate}
+use Rattle.im_meaning.specs.Images.{Follows, IsImage, IsPrepared, other}
+use Rattle.im_image.proofs.FreshArea.{length-area, new_area_shows}
+use Rattle.im_image.proofs.{FreshImage.length-image, VersionLemmas.places_open}
+use Rattle.im_image.specs.Fresh.{new_area, new_header, new_image}
+use Rattle.im_checkpoint.proofs.Bytes.{range_byte, range_length, range_outside, range_written, same_all, same_overlaid}
+use Rattle.im_checkpoint.{proofs.Files.gate_is, proofs.Headers.follows, proofs.Headers.good, specs.Turns.next_header}
+use Rattle.im_engine.proofs.{FilesMean.new_image_is_one, FilesMean.no_fault_and_meaning, Making.length_new_image}
 use Rattle.im_engine.specs.State.{IsFirstFault}
-use Rattle.im_engine.proofs.Making.{length_new_image}
-use Rattle.im_image.proofs.VersionLemmas.{places_open}
-use Rattle.im_engine.proofs.FilesMean.{no_fault_and_meaning, new_image_is_one}
 
 -- In a new image whose gate is closed neither header is open: its first fault is that there is no header.
 a_closed_image_has_no_header : (s : Sizes) → IsFirstFault NoHeader (new_image 0 s)

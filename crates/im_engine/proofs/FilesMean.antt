@@ -1,34 +1,19 @@
 -- A file means one thing, and a new image the empty memory.
-use Rattle.std.proofs.Common.{◌≡◌, ◌⊎◌, inl, inr, ℕ, ◌<◌, ◌==◌, nat_le, Bool, true, false, List, [], Option}
-use Rattle.std.proofs.Common.{None, Some, Result, Ok, Err, MatchOption, refl, sym, ap, ◌∙◌, subst, arith}
-use Rattle.std.proofs.Common.{if◌then◌else◌}
+use Rattle.std.proofs.Common.{◌≡◌, ℕ, ◌<◌, Bool, true, false, ◌⊎◌, List, [], if◌then◌else◌, nat_le, ◌==◌, Some, None}
+use Rattle.std.proofs.Common.{Ok, Err, Option, Result, MatchOption, sym, refl, ap, ◌∙◌, subst, inl, inr, arith}
 use Rattle.std.proofs.lemmas.Bool.Decides.{nat_tests}
-use Rattle.im_types.proofs.Tests.{true_false, and_both}
-use Rattle.im_types.specs.declared.TheConstants.{LAST}
-use Rattle.im_types.specs.declared.refusals.Refusal.{Refusal}
-use Rattle.im_types.specs.declared.refusals.Refusal.TheVariants.{BadPage}
-use Rattle.im_types.specs.Contents.{Contents, empty_contents}
-use Rattle.im_types.specs.Sizes.{AreLimits}
-use Rattle.im_types.specs.Header.{Header, header_of, header_fault, is_header, is_old}
-use Rattle.im_types.specs.declared.layout.Version.{Version}
-use Rattle.im_types.specs.declared.layout.Version.TheVariants.{One, Two}
-use Rattle.im_types.specs.Layout.{Layout, Sizes, layout_1, layout_2, layout_in_use, layout_named, layout_of}
-use Rattle.im_types.specs.Layout.{are_sizes, area_of, ring_of}
-use Rattle.im_types.specs.Pages.{Shows}
-use Rattle.im_types.specs.Meaning.{Means, Reached, IsShown, Reads, Opens, OpensBy, read_journal}
-use Rattle.im_image.specs.Fresh.{new_header, new_image}
-use Rattle.im_image.proofs.FreshImage.{new_image_good, new_image_shows, new_header_of}
-use Rattle.im_image.proofs.Headers.{limits_of_header}
-use Rattle.im_image.proofs.Restored.{one-memory}
-use Rattle.im_journal.proofs.Tails.{tail_closed}
-use Rattle.im_laws.proofs.MemoryLemmas.{empty-memory}
+use Rattle.im_types.specs.Types.{Refusal, BadPage, LAST, AreLimits, Contents, empty_contents, Version, One, Two, Layout}
+use Rattle.im_types.specs.Types.{layout_1, layout_2, layout_of, layout_named, layout_in_use, Sizes, are_sizes, ring_of}
+use Rattle.im_types.specs.Types.{area_of, Header, is_header, header_of, header_fault, is_old, Shows, Reached}
+use Rattle.im_types.specs.Types.{read_journal, IsShown, Reads, OpensBy, Opens, Means}
+use Rattle.{im_types.proofs.Tests.and_both, im_types.proofs.Tests.true_false, im_laws.proofs.MemoryLemmas.empty-memory}
+use Rattle.{im_journal.proofs.Tails.tail_closed, im_checkpoint.proofs.Headers.good}
+use Rattle.im_meaning.proofs.{Headers.in_force, Headers.in_force_is, Meanings.image_reads, Meanings.read_image}
 use Rattle.im_meaning.specs.Images.{InForce, IsImage, IsRead}
-use Rattle.im_image.proofs.VersionLemmas.{named_by, young_opens}
-use Rattle.im_meaning.proofs.Headers.{in_force, in_force_is}
-use Rattle.im_meaning.proofs.Meanings.{image_reads, read_image}
-use Rattle.im_checkpoint.proofs.Headers.{good}
-use Rattle.im_engine.specs.State.{IsFirstFault}
-use Rattle.im_engine.proofs.Making.{new_image_closed}
+use Rattle.im_image.proofs.FreshImage.{new_header_of, new_image_good, new_image_shows}
+use Rattle.im_image.{proofs.Headers.limits_of_header, proofs.Restored.one-memory, proofs.VersionLemmas.named_by}
+use Rattle.im_image.{proofs.VersionLemmas.young_opens, specs.Fresh.new_header, specs.Fresh.new_image}
+use Rattle.im_engine.{proofs.Making.new_image_closed, specs.State.IsFirstFault}
 
 same_number : (m n : ℕ) → (m == n) ≡ true → m ≡ n
 same_number m n is = grind (arith, nat_tests)

@@ -1,34 +1,22 @@
 -- What appended commands leave of a disk that keeps a memory.
-use Rattle.std.proofs.Common.{◌≡◌, ◌⊎◌, inl, inr, ⊎_elim, ℕ, ◌+◌, ◌*◌, ◌-◌, ◌<◌, ◌≤◌, ◌==◌, Bool, true, false, List}
-use Rattle.std.proofs.Common.{[], ◌∷◌, ◌++◌, length, Option, None, Some, option_map, refl, sym, ◌∙◌, ap, subst, arith}
-use Rattle.std.proofs.Common.{length-append, if◌then◌else◌}
-use Rattle.im_types.specs.declared.TheConstants.{LAST}
-use Rattle.im_types.specs.declared.commands.Command.{Command}
-use Rattle.im_types.specs.Contents.{Contents}
-use Rattle.im_types.specs.Step.{step, is_accepted}
-use Rattle.im_types.specs.Layout.{layout_in_use, area_at, area_bytes, ring_of}
-use Rattle.im_types.specs.Header.{Header}
-use Rattle.im_types.specs.Journal.{Ring, Tail, tail}
-use Rattle.im_types.specs.Meaning.{accept_each}
-use Rattle.im_disk.specs.Moment.{Moment, Left}
-use Rattle.im_disk.specs.Since.{SameBut, LeavesNow}
-use Rattle.im_journal.specs.Holding.{JournalState, Holds, AllHold, room_after, longer, longer_tail, KeepsBoundaries}
-use Rattle.im_journal.specs.Holding.{Appended, MayAppend}
-use Rattle.im_journal.specs.Groups.{SameButGroup}
-use Rattle.im_journal.proofs.Slots.{slot_inside}
-use Rattle.im_memory.specs.State.{MemoryState}
-use Rattle.im_memory.specs.Touched.{touched, ChangesOnly}
-use Rattle.im_image.specs.Reading.{HasSizes}
-use Rattle.im_meaning.specs.Images.{other, IsImage}
-use Rattle.im_checkpoint.specs.Step.{CheckpointState, PagedCheckpoint, left_in}
-use Rattle.im_checkpoint.specs.Keeping.{Paged, paged, MeansWith, Keeps, IsKept, Prepares}
-use Rattle.im_checkpoint.proofs.Bytes.{same_all}
-use Rattle.im_checkpoint.proofs.Files.{Still, still_in_area, keeps_at, means_of, enough, some}
-use Rattle.im_checkpoint.proofs.Moments.{kept_calm, means_left}
-use Rattle.im_checkpoint.proofs.Sweeping.{area_before_stays, other_place_stays, in_force_stays, shows_stays}
+use Rattle.std.proofs.Common.{◌≡◌, ℕ, ◌+◌, ◌-◌, ◌*◌, ◌<◌, ◌≤◌, Bool, true, false, ◌⊎◌, List, [], ◌∷◌, ◌++◌, length}
+use Rattle.std.proofs.Common.{if◌then◌else◌, ◌==◌, Some, None, Option, option_map, sym, refl, ap, ◌∙◌, subst, inl, inr}
+use Rattle.std.proofs.Common.{⊎_elim, arith, length-append}
+use Rattle.im_types.specs.Types.{Command, LAST, Contents, step, is_accepted, layout_in_use, area_bytes, area_at}
+use Rattle.im_types.specs.Types.{ring_of, Header, Ring, Tail, tail, accept_each}
+use Rattle.im_disk.specs.{Moment.Left, Moment.Moment, Since.LeavesNow, Since.SameBut}
+use Rattle.im_journal.{proofs.Slots.slot_inside, specs.Groups.SameButGroup}
+use Rattle.im_journal.specs.Holding.{AllHold, Appended, Holds, JournalState, KeepsBoundaries, longer, longer_tail}
+use Rattle.im_journal.specs.Holding.{MayAppend, room_after}
+use Rattle.{im_meaning.specs.Images.IsImage, im_meaning.specs.Images.other, im_image.specs.Reading.HasSizes}
+use Rattle.im_memory.specs.{State.MemoryState, Touched.ChangesOnly, Touched.touched}
+use Rattle.im_checkpoint.proofs.{Bytes.same_all, Copying.prepared_for, Moments.kept_calm, Moments.means_left}
+use Rattle.im_checkpoint.proofs.Copies.{IsPrepared, step_moved, step_named, taken_longer}
+use Rattle.im_checkpoint.proofs.Files.{enough, keeps_at, means_of, some, Still, still_in_area}
+use Rattle.im_checkpoint.proofs.Sweeping.{area_before_stays, in_force_stays, other_place_stays, shows_stays}
 use Rattle.im_checkpoint.proofs.Sweeping.{tail_of_image}
-use Rattle.im_checkpoint.proofs.Copies.{IsPrepared, step_named, step_moved, taken_longer}
-use Rattle.im_checkpoint.proofs.Copying.{prepared_for}
+use Rattle.im_checkpoint.specs.Keeping.{IsKept, Keeps, MeansWith, Paged, paged, Prepares}
+use Rattle.im_checkpoint.specs.Step.{CheckpointState, left_in, PagedCheckpoint}
 
 -- commands that are accepted, and then others
 pub accept_both : (m m2 m3 : Contents) (commands added : List Command) → accept_each m commands ≡ Some m2

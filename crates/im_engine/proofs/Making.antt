@@ -1,39 +1,25 @@
 -- A new image means the empty memory.
-use Rattle.std.proofs.Common.{◌≡◌, ℕ, ◌+◌, ◌*◌, ◌-◌, ◌<◌, ◌≤◌, Bool, true, false, replicate, List, [], ◌∷◌, ◌++◌}
-use Rattle.std.proofs.Common.{length, drop, Option, None, Some, refl, sym, ◌∙◌, ap, subst, arith, length-append}
-use Rattle.std.proofs.lemmas.List.{append-nil, drop_all, nil_from_length, get_or-append_right, get_or-replicate}
-use Rattle.std.proofs.lemmas.List.{length-replicate}
-use Rattle.im_types.specs.declared.commands.Command.{Command}
-use Rattle.im_types.specs.declared.sizes.Limits.{Limits}
-use Rattle.im_types.specs.Bytes.{zeros}
-use Rattle.im_types.specs.Sizes.{AreLimits}
-use Rattle.im_types.specs.Contents.{Contents, empty_contents, new_window}
-use Rattle.im_types.specs.Layout.{Sizes, layout_in_use, page_bytes, record_at, area_bytes, area_pages, area_of}
-use Rattle.im_types.specs.Layout.{image_length, ring_of}
-use Rattle.im_types.specs.Header.{Header, header_body, header_fault}
-use Rattle.im_types.specs.Journal.{Tail, tail}
-use Rattle.im_types.specs.Meaning.{IsShown}
-use Rattle.im_types.specs.Pages.{Records, Shows}
-use Rattle.im_meaning.specs.Images.{InForce}
-use Rattle.im_meaning.proofs.Headers.{in_force}
-use Rattle.im_disk.specs.Moment.{Moment, written, synced, overlaid}
-use Rattle.im_types.specs.Layout.{sizes_of}
-use Rattle.im_image.specs.Fresh.{new_header, new_area, new_image}
-use Rattle.im_image.proofs.FreshArea.{length-area, length-zeros, records_with, area_spelled, new_window_fits}
-use Rattle.im_image.proofs.FreshImage.{new_image_good, new_image_shows, new_header_of, length-image, area_in_place}
-use Rattle.im_journal.specs.Holding.{JournalState, ring_under, Holds, AreClosed}
-use Rattle.im_journal.proofs.Laws.{closed_zeros}
-use Rattle.im_laws.proofs.MemoryLemmas.{empty-memory}
+use Rattle.std.proofs.Common.{◌≡◌, ℕ, ◌+◌, ◌-◌, ◌*◌, ◌<◌, ◌≤◌, Bool, true, false, List, [], ◌∷◌, ◌++◌, length, drop}
+use Rattle.std.proofs.Common.{replicate, Some, None, Option, sym, refl, ap, ◌∙◌, subst, append-nil, arith}
+use Rattle.std.proofs.Common.{length-append}
+use Rattle.std.proofs.lemmas.List.{drop_all, get_or-append_right, get_or-replicate, length-replicate, nil_from_length}
+use Rattle.im_types.specs.Types.{Command, Limits, AreLimits, Contents, new_window, empty_contents, layout_in_use, Sizes}
+use Rattle.im_types.specs.Types.{sizes_of, page_bytes, area_pages, area_bytes, image_length, ring_of, area_of}
+use Rattle.im_types.specs.Types.{record_at, zeros, Header, header_body, header_fault, Tail, tail, Records, Shows}
+use Rattle.im_types.specs.Types.{IsShown}
+use Rattle.im_laws.proofs.{MemoryLemmas.empty-memory, Tests.or_left, Tests.or_right, Tests.true_false}
+use Rattle.{im_pages.specs.PageSets.has, im_journal.proofs.Laws.closed_zeros, im_image.proofs.AreaPages.page_of_area}
+use Rattle.im_disk.specs.Moment.{Moment, overlaid, synced, written}
+use Rattle.im_journal.specs.Holding.{AreClosed, Holds, JournalState, ring_under}
+use Rattle.im_meaning.{proofs.Headers.in_force, specs.Images.InForce}
+use Rattle.im_memory.specs.State.{empty_records, MemoryState}
+use Rattle.im_image.proofs.FreshArea.{area_spelled, length-area, length-zeros, new_window_fits, records_with}
+use Rattle.im_image.proofs.FreshImage.{area_in_place, length-image, new_header_of, new_image_good, new_image_shows}
+use Rattle.im_image.specs.{Encoding.IsAreaPage, Fresh.new_area, Fresh.new_header, Fresh.new_image}
+use Rattle.im_checkpoint.{proofs.Moments.kept_calm, specs.Turns.IsIdle}
+use Rattle.im_checkpoint.specs.Keeping.{Fits, IsKept, IsResting, Keeps, own_page, Paged, paged}
+use Rattle.im_checkpoint.specs.Step.{changed_in, CheckpointState, NoCheckpoint, PagedCheckpoint}
 use Rattle.im_engine.specs.State.{journal_of, pages_at_first}
-use Rattle.im_memory.specs.State.{MemoryState, empty_records}
-use Rattle.im_laws.proofs.Tests.{true_false, or_left, or_right}
-use Rattle.im_pages.specs.PageSets.{has}
-use Rattle.im_checkpoint.specs.Step.{NoCheckpoint, CheckpointState, PagedCheckpoint, changed_in}
-use Rattle.im_checkpoint.specs.Turns.{IsIdle}
-use Rattle.im_checkpoint.specs.Keeping.{Paged, paged, own_page, Fits, Keeps, IsResting, IsKept}
-use Rattle.im_image.specs.Encoding.{IsAreaPage}
-use Rattle.im_image.proofs.AreaPages.{page_of_area}
-use Rattle.im_checkpoint.proofs.Moments.{kept_calm}
 
 -- the bytes once the gate of a whole image was opened
 pub gate_opened : (image : List ℕ) (m0 m1 m2 m3 : Moment) → length image ≡ length m0.bytes → m1 ≡ written 0 image m0

@@ -1,33 +1,17 @@
 -- The members of a group: how they act, and requests as commands.
-use Rattle.std.proofs.Common.{◌≡◌, ℕ, zero, suc, ◌+◌, ◌-◌, ◌<◌, ◌≤◌, List, [], ◌∷◌, ◌++◌, length, take, drop, get_or}
-use Rattle.std.proofs.Common.{map, Bool, true, false, Some, refl, sym, ap, subst, ◌∙◌, arith, append_assoc}
-use Rattle.std.proofs.Common.{length-take-le, if◌then◌else◌}
-use Rattle.std.specs.Prelude.{◌&&◌, ◌==◌, nat_lt, Result, Err, slice_get}
-use Rattle.std.proofs.lemmas.Bool.Decides.{nat_tests}
-use Rattle.std.proofs.Math.Seq.{drop-cons}
-use Rattle.im_types.specs.declared.TheConstants.{LAST}
-use Rattle.im_types.specs.declared.commands.Request.{Request}
-use Rattle.im_types.specs.declared.commands.Command.{Command}
-use Rattle.im_types.specs.declared.commands.Command.TheVariants.{Request as Asks}
-use Rattle.im_types.specs.declared.commands.Outcome.{Outcome}
-use Rattle.im_types.specs.declared.refusals.Refusal.{Refusal}
-use Rattle.im_types.specs.declared.refusals.Refusal.TheVariants.{JournalFull}
-use Rattle.im_types.specs.Contents.{Contents}
-use Rattle.im_types.specs.Step.{step, is_accepted}
-use Rattle.im_types.specs.Meaning.{Reached}
-use Rattle.im_types.specs.declared.groups.Served.{Served}
-use Rattle.im_types.specs.Groups.{as_served, is_put, reached_by_one, puts_of}
-use Rattle.im_laws.proofs.MemoryLemmas.{step-cell_count, step-window_count}
-use Rattle.im_journal.specs.Holding.{JournalState, IsJournal, room_after, longer}
-use Rattle.im_image.specs.Reading.{HasSizes}
-use Rattle.im_checkpoint.specs.Step.{CheckpointState}
-use Rattle.im_groups.specs.Commands.{answer_with, contents_with, places_behind, answers_with, contents_after_all}
-use Rattle.im_groups.specs.Commands.{takes_place, takes_at, commands_at, most_pages_at}
-use Rattle.im_memory.specs.Covering.{most_pages}
-use Rattle.im_laws.proofs.Tests.{and_both}
-use Rattle.im_groups.specs.Ahead.{AreAccepted, ServesPrefix}
-use Rattle.im_groups.proofs.AheadLemmas.{accepted_first}
-use Rattle.im_groups.proofs.WholeLemmas.{whole-takes, whole-commands}
+use Rattle.std.proofs.Common.{◌≡◌, ℕ, zero, suc, ◌+◌, ◌-◌, ◌<◌, ◌≤◌, Bool, true, false, ◌&&◌, List, [], ◌∷◌, ◌++◌, map}
+use Rattle.std.proofs.Common.{length, get_or, take, drop, if◌then◌else◌, nat_lt, ◌==◌, slice_get, Some, Err, Result}
+use Rattle.std.proofs.Common.{sym, refl, ap, ◌∙◌, subst, append_assoc, arith, length-take-le}
+use Rattle.std.proofs.{lemmas.Bool.Decides.nat_tests, Math.Seq.drop-cons}
+use Rattle.im_types.specs.Types.{Request, Command, Outcome, Asks, Served, Refusal, JournalFull, LAST, Contents, step}
+use Rattle.im_types.specs.Types.{is_accepted, as_served, is_put, reached_by_one, puts_of, Reached}
+use Rattle.im_laws.proofs.{MemoryLemmas.step-cell_count, MemoryLemmas.step-window_count, Tests.and_both}
+use Rattle.im_journal.specs.Holding.{IsJournal, JournalState, longer, room_after}
+use Rattle.{im_memory.specs.Covering.most_pages, im_groups.specs.Ahead.AreAccepted, im_groups.specs.Ahead.ServesPrefix}
+use Rattle.{im_image.specs.Reading.HasSizes, im_checkpoint.specs.Step.CheckpointState}
+use Rattle.im_groups.proofs.{AheadLemmas.accepted_first, WholeLemmas.whole-commands, WholeLemmas.whole-takes}
+use Rattle.im_groups.specs.Commands.{answer_with, answers_with, commands_at, contents_after_all, contents_with}
+use Rattle.im_groups.specs.Commands.{most_pages_at, places_behind, takes_at, takes_place}
 use Rattle.im_engine.specs.Commands.{each_refused}
 
 -- a list goes on by what comes of the next element

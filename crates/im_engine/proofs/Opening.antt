@@ -1,20 +1,14 @@
 -- What is read of an image.
-use Rattle.std.proofs.Common.{ℕ, ◌+◌, List, length, replicate, true, Ok, ◌≡◌, sym, ◌∙◌, ap, subst}
-use Rattle.im_types.specs.Contents.{Contents}
-use Rattle.im_types.specs.Layout.{Layout, layout_in_use, layout_named, ring_of, area_pages}
-use Rattle.im_types.specs.Header.{Header, header_of}
-use Rattle.im_types.specs.Meaning.{Reached, Reads}
-use Rattle.im_disk.specs.Moment.{Moment, Left, Shaken, MayTick, synced}
-use Rattle.im_disk.specs.Since.{Leaves, LeavesNow, ReadsOnly}
+use Rattle.std.proofs.Common.{◌≡◌, ℕ, ◌+◌, true, List, length, replicate, Ok, sym, ap, ◌∙◌, subst}
+use Rattle.im_types.specs.Types.{Contents, Layout, layout_named, layout_in_use, area_pages, ring_of, Header, header_of}
+use Rattle.im_types.specs.Types.{Reached, Reads}
 use Rattle.im_disk.proofs.SinceLemmas.{leaves_now_synced, leaves_start, leaves_step, leaves_then, left_sync}
-use Rattle.im_journal.specs.Holding.{JournalState, Holds}
-use Rattle.im_image.specs.Reading.{JournalOf}
-use Rattle.im_meaning.specs.Images.{IsImage, IsRead}
-use Rattle.im_meaning.proofs.Headers.{in_force_is}
-use Rattle.im_meaning.proofs.Meanings.{read_image}
-use Rattle.im_checkpoint.specs.Step.{NoCheckpoint}
-use Rattle.im_checkpoint.specs.Keeping.{Paged, Keeps, IsKept}
-use Rattle.im_checkpoint.proofs.Moments.{kept_calm}
+use Rattle.im_disk.specs.Moment.{Left, MayTick, Moment, Shaken, synced}
+use Rattle.im_disk.specs.Since.{Leaves, LeavesNow, ReadsOnly}
+use Rattle.{im_journal.specs.Holding.Holds, im_journal.specs.Holding.JournalState, im_meaning.specs.Images.IsImage}
+use Rattle.{im_meaning.specs.Images.IsRead, im_image.specs.Reading.JournalOf, im_checkpoint.proofs.Moments.kept_calm}
+use Rattle.im_meaning.proofs.{Headers.in_force_is, Meanings.read_image}
+use Rattle.im_checkpoint.specs.{Keeping.IsKept, Keeping.Keeps, Keeping.Paged, Step.NoCheckpoint}
 use Rattle.im_engine.proofs.Making.{rests}
 
 -- after a sync, and calls that only read, what the bytes have is what every file left has

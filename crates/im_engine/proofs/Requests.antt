@@ -1,30 +1,19 @@
 -- A group of requests is served as one of commands.
-use Rattle.std.proofs.Common.{◌≡◌, ⊎_elim, inl, inr, ℕ, ◌+◌, ◌<◌, List, [], ◌∷◌, length, take, map, Bool}
-use Rattle.std.proofs.Common.{refl, sym, ap, subst, ◌∙◌, if◌then◌else◌}
-use Rattle.im_types.specs.declared.commands.Request.{Request}
-use Rattle.im_types.specs.declared.commands.Command.{Command}
-use Rattle.im_types.specs.declared.commands.Command.TheVariants.{Request as Asks}
-use Rattle.im_types.specs.declared.groups.Served.{Served}
-use Rattle.im_types.specs.declared.refusals.Refusal.{Refusal}
-use Rattle.im_types.specs.declared.refusals.Refusal.TheVariants.{Device, Failed}
-use Rattle.im_types.specs.Contents.{Contents}
-use Rattle.im_types.specs.Meaning.{Reached}
-use Rattle.im_types.specs.Groups.{as_served, reached_by_one}
-use Rattle.im_groups.specs.Ahead.{ServesPrefix}
-use Rattle.im_laws.specs.Groups.{IsCounted}
+use Rattle.std.proofs.Common.{◌≡◌, ℕ, ◌+◌, ◌<◌, Bool, List, [], ◌∷◌, map, length, take, if◌then◌else◌, sym, refl, ap}
+use Rattle.std.proofs.Common.{◌∙◌, subst, inl, inr, ⊎_elim}
+use Rattle.im_types.specs.Types.{Request, Command, Asks, Served, Refusal, Device, Failed, Contents, as_served}
+use Rattle.im_types.specs.Types.{reached_by_one, Reached}
 use Rattle.im_laws.proofs.GroupLemmas.{counted-one, puts-counted, puts-room}
-use Rattle.im_journal.specs.Holding.{room_after}
-use Rattle.im_memory.specs.Covering.{most_pages}
-use Rattle.im_checkpoint.specs.Turns.{AddsAtMost}
-use Rattle.im_groups.specs.Commands.{contents_with, most_pages_at, most_pages_with}
-use Rattle.im_groups.proofs.RequestLemmas.{places_of, put_takes, one_contents, one_places, answers_by, contents_by}
+use Rattle.{im_laws.specs.Groups.IsCounted, im_journal.specs.Holding.room_after, im_memory.specs.Covering.most_pages}
+use Rattle.{im_groups.specs.Ahead.ServesPrefix, im_checkpoint.specs.Turns.AddsAtMost}
+use Rattle.im_groups.proofs.RequestLemmas.{answers_by, contents_by, one_contents, one_places, places_of, put_takes}
 use Rattle.im_groups.proofs.RequestLemmas.{puts_by}
-use Rattle.im_engine.specs.State.{EngineState, MeansState, MeansEither}
-use Rattle.im_engine.specs.Groups.{most_pages_in, reached_in, after_group, group_put, all_refused, answers_in}
-use Rattle.im_engine.specs.Groups.{GroupAnswered}
-use Rattle.im_engine.specs.Commands.{after_commands, commands_put, each_refused, answers_in_turn}
-use Rattle.im_engine.specs.Commands.{CommandsAnswered}
-use Rattle.im_engine.proofs.Members.{requests_whole, take_whole, length_map}
+use Rattle.im_groups.specs.Commands.{contents_with, most_pages_at, most_pages_with}
+use Rattle.im_engine.proofs.Members.{length_map, requests_whole, take_whole}
+use Rattle.im_engine.specs.Commands.{after_commands, answers_in_turn, commands_put, CommandsAnswered, each_refused}
+use Rattle.im_engine.specs.Groups.{after_group, all_refused, answers_in, group_put, GroupAnswered, most_pages_in}
+use Rattle.im_engine.specs.Groups.{reached_in}
+use Rattle.im_engine.specs.State.{EngineState, MeansEither, MeansState}
 
 -- all of them are served
 pub all_served : (m : Contents) (put cs : List Command) (rs : List Request) (many : ℕ) → cs ≡ map Asks rs

@@ -1,24 +1,16 @@
 -- How one command is served.
-use Rattle.std.proofs.Common.{◌≡◌, ℕ, ◌≤◌, [], ◌∷◌, Bool, true, false, List, length, Result, Ok, Err, if◌then◌else◌}
-use Rattle.std.proofs.Common.{refl, sym, ◌∙◌, ap, subst, arith}
-use Rattle.im_types.specs.declared.commands.Command.{Command}
-use Rattle.im_types.specs.declared.commands.Outcome.{Outcome}
-use Rattle.im_types.specs.declared.refusals.Refusal.{Refusal}
-use Rattle.im_types.specs.Contents.{Contents}
-use Rattle.im_types.specs.Header.{Header}
-use Rattle.im_types.specs.Step.{step, is_accepted, unless_refused, acceptance}
+use Rattle.std.proofs.Common.{◌≡◌, ℕ, ◌≤◌, Bool, true, false, List, [], ◌∷◌, length, if◌then◌else◌, Ok, Err, Result}
+use Rattle.std.proofs.Common.{sym, refl, ap, ◌∙◌, subst, arith}
+use Rattle.im_types.specs.Types.{Command, Outcome, Refusal, Contents, step, is_accepted, unless_refused, acceptance}
+use Rattle.im_types.specs.Types.{Header}
 use Rattle.im_laws.proofs.MemoryLemmas.{step-cell_count, step-window_count}
-use Rattle.im_disk.specs.Moment.{Moment, Left}
-use Rattle.im_disk.specs.Since.{Calls, CallsBy}
-use Rattle.im_disk.proofs.SinceLemmas.{left_now}
-use Rattle.im_journal.specs.Holding.{JournalState, Holds, AllHold, longer, Appended}
-use Rattle.im_journal.specs.Groups.{SameButGroup}
-use Rattle.im_checkpoint.specs.Step.{Step, NoCheckpoint, PagesLeft, PagesDone, Synced, CheckpointState}
-use Rattle.im_checkpoint.specs.Keeping.{Paged, IsBetween, StepFits, Fits, IsKept}
-use Rattle.im_engine.specs.State.{EngineState}
-use Rattle.im_engine.specs.Answered.{Answered, calls_for}
-use Rattle.im_engine.proofs.Accepting.{Answers, accepted_answers}
-use Rattle.im_engine.proofs.Keeping.{accept_one, kept_longer}
+use Rattle.{im_disk.proofs.SinceLemmas.left_now, im_journal.specs.Groups.SameButGroup}
+use Rattle.im_disk.specs.{Moment.Left, Moment.Moment, Since.Calls, Since.CallsBy}
+use Rattle.im_journal.specs.Holding.{AllHold, Appended, Holds, JournalState, longer}
+use Rattle.im_checkpoint.specs.Keeping.{Fits, IsBetween, IsKept, Paged, StepFits}
+use Rattle.im_checkpoint.specs.Step.{CheckpointState, NoCheckpoint, PagesDone, PagesLeft, Step, Synced}
+use Rattle.im_engine.proofs.{Accepting.accepted_answers, Accepting.Answers, Keeping.accept_one, Keeping.kept_longer}
+use Rattle.im_engine.specs.{Answered.Answered, Answered.calls_for, State.EngineState}
 
 -- the judgement, taken apart
 pub judged_is : (accepts b : Bool) (answer : Result Outcome Refusal) → unless_refused accepts answer ≡ Ok b → accepts

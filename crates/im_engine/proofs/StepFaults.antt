@@ -1,15 +1,9 @@
 -- No step tells that a call of the disk failed.
 use Rattle.std.proofs.Common.{◌≡◌, ◌≤◌, Bool, true, false, Err, refl, arith}
-use Rattle.im_types.specs.declared.commands.Command.{Command}
-use Rattle.im_types.specs.declared.refusals.Refusal.{Refusal}
-use Rattle.im_types.specs.declared.refusals.Refusal.TheVariants.{Gap, Forgotten, WindowFull, Mismatch, NoElement}
-use Rattle.im_types.specs.declared.refusals.Refusal.TheVariants.{NotAnswered, JournalFull, Device, Failed, NoMemory}
-use Rattle.im_types.specs.declared.refusals.Refusal.TheVariants.{TraceFull, WrongLength, NoHeader, BadHeader, BadPage}
-use Rattle.im_types.specs.declared.refusals.Refusal.TheVariants.{BadRecord, BadLimits, BadScript, Stalled, OffPlan}
-use Rattle.im_types.specs.declared.refusals.Refusal.TheVariants.{OldVersion, NotBlank, BadPlan, PaneGone}
-use Rattle.im_types.specs.Refusals.{number_of}
-use Rattle.im_types.specs.Contents.{Contents}
-use Rattle.im_types.specs.Step.{step}
+use Rattle.im_types.specs.Types.{Command, Refusal, Gap, Forgotten, WindowFull, Mismatch, NoElement, NotAnswered}
+use Rattle.im_types.specs.Types.{JournalFull, Device, Failed, NoMemory, TraceFull, WrongLength, NoHeader, BadHeader}
+use Rattle.im_types.specs.Types.{BadPage, BadRecord, BadLimits, BadScript, Stalled, OffPlan, OldVersion, NotBlank}
+use Rattle.im_types.specs.Types.{BadPlan, PaneGone, number_of, Contents, step}
 use Rattle.im_laws.proofs.RefusalLemmas.{step-refusals}
 use Rattle.im_engine.specs.Answered.{is_device}
 

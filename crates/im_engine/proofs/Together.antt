@@ -1,33 +1,20 @@
 -- How a group is served.
-use Rattle.std.proofs.Common.{◌≡◌, ◌⊎◌, inl, inr, ⊎_elim, ℕ, ◌+◌, ◌-◌, ◌≤◌, min, Bool, true, false, List, [], length}
-use Rattle.std.proofs.Common.{Some, Result, Ok, Err, sym, ◌∙◌, ap, subst, arith}
-use Rattle.im_types.specs.declared.TheConstants.{LAST}
-use Rattle.im_types.specs.declared.commands.Command.{Command}
-use Rattle.im_types.specs.declared.groups.Served.{Served}
-use Rattle.im_types.specs.declared.refusals.Refusal.TheVariants.{Device}
-use Rattle.im_types.specs.Contents.{Contents}
-use Rattle.im_types.specs.Layout.{layout_in_use, ring_of}
-use Rattle.im_types.specs.Header.{Header}
-use Rattle.im_types.specs.Meaning.{Means, accept_each}
-use Rattle.im_types.specs.Run.{after}
-use Rattle.im_laws.specs.Groups.{IsCounted}
-use Rattle.im_disk.specs.Moment.{Moment}
-use Rattle.im_disk.specs.Since.{CallsAtMost, CallsBy}
-use Rattle.im_memory.specs.State.{MemoryState}
-use Rattle.im_journal.specs.Holding.{JournalState, IsJournal, room_after, longer}
-use Rattle.im_image.specs.Reading.{HasSizes}
-use Rattle.im_checkpoint.specs.Step.{Step, NoCheckpoint, PagesLeft, PagesDone, Synced, CheckpointState, PagedCheckpoint}
-use Rattle.im_checkpoint.specs.Keeping.{IsBetween, StepFits, Fits, MeansWith}
-use Rattle.im_checkpoint.specs.Step.{changed_in}
-use Rattle.im_checkpoint.specs.Turns.{AddsAtMost}
-use Rattle.im_engine.specs.State.{EngineState, engine_of, MeansEither}
-use Rattle.im_groups.specs.Commands.{places, contents_after_all, commands_at, most_pages_with}
-use Rattle.im_groups.proofs.CommandLemmas.{few_at, at-after, at-accepts}
-use Rattle.im_engine.specs.Groups.{reached_in, calls_for_group, GroupCalls}
-use Rattle.im_engine.specs.Commands.{commands_put, each_refused, answers_in_turn, after_commands}
-use Rattle.im_engine.specs.Commands.{CommandsAnswered}
-use Rattle.im_engine.proofs.Adding.{unchanged, none_named}
-use Rattle.im_engine.proofs.Members.{longer_none}
+use Rattle.std.proofs.Common.{◌≡◌, ℕ, ◌+◌, ◌-◌, ◌≤◌, min, Bool, true, false, ◌⊎◌, List, [], length, Some, Ok, Err}
+use Rattle.std.proofs.Common.{Result, sym, ap, ◌∙◌, subst, inl, inr, ⊎_elim, arith}
+use Rattle.im_types.specs.Types.{Command, Served, Device, LAST, Contents, after, layout_in_use, ring_of, Header}
+use Rattle.im_types.specs.Types.{accept_each, Means}
+use Rattle.{im_laws.specs.Groups.IsCounted, im_memory.specs.State.MemoryState, im_image.specs.Reading.HasSizes}
+use Rattle.im_disk.specs.{Moment.Moment, Since.CallsAtMost, Since.CallsBy}
+use Rattle.im_journal.specs.Holding.{IsJournal, JournalState, longer, room_after}
+use Rattle.im_groups.proofs.CommandLemmas.{at-accepts, at-after, few_at}
+use Rattle.im_groups.specs.Commands.{commands_at, contents_after_all, most_pages_with, places}
+use Rattle.im_checkpoint.specs.{Keeping.Fits, Keeping.IsBetween, Keeping.MeansWith, Keeping.StepFits, Turns.AddsAtMost}
+use Rattle.im_checkpoint.specs.Step.{changed_in, CheckpointState, NoCheckpoint, PagedCheckpoint, PagesDone, PagesLeft}
+use Rattle.im_checkpoint.specs.Step.{Step, Synced}
+use Rattle.im_engine.proofs.{Adding.none_named, Adding.unchanged, Members.longer_none}
+use Rattle.im_engine.specs.Commands.{after_commands, answers_in_turn, commands_put, CommandsAnswered, each_refused}
+use Rattle.im_engine.specs.Groups.{calls_for_group, GroupCalls, reached_in}
+use Rattle.im_engine.specs.State.{engine_of, EngineState, MeansEither}
 
 -- the count of a journal is no number past the last one
 pub counted_by : {D : Type 0} (j : JournalState) → IsJournal j → (s : EngineState D) → j.count ≡ s.count

@@ -1,14 +1,9 @@
 -- What one call of an engine answers, and the engine after it. (Own.)
-use Rattle.std.specs.Prelude.{◌≡◌, ◌⊎◌, ℕ, ◌+◌, ◌<◌, Bool, true, false, Result, Ok, Err, if◌then◌else◌}
-use Rattle.im_types.specs.declared.commands.Command.{Command}
-use Rattle.im_types.specs.declared.commands.Outcome.{Outcome}
-use Rattle.im_types.specs.declared.refusals.Refusal.{Refusal}
-use Rattle.im_types.specs.declared.refusals.Refusal.TheVariants.{JournalFull, Device, Failed}
-use Rattle.im_types.specs.Contents.{Contents}
-use Rattle.im_types.specs.Step.{step, is_accepted}
-use Rattle.im_checkpoint.specs.declared.checkpoint.TurnDone.{TurnDone}
-use Rattle.im_checkpoint.specs.Turns.{Turned, Moved, AddsPages, swept_at_once}
-use Rattle.im_engine.specs.State.{EngineState, with_command, journal_in, checkpoint_in}
+use Rattle.std.specs.Prelude.{◌≡◌, ℕ, ◌+◌, ◌<◌, Bool, true, false, ◌⊎◌, if◌then◌else◌, Ok, Err, Result}
+use Rattle.im_types.specs.Types.{Command, Outcome, Refusal, JournalFull, Device, Failed, Contents, step, is_accepted}
+use Rattle.im_checkpoint.specs.declared.TurnDone.{TurnDone}
+use Rattle.im_checkpoint.specs.Turns.{AddsPages, Moved, swept_at_once, Turned}
+use Rattle.im_engine.specs.State.{checkpoint_in, EngineState, journal_in, with_command}
 
 -- an engine's answer to one command, and the engine after it, on any disk
 pub record Answered {D : Type 0} (old : EngineState D) (command : Command) (answer : Result Outcome Refusal)

@@ -1,22 +1,12 @@
 -- A group of commands that an engine serves together: requests, of one element or of several, and confirmations. (Own.)
-use Rattle.std.specs.Prelude.{◌≡◌, ◌⊎◌, ℕ, ◌+◌, ◌<◌, ◌≤◌, Bool, true, false, List, [], length, map}
-use Rattle.im_types.specs.declared.TheConstants.{MAX_GROUP}
-use Rattle.im_types.specs.declared.commands.Command.{Command}
-use Rattle.im_types.specs.declared.groups.Served.{Served}
-use Rattle.im_types.specs.declared.groups.Served.TheVariants.{Refused}
-use Rattle.im_types.specs.declared.refusals.Refusal.{Refusal}
-use Rattle.im_types.specs.declared.refusals.Refusal.TheVariants.{Device, Failed}
-use Rattle.im_types.specs.Contents.{Contents}
-use Rattle.im_types.specs.Groups.{as_served}
-use Rattle.im_disk.specs.declared.disk.Disk.{Ghosts}
-use Rattle.im_disk.specs.Since.{LeavesWithin, LeavesNow}
-use Rattle.im_journal.specs.Holding.{room_after}
-use Rattle.im_checkpoint.specs.Turns.{AddsAtMost}
-use Rattle.im_groups.specs.Commands.{places, answers_with, contents_after_all, commands_at, takes_at}
-use Rattle.im_groups.specs.Commands.{most_pages_with}
+use Rattle.std.specs.Prelude.{◌≡◌, ℕ, ◌+◌, ◌<◌, ◌≤◌, Bool, true, false, ◌⊎◌, List, [], map, length}
+use Rattle.im_types.specs.Types.{Command, Served, Refused, Refusal, Device, Failed, MAX_GROUP, Contents, as_served}
+use Rattle.im_disk.specs.{declared.Disk.Ghosts, Since.LeavesNow, Since.LeavesWithin}
+use Rattle.{im_journal.specs.Holding.room_after, im_checkpoint.specs.Turns.AddsAtMost}
 use Rattle.im_groups.specs.Ahead.{AreAccepted}
-use Rattle.im_engine.specs.State.{EngineState, MeansState, MeansEither}
-use Rattle.im_engine.specs.Groups.{GroupCalls, GroupFaults, calls_for_group}
+use Rattle.im_groups.specs.Commands.{answers_with, commands_at, contents_after_all, most_pages_with, places, takes_at}
+use Rattle.im_engine.specs.Groups.{calls_for_group, GroupCalls, GroupFaults}
+use Rattle.im_engine.specs.State.{EngineState, MeansEither, MeansState}
 
 -- the commands that are put on the disk, each judged after those before it
 abbrev pub commands_put : {D : Type 0} → EngineState D → List Command → List Command

@@ -1,8 +1,7 @@
 -- A file of which an image is made, or isn't. (Own.)
 use Rattle.std.specs.Prelude.{◌≡◌, ◌≢◌, length}
-use Rattle.im_types.specs.declared.sizes.Limits.{Limits}
-use Rattle.im_types.specs.Layout.{layout_in_use, image_length, sizes_of}
-use Rattle.im_disk.specs.declared.disk.Disk.{Ghosts}
+use Rattle.im_types.specs.Types.{Limits, layout_in_use, sizes_of, image_length}
+use Rattle.im_disk.specs.declared.Disk.{Ghosts}
 
 module _ {D : Type 0} (disk : Ghosts D) (limits : Limits) (old : D) where
   -- the file is as long as an image with these limits

@@ -1,26 +1,15 @@
 -- A group of requests that an engine serves together. (Own.)
-use Rattle.std.specs.Prelude.{◌≡◌, ◌⊎◌, ℕ, ◌+◌, ◌-◌, ◌<◌, ◌≤◌, ◌==◌, Bool, true, false, ◌&&◌, nat_lt, List, []}
-use Rattle.std.specs.Prelude.{◌∷◌, length, map, Some, Result, Ok, if◌then◌else◌}
-use Rattle.im_types.specs.declared.TheConstants.{LAST, MAX_GROUP}
-use Rattle.im_types.specs.declared.commands.Request.{Request}
-use Rattle.im_types.specs.declared.commands.Command.{Command}
-use Rattle.im_types.specs.declared.commands.Command.TheVariants.{Request as Asks}
-use Rattle.im_types.specs.declared.groups.Served.{Served}
-use Rattle.im_types.specs.declared.groups.Served.TheVariants.{Refused}
-use Rattle.im_types.specs.declared.refusals.Refusal.{Refusal}
-use Rattle.im_types.specs.declared.refusals.Refusal.TheVariants.{Device, Failed}
-use Rattle.im_types.specs.Contents.{Contents}
-use Rattle.im_types.specs.Step.{is_accepted}
-use Rattle.im_types.specs.Meaning.{Reached, accept_each}
-use Rattle.im_types.specs.Groups.{as_served, is_put, answers_of, reached_by_one, reached_by_all, puts_of}
-use Rattle.im_disk.specs.declared.disk.Disk.{Ghosts}
-use Rattle.im_disk.specs.Moment.{Moment, Rises}
-use Rattle.im_disk.specs.Since.{LeavesOnly, Calls, CallsAtMost, CallsBy}
-use Rattle.im_journal.specs.Holding.{JournalState, IsJournal, longer}
+use Rattle.std.specs.Prelude.{◌≡◌, ℕ, ◌+◌, ◌-◌, ◌<◌, ◌≤◌, Bool, true, false, ◌&&◌, ◌⊎◌, List, [], ◌∷◌, map, length}
+use Rattle.std.specs.Prelude.{if◌then◌else◌, nat_lt, ◌==◌, Some, Ok, Result}
+use Rattle.im_types.specs.Types.{Request, Command, Asks, Served, Refused, Refusal, Device, Failed, MAX_GROUP, LAST}
+use Rattle.im_types.specs.Types.{Contents, is_accepted, as_served, is_put, reached_by_one, answers_of, reached_by_all}
+use Rattle.im_types.specs.Types.{puts_of, Reached, accept_each}
+use Rattle.im_disk.specs.{declared.Disk.Ghosts, Moment.Moment, Moment.Rises}
+use Rattle.im_disk.specs.Since.{Calls, CallsAtMost, CallsBy, LeavesOnly}
+use Rattle.im_journal.specs.Holding.{IsJournal, JournalState, longer}
 use Rattle.im_memory.specs.Covering.{most_pages}
-use Rattle.im_checkpoint.specs.Step.{CheckpointState, PagedCheckpoint, changed_in}
-use Rattle.im_checkpoint.specs.Keeping.{Paged, IsKept, MeansWith}
-use Rattle.im_checkpoint.specs.Turns.{AddsAtMost}
+use Rattle.im_checkpoint.specs.{Keeping.IsKept, Keeping.MeansWith, Keeping.Paged, Turns.AddsAtMost}
+use Rattle.im_checkpoint.specs.Step.{changed_in, CheckpointState, PagedCheckpoint}
 use Rattle.im_engine.specs.State.{EngineState}
 
 -- what an engine has reached: its memory, its count and its room

@@ -1,8 +1,6 @@
 -- What the files mean that a crash may leave, within a call of an engine and after it. (Own.)
-use Rattle.std.specs.Prelude.{◌≡◌, false, ℕ, List}
-use Rattle.im_disk.specs.declared.disk.Disk.{Ghosts}
-use Rattle.im_disk.specs.Moment.{Left}
-use Rattle.im_disk.specs.Since.{LeavesWithin, LeavesNow, LeavesOnly}
+use Rattle.std.specs.Prelude.{◌≡◌, ℕ, false, List}
+use Rattle.im_disk.specs.{declared.Disk.Ghosts, Moment.Left, Since.LeavesNow, Since.LeavesOnly, Since.LeavesWithin}
 use Rattle.im_engine.specs.State.{EngineState, MeansState}
 
 module _ {D : Type 0} (disk : Ghosts D) where

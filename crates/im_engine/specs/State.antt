@@ -1,19 +1,11 @@
 -- An engine as clauses see it, and what the files mean that a crash may leave. (Own.)
-use Rattle.std.specs.Prelude.{◌⊎◌, ℕ, ◌+◌, Bool, true, not, List, replicate, Ok, Err, ◌≡◌}
-use Rattle.im_types.specs.declared.commands.Command.{Command}
-use Rattle.im_types.specs.declared.refusals.Refusal.{Refusal}
-use Rattle.im_types.specs.declared.sizes.Limits.{Limits}
-use Rattle.im_types.specs.Contents.{Contents, empty_contents}
-use Rattle.im_types.specs.Step.{step}
-use Rattle.im_types.specs.Layout.{layout_in_use, ring_of, area_pages, sizes_of}
-use Rattle.im_types.specs.Header.{Header, header_of}
-use Rattle.im_types.specs.Meaning.{Reached, Means, Opens, Reads}
-use Rattle.im_disk.specs.Moment.{Moment}
-use Rattle.im_journal.specs.Holding.{JournalState, room_after}
-use Rattle.im_memory.specs.State.{MemoryState, empty_records}
-use Rattle.im_image.specs.Fresh.{new_header}
-use Rattle.im_checkpoint.specs.Step.{Step, NoCheckpoint, CheckpointState, PagedCheckpoint, Changed, changed_in}
-use Rattle.im_checkpoint.specs.Keeping.{Paged, IsKept}
+use Rattle.std.specs.Prelude.{◌≡◌, ℕ, ◌+◌, Bool, true, not, ◌⊎◌, List, replicate, Ok, Err}
+use Rattle.im_types.specs.Types.{Command, Refusal, Limits, Contents, empty_contents, step, layout_in_use, sizes_of}
+use Rattle.im_types.specs.Types.{area_pages, ring_of, Header, header_of, Reached, Reads, Opens, Means}
+use Rattle.{im_disk.specs.Moment.Moment, im_journal.specs.Holding.JournalState, im_journal.specs.Holding.room_after}
+use Rattle.{im_image.specs.Fresh.new_header, im_checkpoint.specs.Keeping.IsKept, im_checkpoint.specs.Keeping.Paged}
+use Rattle.im_memory.specs.State.{empty_records, MemoryState}
+use Rattle.im_checkpoint.specs.Step.{Changed, changed_in, CheckpointState, NoCheckpoint, PagedCheckpoint, Step}
 
 -- an engine: its disk, the header in force, the progress of the next one, the pages that changed, the memory, the count
 -- of all commands, the room for more, and whether the disk has failed it

@@ -1,6 +1,6 @@
 //! Requests that can be served as a group.
-ghost use Rattle.std.specs.Prelude.{◌≡◌, IfSome, IsNone, IsTrue, ◌↔◌};
-ghost use Rattle.im_types.specs.Groups.{AreApart};
+ghost use Rattle.std.specs.Prelude.{◌≡◌, ◌↔◌, IfSome, IsNone, IsTrue};
+ghost use Rattle.im_types.specs.Types.{AreApart};
 
 use crate::groups::are_apart;
 use arrayvec::ArrayVec;
@@ -15,8 +15,7 @@ pub struct Group {
 
 impl Model for Group {
     ghost use Rattle.std.specs.Prelude.{List};
-    ghost use Rattle.im_types.specs.declared.commands.Request.{Request};
-    ghost use Rattle.im_types.specs.Groups.{AreApart};
+    ghost use Rattle.im_types.specs.Types.{Request, AreApart};
 
     ghost Value = { List Request };
 

@@ -1,14 +1,12 @@
 //! The engine: it serves one command, makes turns of a checkpoint, and sweeps.
 ghost use Rattle.std.specs.Prelude.{◌≡◌, ◌+◌, true, false, OnOk};
-ghost use Rattle.im_types.specs.Step.{step, is_accepted};
-ghost use Rattle.im_disk.specs.Moment.{Faults};
-ghost use Rattle.im_disk.specs.Since.{LeavesNow, CallsAtMost, CallsBy};
-ghost use Rattle.im_checkpoint.specs.Keeping.{Fits, IsKept, paged};
-ghost use Rattle.im_checkpoint.specs.Step.{IsUnderWay, turns_left};
-ghost use Rattle.im_checkpoint.specs.Turns.{most_calls, calls_to_sweep};
-ghost use Rattle.im_engine.specs.Answered.{Answered, TurnAnswered, SweepAnswered, calls_for};
-ghost use Rattle.im_engine.specs.State.{engine_of, MeansState, MeansEither, with_command, journal_in};
-ghost use Rattle.im_engine.specs.Leaving.{LeavesSince, LeavesAfter, LeavesState, LeavesThroughout};
+ghost use Rattle.im_types.specs.Types.{step, is_accepted};
+ghost use Rattle.im_disk.specs.{Moment.Faults, Since.CallsAtMost, Since.CallsBy, Since.LeavesNow};
+ghost use Rattle.im_checkpoint.specs.{Keeping.Fits, Keeping.IsKept, Keeping.paged, Step.IsUnderWay, Step.turns_left};
+ghost use Rattle.im_checkpoint.specs.Turns.{calls_to_sweep, most_calls};
+ghost use Rattle.im_engine.specs.Answered.{Answered, calls_for, SweepAnswered, TurnAnswered};
+ghost use Rattle.im_engine.specs.Leaving.{LeavesAfter, LeavesSince, LeavesState, LeavesThroughout};
+ghost use Rattle.im_engine.specs.State.{engine_of, journal_in, MeansEither, MeansState, with_command};
 
 use im_checkpoint::{Checkpoint, TurnDone};
 use im_disk::Disk;
@@ -45,8 +43,7 @@ impl<D: Disk + Drop> Drop for Engine<D> {
 
 impl<D: Disk> Model for Engine<D> {
     ghost use Rattle.std.specs.Prelude.{◌≡◌, false};
-    ghost use Rattle.im_checkpoint.specs.Step.{changed_in};
-    ghost use Rattle.im_checkpoint.specs.Keeping.{Fits, IsKept, paged};
+    ghost use Rattle.im_checkpoint.specs.{Keeping.Fits, Keeping.IsKept, Keeping.paged, Step.changed_in};
     ghost use Rattle.im_engine.specs.State.{EngineState};
 
     ghost Value = { EngineState D };

@@ -1,16 +1,12 @@
 //! Makes an image of a file.
-ghost use Rattle.std.specs.Prelude.{◌≡◌, false, true, ◌⊎◌, [], ◌∷◌, ◌<◌, length, drop};
-ghost use Rattle.std.specs.Prelude.{IfOk, IfErr, OnOk, IsErrOf, MatchResult};
-ghost use Rattle.im_types.specs.declared.refusals.Refusal.TheVariants.{WrongLength, NoMemory, Device};
-ghost use Rattle.im_types.specs.Header.{Header as Seen};
-ghost use Rattle.im_disk.specs.Moment.{Counts, Fault, Faults};
-ghost use Rattle.im_disk.specs.Since.{LeavesNow};
-ghost use Rattle.im_types.specs.Layout.{sizes_of};
-ghost use Rattle.im_image.specs.Headers.{seen};
-ghost use Rattle.im_image.specs.Fresh.{new_header, new_image};
+ghost use Rattle.std.specs.Prelude.{◌≡◌, ◌<◌, true, false, ◌⊎◌, [], ◌∷◌, length, drop, IfOk, IfErr, OnOk, MatchResult};
+ghost use Rattle.std.specs.Prelude.{IsErrOf};
+ghost use Rattle.im_types.specs.Types.{Device, NoMemory, WrongLength, sizes_of, Header as Seen};
+ghost use Rattle.im_disk.specs.{Moment.Counts, Moment.Fault, Moment.Faults, Since.LeavesNow};
+ghost use Rattle.im_image.specs.{Fresh.new_header, Fresh.new_image, Headers.seen};
 ghost use Rattle.im_checkpoint.specs.Turns.{IsIdle};
-ghost use Rattle.im_engine.specs.State.{IsEmptyMemory, IsNewImage, MeansState};
 ghost use Rattle.im_engine.specs.Formatting.{HasLength, HasLengthUntouched, HasOtherLength};
+ghost use Rattle.im_engine.specs.State.{IsEmptyMemory, IsNewImage, MeansState};
 
 use crate::engine::Engine;
 use im_checkpoint::Checkpoint;

@@ -1,13 +1,10 @@
 //! How an engine serves several commands together.
-ghost use Rattle.std.specs.Prelude.{◌≡◌, ◌≤◌, [], length, take, false};
-ghost use Rattle.im_types.specs.declared.TheConstants.{MAX_GROUP};
-ghost use Rattle.im_groups.specs.Ahead.{ServesPrefix};
-ghost use Rattle.im_groups.specs.Commands.{places};
-ghost use Rattle.im_engine.specs.Commands.{CommandsAnswered, ServesCommands, AreJudged, AreWhole, commands_put};
-ghost use Rattle.im_engine.specs.Groups.{GroupAnswered, GroupCalls, GroupFaults, after_group};
-ghost use Rattle.im_engine.specs.Groups.{group_put, calls_for_group};
-ghost use Rattle.im_engine.specs.Leaving.{LeavesSince, LeavesAfter, LeavesState};
-ghost use Rattle.im_engine.specs.State.{MeansEither};
+ghost use Rattle.std.specs.Prelude.{◌≡◌, ◌≤◌, false, [], length, take};
+ghost use Rattle.{im_types.specs.Types.MAX_GROUP, im_groups.specs.Ahead.ServesPrefix, im_groups.specs.Commands.places};
+ghost use Rattle.im_engine.specs.Commands.{AreJudged, AreWhole, commands_put, CommandsAnswered, ServesCommands};
+ghost use Rattle.im_engine.specs.Groups.{after_group, calls_for_group, group_put, GroupAnswered, GroupCalls};
+ghost use Rattle.im_engine.specs.Groups.{GroupFaults};
+ghost use Rattle.im_engine.specs.{Leaving.LeavesAfter, Leaving.LeavesSince, Leaving.LeavesState, State.MeansEither};
 
 use crate::engine::Engine;
 use crate::groups::{Members, act_all, commands_of, places_in, put_on, refuse_all};

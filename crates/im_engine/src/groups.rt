@@ -1,22 +1,15 @@
 //! The members of a group: what is put on the disk for them, how they act, and their answers.
-ghost use Rattle.std.specs.Prelude.{◌≡◌, ◌↔◌, ◌⊎◌, ◌+◌, ◌≤◌, ℕ, [], length, map};
-ghost use Rattle.im_types.specs.declared.TheConstants.{MAX_GROUP};
-ghost use Rattle.std.specs.Prelude.{Some, Ok, OnOk, IsTrue, true, false};
-ghost use Rattle.std.specs.Prelude.{MatchResult};
-ghost use Rattle.im_types.specs.declared.commands.Command.TheVariants.{Request as Asks};
-ghost use Rattle.im_types.specs.Contents.{Contents};
-ghost use Rattle.im_types.specs.Step.{step, is_accepted};
-ghost use Rattle.im_types.specs.Groups.{AreOthers, AreApart, as_served};
-ghost use Rattle.im_disk.specs.Moment.{Moment, Faults};
-ghost use Rattle.im_journal.specs.Holding.{JournalState, IsJournal, AllHold, longer};
-ghost use Rattle.im_image.specs.Reading.{HasSizes};
-ghost use Rattle.im_memory.specs.Covering.{most_pages};
-ghost use Rattle.im_checkpoint.specs.Keeping.{paged, IsKept};
-ghost use Rattle.im_groups.specs.Commands.{places, answer_with, contents_with, places_behind, answers_with};
-ghost use Rattle.im_groups.specs.Commands.{contents_after_all, takes_place};
-ghost use Rattle.im_groups.specs.Commands.{most_pages_at, most_pages_with};
-ghost use Rattle.im_engine.specs.Groups.{FitsGroup, GroupPut, LeavesAllOrNone, KeepsAfter, StaysBut};
+ghost use Rattle.std.specs.Prelude.{◌≡◌, ℕ, ◌+◌, ◌≤◌, true, false, ◌⊎◌, ◌↔◌, [], map, length, OnOk, IsTrue};
+ghost use Rattle.std.specs.Prelude.{MatchResult, Some, Ok};
+ghost use Rattle.im_types.specs.Types.{Asks, MAX_GROUP, Contents, step, is_accepted, AreOthers, AreApart, as_served};
+ghost use Rattle.im_disk.specs.Moment.{Faults, Moment};
+ghost use Rattle.im_journal.specs.Holding.{AllHold, IsJournal, JournalState, longer};
+ghost use Rattle.{im_memory.specs.Covering.most_pages, im_image.specs.Reading.HasSizes};
+ghost use Rattle.im_groups.specs.Commands.{answer_with, answers_with, contents_after_all, contents_with, most_pages_at};
+ghost use Rattle.im_groups.specs.Commands.{most_pages_with, places, places_behind, takes_place};
+ghost use Rattle.im_checkpoint.specs.Keeping.{IsKept, paged};
 ghost use Rattle.im_engine.specs.Commands.{AreJudged, AreParted, each_refused};
+ghost use Rattle.im_engine.specs.Groups.{FitsGroup, GroupPut, KeepsAfter, LeavesAllOrNone, StaysBut};
 
 use crate::whole::act_whole;
 use arrayvec::ArrayVec;

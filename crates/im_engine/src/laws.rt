@@ -1,16 +1,9 @@
 //! Laws about what files mean. Each is the contract of a function that does nothing.
-ghost use Rattle.std.specs.Prelude.{◌≡◌, ℕ, List, false, Result, Err};
-ghost use Rattle.im_types.specs.declared.refusals.Refusal.{Refusal};
-ghost use Rattle.im_types.specs.declared.commands.Command.{Command};
-ghost use Rattle.im_types.specs.Contents.{Contents, empty_contents};
-ghost use Rattle.im_types.specs.Sizes.{AreLimits};
-ghost use Rattle.im_types.specs.declared.layout.Version.{Version};
-ghost use Rattle.im_types.specs.Layout.{Sizes, layout_of};
-ghost use Rattle.im_types.specs.Step.{step};
-ghost use Rattle.im_types.specs.Meaning.{Means, Opens, Reached, Reads};
+ghost use Rattle.std.specs.Prelude.{◌≡◌, ℕ, false, List, Err, Result};
+ghost use Rattle.im_types.specs.Types.{Command, Refusal, AreLimits, Contents, empty_contents, step, Version, layout_of};
+ghost use Rattle.im_types.specs.Types.{Sizes, Reached, Reads, Opens, Means};
 ghost use Rattle.im_image.specs.Fresh.{new_image};
-ghost use Rattle.im_engine.specs.Answered.{is_device};
-ghost use Rattle.im_engine.specs.State.{IsFirstFault};
+ghost use Rattle.im_engine.specs.{Answered.is_device, State.IsFirstFault};
 
 /// A file means one thing. Reading it by the rules of a version gives one memory, one count and one room, or one first
 /// fault. The same holds for opening it.

@@ -1,10 +1,8 @@
 //! What an engine shows.
 ghost use Rattle.std.specs.Prelude.{◌≡◌, true, false, Err};
-ghost use Rattle.im_types.specs.Window.{ask, bounds};
-ghost use Rattle.im_laws.specs.Groups.{IsCounted};
-ghost use Rattle.im_groups.specs.Commands.{places};
-ghost use Rattle.im_engine.specs.Groups.{reached_in};
-ghost use Rattle.im_engine.specs.Leaving.{LeavesState};
+ghost use Rattle.im_types.specs.Types.{ask, bounds};
+ghost use Rattle.{im_laws.specs.Groups.IsCounted, im_groups.specs.Commands.places};
+ghost use Rattle.im_engine.specs.{Groups.reached_in, Leaving.LeavesState};
 
 use crate::emptying::Empties;
 use crate::engine::Engine;

@@ -1,13 +1,10 @@
 //! Opens an image.
-ghost use Rattle.std.specs.Prelude.{◌≡◌, ◌⊎◌, ◌≤◌, false, length, IfOk, IfErr, MatchResult};
-ghost use Rattle.im_types.specs.declared.refusals.Refusal.TheVariants.{NoMemory, Device};
-ghost use Rattle.im_disk.specs.Moment.{Fault, Faults};
-ghost use Rattle.im_disk.specs.Since.{LeavesNow};
-ghost use Rattle.im_image.specs.Headers.{seen, MayRefuseOpening};
-ghost use Rattle.im_checkpoint.specs.Step.{NoCheckpoint};
-ghost use Rattle.im_checkpoint.specs.Keeping.{Fits};
-ghost use Rattle.im_engine.specs.State.{MeansState, IsFirstFault, Finds, IsFound, IsKeptIdle, pages_at_first};
+ghost use Rattle.std.specs.Prelude.{◌≡◌, ◌≤◌, false, ◌⊎◌, length, IfOk, IfErr, MatchResult};
+ghost use Rattle.{im_types.specs.Types.Device, im_types.specs.Types.NoMemory, im_image.specs.Headers.MayRefuseOpening};
+ghost use Rattle.{im_image.specs.Headers.seen, im_checkpoint.specs.Keeping.Fits, im_checkpoint.specs.Step.NoCheckpoint};
+ghost use Rattle.im_disk.specs.{Moment.Fault, Moment.Faults, Since.LeavesNow};
 ghost use Rattle.im_engine.specs.Leaving.{LeavesAsBefore};
+ghost use Rattle.im_engine.specs.State.{Finds, IsFirstFault, IsFound, IsKeptIdle, MeansState, pages_at_first};
 
 use crate::engine::Engine;
 use im_checkpoint::Checkpoint;

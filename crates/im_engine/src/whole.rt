@@ -1,18 +1,12 @@
 //! How the members of a group act if all of them take places.
-ghost use Rattle.std.specs.Prelude.{◌≡◌, ◌<◌, ◌++◌, ◌∷◌, [], length, map, true};
-ghost use Rattle.im_types.specs.declared.TheConstants.{MAX_GROUP};
-ghost use Rattle.im_types.specs.Contents.{Contents};
-ghost use Rattle.im_types.specs.Step.{step, is_accepted};
-ghost use Rattle.im_types.specs.Groups.{as_served};
-ghost use Rattle.im_disk.specs.Moment.{Moment};
+ghost use Rattle.std.specs.Prelude.{◌≡◌, ◌<◌, true, [], ◌∷◌, ◌++◌, map, length};
+ghost use Rattle.im_types.specs.Types.{MAX_GROUP, Contents, step, is_accepted, as_served};
+ghost use Rattle.{im_disk.specs.Moment.Moment, im_memory.specs.Covering.most_pages, im_image.specs.Reading.HasSizes};
 ghost use Rattle.im_journal.specs.Holding.{JournalState};
-ghost use Rattle.im_image.specs.Reading.{HasSizes};
-ghost use Rattle.im_memory.specs.Covering.{most_pages};
-ghost use Rattle.im_checkpoint.specs.Keeping.{paged, IsKept};
-ghost use Rattle.im_groups.specs.Commands.{answer_with, contents_with, places_behind, answers_with, takes_place};
-ghost use Rattle.im_groups.specs.Commands.{contents_after_all, most_pages_at, most_pages_with};
-ghost use Rattle.im_engine.specs.Groups.{StaysBut};
-ghost use Rattle.im_engine.specs.Commands.{AreWhole};
+ghost use Rattle.im_groups.specs.Commands.{answer_with, answers_with, contents_after_all, contents_with, most_pages_at};
+ghost use Rattle.im_groups.specs.Commands.{most_pages_with, places_behind, takes_place};
+ghost use Rattle.im_checkpoint.specs.Keeping.{IsKept, paged};
+ghost use Rattle.im_engine.specs.{Commands.AreWhole, Groups.StaysBut};
 
 use crate::groups::as_served;
 use arrayvec::ArrayVec;

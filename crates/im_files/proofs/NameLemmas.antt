@@ -1,14 +1,10 @@
 -- A note that begins with the name of a run isn't of an earlier one.
-use Rattle.std.proofs.Common.{◌≡◌, ◌<◌, ℕ, Bool, true, false, not, ◌&&◌, ◌==◌, List, [], ◌∷◌, ◌++◌, length, refl}
-use Rattle.std.proofs.Common.{ap, arith, length-append, sym, subst}
-use Rattle.std.proofs.lemmas.Bool.{and_left, and_right, eqb-true}
-use Rattle.std.proofs.lemmas.Bool.Decides.{nat_tests}
-use Rattle.std.proofs.lemmas.List.{append-nil}
-use Rattle.std.proofs.lemmas.Slice.Eq.{bytes_eq-Decides}
-use Rattle.std.specs.Str.{bytes_eq}
-use Rattle.std.specs.Prelude.{Option, None, Some, IfSome}
+use Rattle.std.proofs.Common.{◌≡◌, ℕ, ◌<◌, Bool, true, false, not, ◌&&◌, List, [], ◌∷◌, ◌++◌, length, IfSome, ◌==◌}
+use Rattle.std.proofs.Common.{Some, None, Option, bytes_eq, sym, refl, ap, subst, append-nil, arith, length-append}
+use Rattle.std.proofs.Common.{eqb-true}
+use Rattle.std.proofs.lemmas.{Bool.and_left, Bool.and_right, Bool.Decides.nat_tests, Slice.Eq.bytes_eq-Decides}
 use Rattle.std.specs.Io.KnownBytes.{Appends, Consumes}
-use Rattle.im_files.specs.Notes.{IsOfRun, is_earlier}
+use Rattle.im_files.specs.Notes.{is_earlier, IsOfRun}
 
 -- a note isn't of an earlier run than the one of its own text
 self_name : (name : List ℕ) → is_earlier name name ≡ false

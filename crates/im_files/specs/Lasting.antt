@@ -1,7 +1,5 @@
 -- How long an opening waits for the lock of a file. (Own.)
-use Rattle.std.specs.Prelude.{ℕ, Option}
-use Rattle.std.specs.Duration.{as_nanos}
-use Rattle.std.specs.declared.time.Instant.{Instant}
+use Rattle.std.specs.{Prelude.ℕ, Prelude.Option, declared.time.Instant.Instant, Duration.as_nanos}
 use Rattle.im_files.specs.declared.waiting.Waiting.{Waiting}
 
 -- the maximum wait, in nanoseconds

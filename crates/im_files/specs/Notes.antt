@@ -1,9 +1,8 @@
 -- Notes beside the files of images. (Own.)
-use Rattle.std.specs.Prelude.{◌≡◌, ℕ, Bool, true, false, not, ◌&&◌, ◌==◌, List, ◌++◌, length, bytes_eq, codes}
-use Rattle.std.specs.Prelude.{Option, IfSome}
+use Rattle.std.specs.Prelude.{◌≡◌, ℕ, Bool, true, false, not, ◌&&◌, List, ◌++◌, length, IfSome, ◌==◌, codes, bytes_eq}
+use Rattle.std.specs.Prelude.{Option}
 use Rattle.std.specs.Io.KnownBytes.{Appends}
-use Rattle.im_files.specs.declared.notes.Noting.{Noting}
-use Rattle.im_files.specs.declared.notes.Noting.TheVariants.{Unneeded, Left, Failed}
+use Rattle.im_files.specs.declared.notes.Noting.{Noting, TheVariants.Failed, TheVariants.Left, TheVariants.Unneeded}
 
 -- the path of the note of the file at this path
 abbrev pub note_of : List ℕ → List ℕ

@@ -1,6 +1,6 @@
 //! Keeps the note beside a file as a file of its own.
-ghost use Rattle.std.specs.Prelude.{◌≡◌, List, ℕ, IfOk, OnOk, string_bytes};
-ghost use Rattle.im_files.specs.Notes.{IsOfRun, is_earlier, note_of};
+ghost use Rattle.std.specs.Prelude.{◌≡◌, ℕ, List, IfOk, OnOk, string_bytes};
+ghost use Rattle.im_files.specs.Notes.{is_earlier, IsOfRun, note_of};
 
 use crate::{Notes, Sight};
 use std::alloc::{AllocError, Global};

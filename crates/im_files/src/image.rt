@@ -1,5 +1,5 @@
 //! Makes, opens and removes the file of an image.
-ghost use Rattle.std.specs.Prelude.{◌≡◌, ◌↔◌, [], true, false, not, replicate, IfOk};
+ghost use Rattle.std.specs.Prelude.{◌≡◌, true, false, not, ◌↔◌, [], replicate, IfOk};
 ghost use Rattle.im_disk.specs.File.{has_failed_sync};
 ghost use Rattle.im_files.specs.Notes.{is_unneeded};
 
@@ -35,7 +35,7 @@ impl From<AllocError> for FileFault {
 }
 
 impl From<FileFault> for Refusal {
-    ghost use Rattle.im_types.specs.declared.refusals.Refusal.TheVariants.{Device};
+    ghost use Rattle.im_types.specs.Types.{Device};
 
     ghost from_gives = { λ _ refusal. refusal ≡ Device };
 

@@ -18,8 +18,7 @@ pub enum Sight {
 
 /// Looks at the note of one file, leaves it and removes it.
 pub trait Notes {
-    ghost use Rattle.im_files.specs.declared.notes.Sight.{Sight};
-    ghost use Rattle.im_files.specs.declared.notes.Sight.TheVariants.{Standing};
+    ghost use Rattle.im_files.specs.declared.notes.Sight.{Sight, TheVariants.Standing};
 
     /// What the note says.
     ghost sight: { Self → Sight };

@@ -1,10 +1,8 @@
 //! What the note beside a file decides: whether the file is opened, and when a note is left.
-ghost use Rattle.std.specs.Prelude.{◌≡◌, ◌≢◌, false, true, not, IfErr, IfOk, OnErr};
+ghost use Rattle.std.specs.Prelude.{◌≡◌, true, false, not, ◌≢◌, IfOk, IfErr, OnErr};
 ghost use Rattle.im_disk.specs.File.{has_failed_sync};
-ghost use Rattle.im_files.specs.Notes.{is_unneeded};
-ghost use Rattle.im_files.specs.declared.image.FileFault.TheVariants.{Unsynced};
-ghost use Rattle.im_files.specs.declared.notes.Noting.TheVariants.{Left};
-ghost use Rattle.im_files.specs.declared.notes.Sight.TheVariants.{Standing};
+ghost use Rattle.im_files.specs.{declared.image.FileFault.TheVariants.Unsynced, Notes.is_unneeded};
+ghost use Rattle.im_files.specs.declared.notes.{Noting.TheVariants.Left, Sight.TheVariants.Standing};
 
 use crate::{FileFault, Notes, Noting, Sight};
 use im_disk::{Failure, FileDisk, Start};

@@ -34,7 +34,7 @@ impl<R: Drop> Waiting<R> {
 }
 
 impl<R: Clock + Drop> Start for Waiting<R> {
-    ghost use Rattle.std.specs.Prelude.{◌≡◌, [], false, IfSome, Some};
+    ghost use Rattle.std.specs.Prelude.{◌≡◌, false, [], IfSome, Some};
     ghost use Rattle.im_files.specs.Lasting.{counted_from, longest};
 
     ghost path = { [] };

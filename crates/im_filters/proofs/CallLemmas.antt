@@ -1,22 +1,18 @@
 -- What is told of each line of a trace. (Own.)
-use Rattle.std.proofs.Common.{◌≡◌, ◌∙◌, ℕ, ◌<◌, Bool, true, false, List, [], ◌∷◌, ◌++◌, refl, ap, ap₂, sym, arith}
-use Rattle.std.proofs.Common.{append_assoc, subst}
-use Rattle.std.specs.Prelude.{if◌then◌else◌, codes, decimal}
-use Rattle.std.specs.Str.{bytes_eq}
-use Rattle.im_types.specs.declared.operations.Kind.TheVariants.{I, M}
-use Rattle.im_types.specs.declared.operations.Op.{Op}
-use Rattle.im_types.specs.declared.operations.Op.TheVariants.{Alloc, Release, Reset, Fetch, Store, Take, Put}
+use Rattle.std.proofs.Common.{◌≡◌, ℕ, ◌<◌, Bool, true, false, List, [], ◌∷◌, ◌++◌, if◌then◌else◌, codes, decimal}
+use Rattle.std.proofs.Common.{bytes_eq, sym, refl, ap, ◌∙◌, subst, ap₂, append_assoc, arith}
+use Rattle.im_types.specs.Types.{Op, I, M, Alloc, Release, Reset, Fetch, Store, Take, Put}
 use Rattle.im_text.specs.Texts.{op_text}
-use Rattle.im_filters.specs.declared.telling.Telling.TheVariants.{Calls}
-use Rattle.im_filters.specs.Calls.{answer_members, answered_members, asking_members, behind_mark, call_members}
-use Rattle.im_filters.specs.Calls.{call_object, begins_marked, line_of_call, mark_members, mark_words, marked_object}
-use Rattle.im_filters.specs.Calls.{members_by, named_members, noting_members, object_behind, op_members, op_word}
-use Rattle.im_filters.specs.Calls.{operand_members, place_members, request_members, room_members}
-use Rattle.im_filters.specs.Objects.{cut_front, cut_rest, head_word, tail_words}
-use Rattle.im_filters.specs.Tellings.{IsCallTold, IsSaid, IsSifted, lacks}
 use Rattle.im_filters.proofs.CutLemmas.{front_at, is_sifted, lacks_both, rest_at}
 use Rattle.im_filters.proofs.DigitLemmas.{decimal_digits, lacks_decimal, word_differs}
 use Rattle.im_filters.proofs.LineLemmas.{asked, asked_front, asked_lacks, asked_rest, spaced_head, spaced_tail}
+use Rattle.im_filters.specs.Calls.{answer_members, answered_members, asking_members, begins_marked, behind_mark}
+use Rattle.im_filters.specs.Calls.{call_members, call_object, line_of_call, mark_members, mark_words, marked_object}
+use Rattle.im_filters.specs.Calls.{members_by, named_members, noting_members, object_behind, op_members, op_word}
+use Rattle.im_filters.specs.Calls.{operand_members, place_members, request_members, room_members}
+use Rattle.im_filters.specs.declared.telling.Telling.TheVariants.{Calls}
+use Rattle.im_filters.specs.Objects.{cut_front, cut_rest, head_word, tail_words}
+use Rattle.im_filters.specs.Tellings.{IsCallTold, IsSaid, IsSifted, lacks}
 
 -- ---- marks
 

@@ -1,17 +1,13 @@
 -- Texts that are cut at a mark, and lines that are told one after another. (Own.)
-use Rattle.std.proofs.Common.{◌≡◌, ◌∙◌, ◌≢◌, ℕ, ◌+◌, ◌<◌, not, Bool, true, false, List, [], ◌∷◌, ◌++◌}
-use Rattle.std.proofs.Common.{length, get_or, take, refl, sym, ap, ap₂, subst, arith, append_assoc, append-nil}
-use Rattle.std.proofs.Common.{◌≤◌, ne_eqb, eq-eqb, take_all, Bor}
-use Rattle.std.proofs.lemmas.List.{take_more}
-use Rattle.std.specs.Prelude.{◌==◌, if◌then◌else◌, Option, None, Some}
-use Rattle.std.proofs.lemmas.Bool.{and_parts, and_from, both_ways, not-true}
-use Rattle.std.proofs.lemmas.Grind.{common_steps}
-use Rattle.std.proofs.lemmas.Str.Pattern.{split_parts, IsSplitOnceResult}
-use Rattle.im_filters.specs.declared.telling.Telling.{Telling}
-use Rattle.im_filters.specs.declared.telling.Telling.TheVariants.{Plain, Quiet, Json, Calls}
+use Rattle.std.proofs.Common.{◌≡◌, ℕ, ◌+◌, ◌<◌, ◌≤◌, Bool, true, false, not, ◌≢◌, List, [], ◌∷◌, ◌++◌, length, get_or}
+use Rattle.std.proofs.Common.{take, if◌then◌else◌, ◌==◌, Some, None, Option, sym, refl, ap, ◌∙◌, subst, ap₂}
+use Rattle.std.proofs.Common.{append_assoc, append-nil, arith, take_all, Bor, eq-eqb, ne_eqb}
+use Rattle.std.proofs.lemmas.{Bool.and_from, Bool.and_parts, Bool.both_ways, Bool.not-true, Grind.common_steps}
+use Rattle.std.proofs.lemmas.{List.take_more, Str.Pattern.IsSplitOnceResult, Str.Pattern.split_parts}
+use Rattle.im_filters.specs.{declared.telling.Telling.Telling, Sieves.goes_by_lines}
+use Rattle.im_filters.specs.declared.telling.Telling.TheVariants.{Calls, Json, Plain, Quiet}
 use Rattle.im_filters.specs.Objects.{cut_front, cut_rest}
-use Rattle.im_filters.specs.Sieves.{goes_by_lines}
-use Rattle.im_filters.specs.Tellings.{IsSifted, lacks, sifted_lines, part_left, sifted, sifted_line}
+use Rattle.im_filters.specs.Tellings.{IsSifted, lacks, part_left, sifted, sifted_line, sifted_lines}
 
 -- ---- marks
 

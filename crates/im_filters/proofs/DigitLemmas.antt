@@ -1,10 +1,8 @@
 -- The digits of a number have no mark, and begin no word. (Own.)
-use Rattle.std.proofs.Common.{◌≡◌, ◌≢◌, ℕ, zero, suc, ◌+◌, ◌/◌, ◌%◌, ◌<◌, ◌≤◌, Bool, true, false, not}
-use Rattle.std.proofs.Common.{List, [], ◌∷◌, ◌++◌, refl, ap, arith, lt-ltb, ne_eqb}
-use Rattle.std.specs.Prelude.{◌==◌, if◌then◌else◌, codes, decimal}
-use Rattle.std.specs.Fmt.{digits, digits_onto, digit_glyph}
-use Rattle.std.specs.Str.{bytes_eq}
+use Rattle.std.proofs.Common.{◌≡◌, ℕ, zero, suc, ◌+◌, ◌/◌, ◌%◌, ◌<◌, ◌≤◌, Bool, true, false, not, ◌≢◌, List, [], ◌∷◌}
+use Rattle.std.proofs.Common.{◌++◌, if◌then◌else◌, ◌==◌, codes, decimal, bytes_eq, refl, ap, arith, lt-ltb, ne_eqb}
 use Rattle.std.proofs.lemmas.Bool.{and_from, and_left}
+use Rattle.std.specs.Fmt.{digit_glyph, digits, digits_onto}
 use Rattle.im_filters.specs.Tellings.{lacks}
 
 -- digits and nothing else

@@ -1,5 +1,5 @@
 -- Texts that are written one after another. (Own.)
-use Rattle.std.proofs.Common.{◌≡◌, ◌∙◌, List, ℕ, ◌++◌, ap, append_assoc}
+use Rattle.std.proofs.Common.{◌≡◌, ℕ, List, ◌++◌, ap, ◌∙◌, append_assoc}
 
 -- three texts, each behind the one before it
 pub all_three : (start a b c : List ℕ) {one two three : List ℕ} → one ≡ start ++ a → two ≡ one ++ b → three ≡ two ++ c

@@ -1,22 +1,16 @@
 -- What is told of each kind of line. (Own.)
-use Rattle.std.proofs.Common.{◌≡◌, ◌∙◌, ℕ, ◌<◌, Bool, true, false, List, [], ◌∷◌, ◌++◌, refl, ap, ap₂, arith}
-use Rattle.std.proofs.Common.{append_assoc}
-use Rattle.std.specs.Prelude.{if◌then◌else◌, codes, decimal}
-use Rattle.std.specs.Str.{bytes_eq}
-use Rattle.im_types.specs.declared.operations.Reply.{Reply}
-use Rattle.im_types.specs.declared.operations.Reply.TheVariants.{Base, NoSpace, BadLength, Value, Stored, Clash}
-use Rattle.im_types.specs.declared.operations.Reply.TheVariants.{NoCell, WrongKind, Released, NoBlock, StillWaiting}
-use Rattle.im_types.specs.declared.operations.Reply.TheVariants.{Cleared}
-use Rattle.im_types.specs.declared.operations.Entry.{Entry}
-use Rattle.im_types.specs.declared.operations.Entry.TheVariants.{Waiting, Answered}
+use Rattle.std.proofs.Common.{◌≡◌, ℕ, ◌<◌, Bool, true, false, List, [], ◌∷◌, ◌++◌, if◌then◌else◌, codes, decimal}
+use Rattle.std.proofs.Common.{bytes_eq, refl, ap, ◌∙◌, ap₂, append_assoc, arith}
+use Rattle.im_types.specs.Types.{Entry, Reply, Waiting, Answered, Base, NoSpace, BadLength, Value, Stored, Clash}
+use Rattle.im_types.specs.Types.{NoCell, WrongKind, Released, NoBlock, StillWaiting, Cleared}
 use Rattle.im_text.specs.Texts.{entry_text, line_feed, reply_text}
-use Rattle.im_filters.specs.declared.telling.Telling.TheVariants.{Quiet, Json}
+use Rattle.im_filters.proofs.CutLemmas.{front_at, lacks_both, rest_at}
+use Rattle.im_filters.proofs.DigitLemmas.{decimal_digits, digits_and_dot_differ, digits_differ, lacks_decimal}
+use Rattle.im_filters.specs.declared.telling.Telling.TheVariants.{Json, Quiet}
 use Rattle.im_filters.specs.Objects.{cut_front, cut_rest, entry_object, entry_operand, entry_word, glance_by}
 use Rattle.im_filters.specs.Objects.{glance_object, head_word, object_by, object_of, refusal_object, reply_by}
 use Rattle.im_filters.specs.Objects.{reply_object, reply_operand, reply_word, tail_words}
 use Rattle.im_filters.specs.Tellings.{lacks, sifted_line}
-use Rattle.im_filters.proofs.CutLemmas.{front_at, lacks_both, rest_at}
-use Rattle.im_filters.proofs.DigitLemmas.{decimal_digits, digits_and_dot_differ, digits_differ, lacks_decimal}
 
 -- ---- words
 

@@ -1,17 +1,15 @@
 -- What a sieve holds after it took bytes. (Own.)
-use Rattle.std.proofs.Common.{◌≡◌, ◌∙◌, ℕ, true, false, List, [], ◌∷◌, ◌++◌, length, inl, inr, sym, ap, subst}
-use Rattle.std.specs.Prelude.{Option}
-use Rattle.std.specs.Io.KnownBytes.{Appends, Keeps}
-use Rattle.std.proofs.KnownBytes.{Appends-trans, Appends-nil, Appends-kept}
+use Rattle.std.proofs.Common.{◌≡◌, ℕ, true, false, List, [], ◌∷◌, ◌++◌, length, Option, sym, ap, ◌∙◌, subst, inl, inr}
+use Rattle.std.proofs.KnownBytes.{Appends-kept, Appends-nil, Appends-trans}
 use Rattle.std.proofs.lemmas.Bool.{both_ways, cases_Bool}
-use Rattle.im_text.specs.Printing.{Begins, Prints, PrintsMore, PrintsOn}
+use Rattle.std.specs.Io.KnownBytes.{Appends, Keeps}
 use Rattle.im_text.proofs.PrintingLemmas.{prints_begins, prints_none, take-all}
-use Rattle.im_filters.specs.declared.slate.Slate.{Slate}
-use Rattle.im_filters.specs.declared.telling.Telling.{Telling}
-use Rattle.im_filters.specs.Sieves.{Sifts, SiftsMore, SiftsOn, goes_by_lines}
-use Rattle.im_filters.specs.Tellings.{lacks, sifted_lines, part_left, sifted, sifted_line}
-use Rattle.im_filters.proofs.CutLemmas.{told_line_more, left_line_more, told_part_more, left_part_more}
-use Rattle.im_filters.proofs.CutLemmas.{told_by_lines, told_plain}
+use Rattle.im_text.specs.Printing.{Begins, Prints, PrintsMore, PrintsOn}
+use Rattle.im_filters.proofs.CutLemmas.{left_line_more, left_part_more, told_by_lines, told_line_more, told_part_more}
+use Rattle.im_filters.proofs.CutLemmas.{told_plain}
+use Rattle.im_filters.specs.declared.{slate.Slate.Slate, telling.Telling.Telling}
+use Rattle.im_filters.specs.Sieves.{goes_by_lines, Sifts, SiftsMore, SiftsOn}
+use Rattle.im_filters.specs.Tellings.{lacks, part_left, sifted, sifted_line, sifted_lines}
 
 -- a line's rest and its line feed
 pub sifts_line : (was is : Option (List ℕ)) (before after : Slate) (rest : List ℕ)

@@ -1,15 +1,11 @@
 -- What is told of texts that stand one behind another. (Own.)
-use Rattle.std.proofs.Common.{◌≡◌, ◌∙◌, ℕ, zero, suc, true, List, [], ◌++◌, length, take, drop, refl, sym, ap, subst}
-use Rattle.std.proofs.Common.{append_assoc, append-nil, take-append-drop}
-use Rattle.std.specs.Prelude.{Option}
+use Rattle.std.proofs.Common.{◌≡◌, ℕ, zero, suc, true, List, [], ◌++◌, length, take, drop, Option, sym, refl, ap, ◌∙◌}
+use Rattle.std.proofs.Common.{subst, append_assoc, append-nil, take-append-drop}
 use Rattle.std.specs.Io.KnownBytes.{Appends}
-use Rattle.im_text.specs.Printing.{Begins}
-use Rattle.im_text.specs.Texts.{texts_below}
-use Rattle.im_text.proofs.PrintingLemmas.{take-prefix}
-use Rattle.im_filters.specs.declared.telling.Telling.{Telling}
-use Rattle.im_filters.specs.Sieves.{goes_by_lines}
-use Rattle.im_filters.specs.Tellings.{IsSifted, part_left, sifted, sifted_lines}
+use Rattle.im_text.{proofs.PrintingLemmas.take-prefix, specs.Printing.Begins, specs.Texts.texts_below}
 use Rattle.im_filters.proofs.CutLemmas.{sifted_lines-append, told_by_lines}
+use Rattle.im_filters.specs.{declared.telling.Telling.Telling, Sieves.goes_by_lines}
+use Rattle.im_filters.specs.Tellings.{IsSifted, part_left, sifted, sifted_lines}
 
 pub sifted_both : (t : Telling) (a b x y : List ℕ) → IsSifted t a x → IsSifted t b y → IsSifted t (a ++ b) (x ++ y)
 sifted_both t a b x y first second text =

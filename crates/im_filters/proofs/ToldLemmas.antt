@@ -1,10 +1,9 @@
 -- Work that was told through a sieve. (Own.)
-use Rattle.std.proofs.Common.{◌≡◌, ℕ, List, [], inl, inr, subst, IfSome}
-use Rattle.std.specs.Prelude.{if◌then◌else◌, is_ok, OnOk, Option, None, Some, Result, Ok, Err}
+use Rattle.std.proofs.Common.{◌≡◌, ℕ, List, [], IfSome, is_ok, if◌then◌else◌, OnOk, Some, None, Ok, Err, Option, Result}
+use Rattle.std.proofs.Common.{subst, inl, inr}
 use Rattle.std.specs.Io.KnownBytes.{Appends}
 use Rattle.im_text.specs.Printing.{Begins}
-use Rattle.im_filters.specs.declared.telling.Telling.{Telling}
-use Rattle.im_filters.specs.Tellings.{ToldIn, sifted}
+use Rattle.im_filters.specs.{declared.telling.Telling.Telling, Tellings.sifted, Tellings.ToldIn}
 
 pub told_in : {T E : Type 0} (work : Option (List ℕ) → Option (List ℕ) → ℕ → Type 0) (telling : Telling)
     (was is : Option (List ℕ)) (old text : List ℕ) (came_to status : ℕ) (r : Result T E) → old ≡ []

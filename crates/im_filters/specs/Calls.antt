@@ -1,8 +1,6 @@
 -- The objects of JSON for the lines of a trace. (Own.)
-use Rattle.std.specs.Prelude.{ℕ, Bool, if◌then◌else◌, List, [], ◌++◌, codes, decimal}
-use Rattle.std.specs.Str.{bytes_eq}
-use Rattle.im_types.specs.declared.operations.Op.{Op}
-use Rattle.im_types.specs.declared.operations.Op.TheVariants.{Alloc, Release, Reset, Fetch, Store, Take, Put}
+use Rattle.std.specs.Prelude.{ℕ, Bool, List, [], ◌++◌, if◌then◌else◌, codes, bytes_eq, decimal}
+use Rattle.im_types.specs.Types.{Op, Alloc, Release, Reset, Fetch, Store, Take, Put}
 use Rattle.im_text.specs.Texts.{kind_text, line_feed}
 use Rattle.im_filters.specs.Objects.{asked_members, cut_front, cut_rest, head_word, operand_member, tail_words}
 

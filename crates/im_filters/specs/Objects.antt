@@ -1,23 +1,7 @@
 -- The objects of JSON for the lines of replies. (Own.)
-use Rattle.std.specs.Prelude.{ℕ, ◌==◌, if◌then◌else◌, List, [], ◌∷◌, ◌++◌, length, codes, decimal}
-use Rattle.std.specs.Str.{bytes_eq}
-use Rattle.im_types.specs.declared.operations.Reply.{Reply}
-use Rattle.im_types.specs.declared.operations.Reply.TheVariants.{
-  Base,
-  NoSpace,
-  BadLength,
-  Value,
-  Stored,
-  Clash,
-  NoCell,
-  WrongKind,
-  Released,
-  NoBlock,
-  StillWaiting,
-  Cleared,
-}
-use Rattle.im_types.specs.declared.operations.Entry.{Entry}
-use Rattle.im_types.specs.declared.operations.Entry.TheVariants.{Waiting, Answered}
+use Rattle.std.specs.Prelude.{ℕ, List, [], ◌∷◌, ◌++◌, length, if◌then◌else◌, ◌==◌, codes, bytes_eq, decimal}
+use Rattle.im_types.specs.Types.{Entry, Reply, Waiting, Answered, Base, NoSpace, BadLength, Value, Stored, Clash}
+use Rattle.im_types.specs.Types.{NoCell, WrongKind, Released, NoBlock, StillWaiting, Cleared}
 
 -- ---- words
 

@@ -2,10 +2,9 @@
 use Rattle.std.specs.Prelude.{◌≡◌, ℕ, Bool, true, false, List, [], ◌++◌, Option}
 use Rattle.std.specs.Io.KnownBytes.{Appends}
 use Rattle.im_text.specs.Printing.{Prints}
-use Rattle.im_filters.specs.declared.slate.Slate.{Slate}
-use Rattle.im_filters.specs.declared.telling.Telling.{Telling}
-use Rattle.im_filters.specs.declared.telling.Telling.TheVariants.{Plain, Quiet, Json, Calls}
-use Rattle.im_filters.specs.Tellings.{sifted_lines, part_left, sifted}
+use Rattle.im_filters.specs.declared.{slate.Slate.Slate, telling.Telling.Telling}
+use Rattle.im_filters.specs.declared.telling.Telling.TheVariants.{Calls, Json, Plain, Quiet}
+use Rattle.im_filters.specs.Tellings.{part_left, sifted, sifted_lines}
 
 -- lines are told once they are whole
 abbrev pub goes_by_lines : Telling → Bool

@@ -1,13 +1,11 @@
 -- What is told of a text of lines, and what a writer then holds. (Own.)
-use Rattle.std.specs.Prelude.{◌≡◌, ◌⊎◌, ℕ, ◌==◌, ◌&&◌, not, if◌then◌else◌, Bool, true, List, [], ◌∷◌, ◌++◌}
-use Rattle.std.specs.Prelude.{codes, decimal, Option, Some}
+use Rattle.std.specs.Prelude.{◌≡◌, ℕ, Bool, true, not, ◌&&◌, ◌⊎◌, List, [], ◌∷◌, ◌++◌, if◌then◌else◌, ◌==◌, Some, codes}
+use Rattle.std.specs.Prelude.{bytes_eq, decimal, Option}
 use Rattle.std.specs.Io.KnownBytes.{Appends}
-use Rattle.std.specs.Str.{bytes_eq}
-use Rattle.im_text.specs.Printing.{Begins}
-use Rattle.im_text.specs.Texts.{line_feed}
-use Rattle.im_filters.specs.declared.telling.Telling.{Telling}
-use Rattle.im_filters.specs.declared.telling.Telling.TheVariants.{Plain, Quiet, Json, Calls}
+use Rattle.im_text.specs.{Printing.Begins, Texts.line_feed}
 use Rattle.im_filters.specs.Calls.{answered_members, call_object, line_of_call, mark_members, mark_words}
+use Rattle.im_filters.specs.declared.telling.Telling.{Telling}
+use Rattle.im_filters.specs.declared.telling.Telling.TheVariants.{Calls, Json, Plain, Quiet}
 use Rattle.im_filters.specs.Objects.{head_word, object_of, tail_words}
 
 -- ---- a line

@@ -1,6 +1,5 @@
 //! The bytes that a writer took, as a list. Only clauses read it; it takes no memory.
-ghost use Rattle.std.specs.Prelude.{◌≡◌, ◌++◌, ℕ, List, []};
-ghost use Rattle.std.specs.Borrow.{ftrue};
+ghost use Rattle.std.specs.{Prelude.◌≡◌, Prelude.ℕ, Prelude.List, Prelude.[], Prelude.◌++◌, Borrow.ftrue};
 
 use std::marker::{Model, PhantomData};
 

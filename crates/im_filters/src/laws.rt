@@ -1,12 +1,8 @@
 //! What is told of each kind of line.
-ghost use Rattle.std.specs.Prelude.{◌≡◌, ◌++◌, ℕ, List, Some, [], true, codes, decimal};
-ghost use Rattle.im_types.specs.declared.operations.Entry.{Entry};
-ghost use Rattle.im_types.specs.declared.operations.Op.{Op};
-ghost use Rattle.im_types.specs.declared.refusals.Refusal.{Refusal};
-ghost use Rattle.im_types.specs.Refusals.{number_of};
-ghost use Rattle.im_text.specs.declared.replies.Waited.{Waited};
+ghost use Rattle.std.specs.Prelude.{◌≡◌, ℕ, true, List, [], ◌++◌, Some, codes, decimal};
+ghost use Rattle.im_types.specs.Types.{Entry, Op, Refusal, number_of};
+ghost use Rattle.im_text.specs.{declared.Waited.Waited, Texts.op_text};
 ghost use Rattle.im_text.specs.Printing.{now_line, refused_line, told_line};
-ghost use Rattle.im_text.specs.Texts.{op_text};
 ghost use Rattle.im_filters.specs.Calls.{asking_members, noting_members};
 ghost use Rattle.im_filters.specs.Objects.{entry_object, glance_object, refusal_object, reply_object};
 ghost use Rattle.im_filters.specs.Tellings.{IsCallTold, IsSifted, lacks, line_of_done, line_of_glance};

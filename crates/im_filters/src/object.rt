@@ -1,7 +1,7 @@
 //! Makes the objects of JSON for the lines of replies.
 ghost use Rattle.std.specs.Prelude.{◌≡◌, ◌++◌, OnOk, string_bytes};
-ghost use Rattle.im_filters.specs.Objects.{asked_members, code_members, glance_by, glance_start, object_by, object_of};
-ghost use Rattle.im_filters.specs.Objects.{number_members, operand_member, refusal_object, reply_by, reply_start};
+ghost use Rattle.im_filters.specs.Objects.{asked_members, code_members, glance_by, glance_start, number_members};
+ghost use Rattle.im_filters.specs.Objects.{object_by, object_of, operand_member, refusal_object, reply_by, reply_start};
 ghost use Rattle.im_filters.specs.Objects.{said_members, seen_member};
 
 use crate::cutting::{cut, cut_word};

@@ -1,6 +1,5 @@
 //! Tells a line, and passes bytes on.
-ghost use Rattle.std.specs.Prelude.{◌≡◌, ◌+◌, ◌<◌, ◌≤◌, ◌++◌, ◌∷◌, [], true};
-ghost use Rattle.std.specs.Prelude.{IfOk, OnOk, length, string_bytes, take};
+ghost use Rattle.std.specs.Prelude.{◌≡◌, ◌+◌, ◌<◌, ◌≤◌, true, [], ◌∷◌, ◌++◌, length, take, IfOk, OnOk, string_bytes};
 ghost use Rattle.std.specs.Io.KnownBytes.{Keeps, WriteAppends};
 ghost use Rattle.im_text.specs.Printing.{Pushes};
 ghost use Rattle.im_filters.specs.Tellings.{lacks, sifted_line, tells_refusal};

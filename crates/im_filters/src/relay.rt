@@ -1,6 +1,5 @@
 //! A writer in front of another one, which passes bytes on.
-ghost use Rattle.std.specs.Prelude.{◌≡◌, [], OnOk};
-ghost use Rattle.std.specs.Io.KnownBytes.{Appends};
+ghost use Rattle.std.specs.{Prelude.◌≡◌, Prelude.[], Prelude.OnOk, Io.KnownBytes.Appends};
 ghost use Rattle.im_text.specs.Printing.{Begins};
 
 use crate::intake::Intake;
@@ -20,8 +19,7 @@ pub struct Relay<W: Write + Drop, K: Sieving> {
 }
 
 impl<W: Write + Drop, K: Sieving> Model for Relay<W, K> {
-    ghost use Rattle.std.specs.Prelude.{ℕ, List};
-    ghost use Rattle.std.specs.Io.KnownBytes.{Appends};
+    ghost use Rattle.std.specs.{Prelude.ℕ, Prelude.List, Io.KnownBytes.Appends};
 
     ghost Value = { List ℕ };
 

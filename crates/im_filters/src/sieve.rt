@@ -1,6 +1,5 @@
 //! A writer in front of another one, which tells lines.
-ghost use Rattle.std.specs.Prelude.{◌≡◌, [], MatchResult, OnOk};
-ghost use Rattle.std.specs.Io.KnownBytes.{Appends};
+ghost use Rattle.std.specs.{Prelude.◌≡◌, Prelude.[], Prelude.OnOk, Prelude.MatchResult, Io.KnownBytes.Appends};
 ghost use Rattle.im_text.specs.Printing.{Begins};
 ghost use Rattle.im_filters.specs.Tellings.{sifted};
 

@@ -1,6 +1,6 @@
 //! What is held back of lines on their way through a sieve.
-ghost use Rattle.std.specs.Prelude.{◌≡◌, ◌≤◌, ◌++◌, ◌∷◌, [], true, false, ℕ, List, Option};
-ghost use Rattle.std.specs.Prelude.{IfOk, OnOk, MatchResult, length, take};
+ghost use Rattle.std.specs.Prelude.{◌≡◌, ℕ, ◌≤◌, true, false, List, [], ◌∷◌, ◌++◌, length, take, IfOk, OnOk};
+ghost use Rattle.std.specs.Prelude.{MatchResult, Option};
 ghost use Rattle.im_text.specs.Printing.{Pushes};
 ghost use Rattle.im_filters.specs.Tellings.{lacks, sifted_line};
 
@@ -25,7 +25,7 @@ pub(crate) struct Slate {
 }
 
 impl Slate {
-    ghost use Rattle.im_filters.specs.Sieves.{SiftsAll, SiftsMore, SiftsOn, goes_by_lines};
+    ghost use Rattle.im_filters.specs.Sieves.{goes_by_lines, SiftsAll, SiftsMore, SiftsOn};
 
     // An empty slate.
     pub(crate) fn new(alloc: Global, telling: Telling) -> Result<Slate, AllocError>

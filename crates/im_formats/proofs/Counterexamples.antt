@@ -1,28 +1,14 @@
 -- No law of bytes says more than it does: each one with a premise less, or with another value, fails at a value that is
 -- written out here. The definitions compute its bytes, and what these read as.
-use Rattle.std.proofs.Common.{◌≡◌, inr, ℕ, ◌+◌, ◌<◌, ◌≤◌, ◌^◌, Bool, true, false, List, [], ◌∷◌, ◌++◌, Option, None}
-use Rattle.std.proofs.Common.{Some, refl, sym, ap, arith}
-use Rattle.std.specs.Prelude.{slice_range, slice_index}
+use Rattle.std.proofs.Common.{◌≡◌, ℕ, ◌+◌, ◌^◌, ◌<◌, ◌≤◌, Bool, true, false, List, [], ◌∷◌, ◌++◌, slice_index}
+use Rattle.std.proofs.Common.{slice_range, Some, None, Option, sym, refl, ap, inr, arith}
+use Rattle.im_types.specs.Types.{Block, Kept, Waiting, I, Fetch, Window, address_of, Layout, layout_2, zeros, Header}
+use Rattle.im_types.specs.Types.{header_body, header_in, spells_header, PresenceTag, CellRecord, NodeRecord, TagWaiting}
+use Rattle.im_types.specs.Types.{TagFull, FreeCell, BlockCell, ListNode, FreeNode, cell_bytes, node_bytes, FitsCell}
+use Rattle.im_types.specs.Types.{FitsNode, place_bytes, session_bytes, FitsWindow}
 use Rattle.im_types.proofs.Tests.{differ, true_false}
-use Rattle.im_types.specs.declared.operations.Op.TheVariants.{Fetch}
-use Rattle.im_types.specs.declared.operations.Kind.TheVariants.{I}
-use Rattle.im_types.specs.declared.operations.Entry.TheVariants.{Waiting}
-use Rattle.im_types.specs.declared.operations.Block.{Block}
-use Rattle.im_types.specs.declared.operations.Kept.{Kept}
-use Rattle.im_types.specs.Contents.{Window}
-use Rattle.im_types.specs.Agreement.{address_of}
-use Rattle.im_types.specs.Bytes.{zeros}
-use Rattle.im_types.specs.Layout.{Layout, layout_2}
-use Rattle.im_types.specs.Header.{Header, header_body, header_in, spells_header}
-use Rattle.im_types.specs.declared.records.PresenceTag.{PresenceTag}
-use Rattle.im_types.specs.declared.records.PresenceTag.TheVariants.{Full as TagFull, Waiting as TagWaiting}
-use Rattle.im_types.specs.declared.records.CellRecord.{CellRecord}
-use Rattle.im_types.specs.declared.records.CellRecord.TheVariants.{Free as FreeCell, Held as BlockCell}
-use Rattle.im_types.specs.declared.records.NodeRecord.{NodeRecord}
-use Rattle.im_types.specs.declared.records.NodeRecord.TheVariants.{Free as FreeNode, Listed as ListNode}
-use Rattle.im_types.specs.Records.{cell_bytes, node_bytes, place_bytes, session_bytes, FitsWindow, FitsCell, FitsNode}
 use Rattle.im_formats.specs.Fitting.{FitsHeader}
-use Rattle.im_formats.specs.Reading.{place_in, read_place, cell_in, read_cell, node_in, read_node}
+use Rattle.im_formats.specs.Reading.{cell_in, node_in, place_in, read_cell, read_node, read_place}
 
 -- a header of a small image, of this generation and with so many elements
 abbrev header : ℕ → ℕ → Header

@@ -1,18 +1,11 @@
 -- The codes of operations and entries read back.
-use Rattle.std.proofs.Common.{◌≡◌, ℕ, ◌<◌, ◌^◌, ◌==◌, Bool, true, false, None, Some, nat_lt, refl, ap, arith}
-use Rattle.std.proofs.Common.{if◌then◌else◌}
+use Rattle.std.proofs.Common.{◌≡◌, ℕ, ◌^◌, ◌<◌, Bool, true, false, if◌then◌else◌, nat_lt, ◌==◌, Some, None, refl, ap}
+use Rattle.std.proofs.Common.{arith}
 use Rattle.std.proofs.lemmas.Bool.Decides.{nat_tests}
-use Rattle.im_types.specs.declared.operations.Op.{Op}
-use Rattle.im_types.specs.declared.operations.Op.TheVariants.{Alloc, Release, Reset, Fetch, Store, Take, Put}
-use Rattle.im_types.specs.declared.operations.Kind.TheVariants.{I, M}
-use Rattle.im_types.specs.declared.operations.Reply.TheVariants.{Base, NoSpace, BadLength, Value, Stored, Clash}
-use Rattle.im_types.specs.declared.operations.Reply.TheVariants.{NoCell, WrongKind, Released, NoBlock, StillWaiting}
-use Rattle.im_types.specs.declared.operations.Reply.TheVariants.{Cleared}
-use Rattle.im_types.specs.declared.operations.Entry.{Entry}
-use Rattle.im_types.specs.declared.operations.Entry.TheVariants.{Waiting, Answered}
-use Rattle.im_types.specs.Agreement.{address_of}
-use Rattle.im_types.specs.Bytes.{op_code, op_value, entry_code, entry_number, FitsEntry}
-use Rattle.im_types.specs.Slot.{op_of}
+use Rattle.im_types.specs.Types.{Entry, Op, Waiting, Answered, I, M, Alloc, Release, Reset, Fetch, Store, Take, Put}
+use Rattle.im_types.specs.Types.{Base, NoSpace, BadLength, Value, Stored, Clash, NoCell, WrongKind, Released, NoBlock}
+use Rattle.im_types.specs.Types.{StillWaiting, Cleared, address_of, op_code, op_value, entry_code, entry_number}
+use Rattle.im_types.specs.Types.{FitsEntry, op_of}
 use Rattle.im_formats.specs.Reading.{entry_of}
 
 pub op_of-spelled : (op : Op) → op_of (op_code op) (address_of op) (op_value op) ≡ Some op

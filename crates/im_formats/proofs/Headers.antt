@@ -1,12 +1,9 @@
 -- A header reads back what it spells.
-use Rattle.std.proofs.Common.{◌≡◌, ℕ, ◌<◌, ◌^◌, ◌++◌, ◌&&◌, Bool, true, List, [], ◌∷◌, refl, ap, ◌∙◌, slice_range}
-use Rattle.byteorder.specs.Endian.{little_number, little_bytes}
-use Rattle.byteorder.specs.Numbers.{little_number-reads_back}
-use Rattle.im_types.specs.Bytes.{same_bytes}
-use Rattle.im_types.specs.Layout.{Layout}
-use Rattle.im_types.specs.Header.{Header, header_body, header_in, is_header, spells_header}
+use Rattle.std.proofs.Common.{◌≡◌, ℕ, ◌^◌, ◌<◌, Bool, true, ◌&&◌, List, [], ◌∷◌, ◌++◌, slice_range, refl, ap, ◌∙◌}
+use Rattle.byteorder.specs.{Endian.little_bytes, Endian.little_number, Numbers.little_number-reads_back}
+use Rattle.im_types.specs.Types.{Layout, same_bytes, Header, header_body, header_in, is_header, spells_header}
+use Rattle.im_formats.proofs.Same.{both_true, same_bytes_self, same_bytes_true}
 use Rattle.im_formats.specs.Fitting.{FitsHeader}
-use Rattle.im_formats.proofs.Same.{same_bytes_self, same_bytes_true, both_true}
 
 abbrev made : ℕ → ℕ → ℕ → ℕ → ℕ → ℕ → ℕ → Header
 made area version generation count cells elements slots = record { version = version; area = area; generation = generation; count = count; sizes = record { cells = cells; elements = elements; slots = slots } }

@@ -1,18 +1,12 @@
 -- A place of a session record reads back what it spells.
-use Rattle.std.proofs.Common.{◌≡◌, ℕ, ◌++◌, Bool, List, [], Option, None, Some, refl, ap, ◌∙◌, if◌then◌else◌}
-use Rattle.std.proofs.Common.{option_and_then}
-use Rattle.byteorder.specs.Endian.{little_number, little_bytes}
-use Rattle.byteorder.specs.Numbers.{little_number-reads_back}
-use Rattle.im_types.specs.declared.operations.Op.{Op}
-use Rattle.im_types.specs.declared.operations.Entry.{Entry}
-use Rattle.im_types.specs.declared.operations.Kept.{Kept}
-use Rattle.im_types.specs.Agreement.{address_of}
-use Rattle.im_types.specs.Bytes.{op_code, op_value, entry_code, entry_number, FitsEntry}
-use Rattle.im_types.specs.Slot.{op_of}
-use Rattle.im_types.specs.Records.{place_bytes, FitsPlace}
-use Rattle.im_formats.specs.Reading.{entry_of, kept_of, place_of, place_in, place_if, read_place}
+use Rattle.std.proofs.Common.{◌≡◌, ℕ, Bool, List, [], ◌++◌, if◌then◌else◌, Some, None, Option, option_and_then, refl}
+use Rattle.std.proofs.Common.{ap, ◌∙◌}
+use Rattle.byteorder.specs.{Endian.little_bytes, Endian.little_number, Numbers.little_number-reads_back}
+use Rattle.im_types.specs.Types.{Entry, Op, Kept, address_of, op_code, op_value, entry_code, entry_number, FitsEntry}
+use Rattle.im_types.specs.Types.{op_of, place_bytes, FitsPlace}
+use Rattle.im_formats.proofs.Fields.{entry_of-spelled, number_fits, op_of-spelled, some_code}
 use Rattle.im_formats.proofs.Same.{if_same, only_spelled}
-use Rattle.im_formats.proofs.Fields.{op_of-spelled, some_code, entry_of-spelled, number_fits}
+use Rattle.im_formats.specs.Reading.{entry_of, kept_of, place_if, place_in, place_of, read_place}
 
 place_of-spelled : (k : Kept) → FitsEntry k.entry
     → place_of (op_code k.op) (entry_code k.entry) (address_of k.op) (op_value k.op) (entry_number k.entry)

@@ -1,23 +1,13 @@
 -- A cell record and a node record read back what they spell.
-use Rattle.std.proofs.Common.{◌≡◌, ℕ, ◌+◌, ◌<◌, ◌≤◌, ◌^◌, ◌++◌, inl, inr, Bool, List, [], Option, None, Some, refl}
-use Rattle.std.proofs.Common.{ap, ◌∙◌, arith, if◌then◌else◌, option_and_then}
-use Rattle.byteorder.specs.Endian.{little_number, little_bytes}
-use Rattle.byteorder.specs.Numbers.{little_number-reads_back}
-use Rattle.im_types.specs.declared.operations.Kind.{Kind}
-use Rattle.im_types.specs.declared.operations.Kind.TheVariants.{I, M}
-use Rattle.im_types.specs.declared.operations.Block.{Block}
-use Rattle.im_types.specs.Bytes.{kind_code, same_bytes}
-use Rattle.im_types.specs.declared.records.PresenceTag.{PresenceTag}
-use Rattle.im_types.specs.declared.records.PresenceTag.TheVariants.{Empty as TagEmpty, Waiting as TagWaiting}
-use Rattle.im_types.specs.declared.records.PresenceTag.TheVariants.{Full as TagFull, Clashed as TagClashed}
-use Rattle.im_types.specs.declared.records.CellRecord.{CellRecord}
-use Rattle.im_types.specs.declared.records.CellRecord.TheVariants.{Free as FreeCell, Held as BlockCell}
-use Rattle.im_types.specs.declared.records.NodeRecord.{NodeRecord}
-use Rattle.im_types.specs.declared.records.NodeRecord.TheVariants.{Free as FreeNode, Listed as ListNode}
-use Rattle.im_types.specs.Records.{tag_code, tag_first, tag_last, tag_value, cell_bytes, node_bytes, IsLink, FitsTag}
-use Rattle.im_types.specs.Records.{FitsCell, FitsNode}
-use Rattle.im_formats.specs.Reading.{tag_of, block_cell, cell_of, cell_in, cell_if, read_cell, node_in, read_node}
+use Rattle.std.proofs.Common.{◌≡◌, ℕ, ◌+◌, ◌^◌, ◌<◌, ◌≤◌, Bool, List, [], ◌++◌, if◌then◌else◌, Some, None, Option}
+use Rattle.std.proofs.Common.{option_and_then, refl, ap, ◌∙◌, inl, inr, arith}
+use Rattle.byteorder.specs.{Endian.little_bytes, Endian.little_number, Numbers.little_number-reads_back}
+use Rattle.im_types.specs.Types.{Kind, Block, I, M, same_bytes, kind_code, PresenceTag, CellRecord, NodeRecord}
+use Rattle.im_types.specs.Types.{TagEmpty, TagWaiting, TagFull, TagClashed, FreeCell, BlockCell, ListNode, FreeNode}
+use Rattle.im_types.specs.Types.{tag_code, tag_first, tag_last, tag_value, cell_bytes, node_bytes, IsLink, FitsTag}
+use Rattle.im_types.specs.Types.{FitsCell, FitsNode}
 use Rattle.im_formats.proofs.Same.{if_same, only_spelled, spelled_if}
+use Rattle.im_formats.specs.Reading.{block_cell, cell_if, cell_in, cell_of, node_in, read_cell, read_node, tag_of}
 
 link_fits : (n link : ℕ) → n ≤ 2 ^ 32 → IsLink n link → link < 2 ^ 32
 link_fits n link few (inl none) = omega (arith, none)

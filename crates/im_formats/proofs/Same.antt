@@ -1,9 +1,8 @@
 -- What it means that bytes are the same as a spelling.
-use Rattle.std.specs.Cmp.Lexicographic.{pointwise}
-use Rattle.std.proofs.Common.{nat_eq, ◌&&◌, ◌≡◌, ℕ, Bool, true, false, List, [], ◌∷◌, Option, None, Some, refl, ap}
-use Rattle.std.proofs.Common.{◌∙◌, arith, if◌then◌else◌, option_and_then}
-use Rattle.std.proofs.lemmas.Bool.Decides.{nat_tests}
-use Rattle.im_types.specs.Bytes.{same_bytes}
+use Rattle.std.proofs.Common.{◌≡◌, ℕ, Bool, true, false, ◌&&◌, List, [], ◌∷◌, if◌then◌else◌, nat_eq, Some, None, Option}
+use Rattle.std.proofs.Common.{option_and_then, refl, ap, ◌∙◌, arith}
+use Rattle.std.{proofs.lemmas.Bool.Decides.nat_tests, specs.Cmp.Lexicographic.pointwise}
+use Rattle.im_types.specs.Types.{same_bytes}
 
 eqb_self : (n : ℕ) → nat_eq n n ≡ true
 eqb_self n = grind (arith, nat_tests)

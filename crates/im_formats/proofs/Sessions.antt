@@ -1,20 +1,12 @@
 -- A session record is spelled by one window alone.
-use Rattle.std.proofs.Common.{◌≡◌, ℕ, ◌+◌, ◌-◌, ◌*◌, ◌%◌, ◌<◌, ◌≤◌, zero, suc, take, drop, List, [], ◌∷◌, ◌++◌}
-use Rattle.std.proofs.Common.{Option, None, Some, length, replicate, slice_get, slice_index, refl, sym, ap, ◌∙◌}
-use Rattle.std.proofs.Common.{arith}
-use Rattle.std.proofs.lemmas.List.{append_assoc, take_at, drop_at, drop-drop, length-replicate}
-use Rattle.byteorder.specs.Endian.{little_number}
-use Rattle.byteorder.specs.Numbers.{little_number-reads_back}
-use Rattle.im_types.specs.declared.TheConstants.{LAST}
-use Rattle.im_types.specs.declared.operations.Kept.{Kept}
-use Rattle.im_types.specs.Contents.{Window}
-use Rattle.im_types.specs.Bytes.{zeros}
-use Rattle.im_types.specs.declared.layout.Version.{Version}
-use Rattle.im_types.specs.declared.layout.Version.TheVariants.{One, Two}
-use Rattle.im_types.specs.Layout.{Layout, layout_of}
-use Rattle.im_types.specs.Records.{place_bytes, entry_at, places_from, session_bytes, FitsPlace, FitsWindow}
-use Rattle.im_formats.specs.Reading.{place_in}
-use Rattle.im_formats.proofs.Places.{place_in-spelled}
+use Rattle.std.proofs.Common.{◌≡◌, ℕ, zero, suc, ◌+◌, ◌-◌, ◌*◌, ◌%◌, ◌<◌, ◌≤◌, List, [], ◌∷◌, ◌++◌, length, take, drop}
+use Rattle.std.proofs.Common.{replicate, slice_get, slice_index, Some, None, Option, sym, refl, ap, ◌∙◌, append_assoc}
+use Rattle.std.proofs.Common.{arith, drop-drop, take_at, drop_at}
+use Rattle.byteorder.specs.{Endian.little_number, Numbers.little_number-reads_back}
+use Rattle.std.proofs.lemmas.List.{length-replicate}
+use Rattle.im_types.specs.Types.{Kept, LAST, Window, Version, One, Two, Layout, layout_of, zeros, place_bytes}
+use Rattle.im_types.specs.Types.{FitsPlace, entry_at, places_from, session_bytes, FitsWindow}
+use Rattle.im_formats.{proofs.Places.place_in-spelled, specs.Reading.place_in}
 
 length-place : (place : Option Kept) → length (place_bytes place) ≡ 32
 length-place None = refl

@@ -1,14 +1,8 @@
 -- Worked bytes, computed by the definitions alone.
-use Rattle.std.proofs.Common.{◌≡◌, ℕ, ◌-◌, List, [], ◌∷◌, ◌++◌, true, false, Some, None, refl}
-use Rattle.im_types.specs.declared.operations.Op.TheVariants.{Alloc, Reset, Store}
-use Rattle.im_types.specs.declared.operations.Kind.TheVariants.{I}
-use Rattle.im_types.specs.declared.commands.Command.{Command}
-use Rattle.im_types.specs.declared.commands.Command.TheVariants.{Request as Asks, Confirm}
-use Rattle.im_types.specs.Bytes.{zeros}
-use Rattle.im_types.specs.Slot.{slot_body, read_slot, read_in, command_in, sequence_of}
-use Rattle.im_types.specs.Layout.{Sizes, layout_1, layout_2, area_pages, journal_at, image_length}
-use Rattle.im_types.specs.Header.{header_body}
-use Rattle.im_types.specs.Journal.{Ring, tail, slot, continues, run, is_boundary}
+use Rattle.std.proofs.Common.{◌≡◌, ℕ, ◌-◌, true, false, List, [], ◌∷◌, ◌++◌, Some, None, refl}
+use Rattle.im_types.specs.Types.{I, Alloc, Reset, Store, Command, Asks, Confirm, layout_1, layout_2, Sizes, area_pages}
+use Rattle.im_types.specs.Types.{journal_at, image_length, zeros, header_body, slot_body, read_slot, sequence_of}
+use Rattle.im_types.specs.Types.{command_in, read_in, Ring, run, is_boundary, slot, continues, tail}
 
 abbrev sizes : ℕ → ℕ → ℕ → Sizes
 sizes cells elements slots = record { cells = cells; elements = elements; slots = slots }

@@ -1,6 +1,6 @@
 -- A header's numbers fit their fields. (Own.)
-use Rattle.std.specs.Prelude.{◌<◌, ◌^◌}
-use Rattle.im_types.specs.Header.{Header}
+use Rattle.std.specs.Prelude.{◌^◌, ◌<◌}
+use Rattle.im_types.specs.Types.{Header}
 
 -- the numbers of a header fit their fields
 pub record FitsHeader (h : Header) : Type 0 where

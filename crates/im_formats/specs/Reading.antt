@@ -1,25 +1,11 @@
 -- How the records of an area are read: the fields give the only record that it can be, and the bytes must be that
 -- record's spelling. (Own.)
-use Rattle.std.specs.Prelude.{ℕ, List, Option, None, Some, ◌==◌, nat_lt, if◌then◌else◌, slice_index, option_and_then}
-use Rattle.im_types.specs.declared.operations.Op.{Op}
-use Rattle.im_types.specs.declared.operations.Kind.{Kind}
-use Rattle.im_types.specs.declared.operations.Kind.TheVariants.{I, M}
-use Rattle.im_types.specs.declared.operations.Reply.TheVariants.{Base, NoSpace, BadLength, Value, Stored, Clash}
-use Rattle.im_types.specs.declared.operations.Reply.TheVariants.{NoCell, WrongKind, Released, NoBlock, StillWaiting}
-use Rattle.im_types.specs.declared.operations.Reply.TheVariants.{Cleared}
-use Rattle.im_types.specs.declared.operations.Entry.{Entry}
-use Rattle.im_types.specs.declared.operations.Entry.TheVariants.{Waiting, Answered}
-use Rattle.im_types.specs.declared.operations.Kept.{Kept}
-use Rattle.im_types.specs.Bytes.{number_at, same_bytes}
-use Rattle.im_types.specs.Slot.{op_of}
-use Rattle.im_types.specs.declared.records.PresenceTag.{PresenceTag}
-use Rattle.im_types.specs.declared.records.PresenceTag.TheVariants.{Empty as TagEmpty, Waiting as TagWaiting}
-use Rattle.im_types.specs.declared.records.PresenceTag.TheVariants.{Full as TagFull, Clashed as TagClashed}
-use Rattle.im_types.specs.declared.records.CellRecord.{CellRecord}
-use Rattle.im_types.specs.declared.records.CellRecord.TheVariants.{Free as FreeCell, Held as BlockCell}
-use Rattle.im_types.specs.declared.records.NodeRecord.{NodeRecord}
-use Rattle.im_types.specs.declared.records.NodeRecord.TheVariants.{Free as FreeNode, Listed as ListNode}
-use Rattle.im_types.specs.Records.{cell_bytes, node_bytes, place_bytes}
+use Rattle.std.specs.Prelude.{ℕ, List, if◌then◌else◌, nat_lt, ◌==◌, slice_index, Some, None, Option, option_and_then}
+use Rattle.im_types.specs.Types.{Entry, Kind, Op, Kept, Waiting, Answered, I, M, Base, NoSpace, BadLength, Value}
+use Rattle.im_types.specs.Types.{Stored, Clash, NoCell, WrongKind, Released, NoBlock, StillWaiting, Cleared, same_bytes}
+use Rattle.im_types.specs.Types.{number_at, op_of, PresenceTag, CellRecord, NodeRecord, TagEmpty, TagWaiting, TagFull}
+use Rattle.im_types.specs.Types.{TagClashed, FreeCell, BlockCell, ListNode, FreeNode, cell_bytes, node_bytes}
+use Rattle.im_types.specs.Types.{place_bytes}
 
 -- the entry that a code and a number stand for
 abbrev pub entry_of : ℕ → ℕ → Option Entry

@@ -4,18 +4,11 @@
 //! Each law is the contract of a function that does nothing. The spellings are definitions of `im_types`.
 #![tactic(auto)]
 
-ghost use Rattle.std.specs.Prelude.{◌≡◌, ◌≤◌, ◌<◌, ◌^◌, ◌∷◌, ℕ, List, Option, Some, true, slice_range};
-ghost use Rattle.im_types.specs.declared.operations.Kept.{Kept};
-ghost use Rattle.im_types.specs.Contents.{Window};
-ghost use Rattle.im_types.specs.declared.layout.Version.{Version};
-ghost use Rattle.im_types.specs.Layout.{Layout, layout_of};
-ghost use Rattle.im_types.specs.Header.{Header, header_body, header_in, is_header, spells_header};
-ghost use Rattle.im_types.specs.declared.records.CellRecord.{CellRecord};
-ghost use Rattle.im_types.specs.declared.records.NodeRecord.{NodeRecord};
-ghost use Rattle.im_types.specs.Records.{cell_bytes, node_bytes, place_bytes, session_bytes, FitsCell, FitsNode};
-ghost use Rattle.im_types.specs.Records.{FitsPlace, FitsWindow};
-ghost use Rattle.im_formats.specs.Fitting.{FitsHeader};
-ghost use Rattle.im_formats.specs.Reading.{read_cell, read_node, read_place};
+ghost use Rattle.std.specs.Prelude.{◌≡◌, ℕ, ◌^◌, ◌<◌, ◌≤◌, true, List, ◌∷◌, slice_range, Some, Option};
+ghost use Rattle.im_types.specs.Types.{Kept, Window, Version, Layout, layout_of, Header, header_body, header_in};
+ghost use Rattle.im_types.specs.Types.{is_header, spells_header, CellRecord, NodeRecord, cell_bytes, node_bytes};
+ghost use Rattle.im_types.specs.Types.{FitsCell, FitsNode, place_bytes, FitsPlace, session_bytes, FitsWindow};
+ghost use Rattle.im_formats.specs.{Fitting.FitsHeader, Reading.read_cell, Reading.read_node, Reading.read_place};
 
 /// The fields of a header read back, whatever its gate is.
 pub fn headers_read_back()

@@ -1,20 +1,11 @@
 -- A change is of the memory's own cells.
-use Rattle.std.proofs.Common.{◌≡◌, ◌≤◌, ◌<◌, ◌+◌, ℕ, suc, List, [], ◌∷◌, ◌++◌, Some, None, Bool, true, false, cond}
-use Rattle.std.proofs.Common.{refl, ap, arith, length, take, drop}
-use Rattle.std.specs.Prelude.{Option, option_map, nat_lt, ◌==◌}
-use Rattle.std.specs.List.{AllByRecursion, list_any}
-use Rattle.std.proofs.lemmas.Bool.Decides.{nat_tests}
-use Rattle.im_types.specs.declared.operations.Op.{Op}
-use Rattle.im_types.specs.declared.operations.Op.TheVariants.{Alloc, Release, Reset, Fetch, Store, Take, Put}
-use Rattle.im_types.specs.declared.operations.Kind.TheVariants.{I}
-use Rattle.im_types.specs.declared.operations.Block.{Block}
-use Rattle.im_types.specs.declared.commands.Command.{Command}
-use Rattle.im_types.specs.declared.commands.Command.TheVariants.{Request as Asks, Confirm}
-use Rattle.im_types.specs.declared.changes.Change.TheVariants.{Same, Gone}
-use Rattle.im_types.specs.Contents.{CellState, Empty, Full, Clashed, Held, Contents, HasBlocks, held_at, full_in}
-use Rattle.im_types.specs.Act.{same_kind, block_with_base, is_waiting_cell}
-use Rattle.im_types.specs.Changes.{is_below, store_change, store_change_in, emptying_change, change_of, change_by}
-use Rattle.im_types.specs.Changes.{fill_at, fills_from, opening}
+use Rattle.std.proofs.Common.{◌≡◌, ℕ, suc, ◌+◌, ◌<◌, ◌≤◌, Bool, true, false, cond, List, [], ◌∷◌, ◌++◌, length, take}
+use Rattle.std.proofs.Common.{drop, nat_lt, ◌==◌, Some, None, Option, option_map, refl, ap, arith}
+use Rattle.std.{proofs.lemmas.Bool.Decides.nat_tests, specs.List.AllByRecursion, specs.List.list_any}
+use Rattle.im_types.specs.Types.{Op, Block, I, Alloc, Release, Reset, Fetch, Store, Take, Put, Command, Asks, Confirm}
+use Rattle.im_types.specs.Types.{CellState, Empty, Full, Clashed, Held, Contents, held_at, full_in, HasBlocks}
+use Rattle.im_types.specs.Types.{same_kind, block_with_base, is_waiting_cell, is_below, store_change, store_change_in}
+use Rattle.im_types.specs.Types.{emptying_change, change_of, change_by, fill_at, fills_from, opening, Same, Gone}
 use Rattle.im_laws.proofs.AgreementLemmas.{held_at-within}
 
 below : (n a : ℕ) → a < n → nat_lt a n ≡ true

@@ -1,46 +1,22 @@
 -- Each operation changes the full cells as its change says.
-use Rattle.std.proofs.Common.{◌≡◌, ◌≢◌, ◌⊎◌, inl, inr, ⊎_elim, ℕ, zero, suc, ◌+◌, ◌<◌, ◌≤◌, List, [], ◌∷◌, ◌++◌, set}
-use Rattle.std.proofs.Common.{take, drop, Some, None, Bool, true, false, cond, refl, sym, ap, ◌∙◌, arith, length}
-use Rattle.std.proofs.Common.{get_or}
-use Rattle.std.specs.Prelude.{Option, nat_lt, ◌==◌}
-use Rattle.std.specs.List.{list_any}
-use Rattle.std.proofs.lemmas.Bool.{cases_eq}
-use Rattle.std.proofs.lemmas.Bool.Decides.{nat_tests}
-use Rattle.im_types.proofs.Tests.{false_true}
-use Rattle.im_types.specs.declared.operations.Op.{Op}
-use Rattle.im_types.specs.declared.operations.Op.TheVariants.{Alloc, Release, Reset, Fetch, Store, Take, Put}
-use Rattle.im_types.specs.declared.operations.Kind.{Kind}
-use Rattle.im_types.specs.declared.operations.Kind.TheVariants.{I, M}
-use Rattle.im_types.specs.declared.operations.Block.{Block}
-use Rattle.im_types.specs.declared.operations.Waiter.{Waiter}
-use Rattle.im_types.specs.declared.operations.Reply.TheVariants.{BadLength, WrongKind, StillWaiting, Released, Cleared}
-use Rattle.im_types.specs.declared.operations.Reply.{Reply}
-use Rattle.im_types.specs.declared.operations.Entry.TheVariants.{Answered}
-use Rattle.im_types.specs.declared.commands.Command.{Command}
-use Rattle.im_types.specs.declared.commands.Command.TheVariants.{Request as Asks, Confirm}
-use Rattle.im_types.specs.declared.commands.Call.{Call}
-use Rattle.im_types.specs.declared.commands.Call.TheVariants.{Command as Commands, Collect}
-use Rattle.im_types.specs.declared.commands.Line.{Line}
-use Rattle.im_types.specs.Contents.{CellState, Empty, Full, Clashed, Held, Contents, held_at, full_value, full_in}
-use Rattle.im_types.specs.Contents.{full_at}
-use Rattle.im_types.specs.Place.{place, fill, change_each}
-use Rattle.im_types.specs.Act.{Served, only_tells, fetch, store, take_from, put, same_kind, serve_cell, at_cell}
-use Rattle.im_types.specs.Act.{new_cell, allocate, allocate_at, unless_waited_for, emptied, block_with_base}
-use Rattle.im_types.specs.Act.{is_waiting_cell, act}
-use Rattle.im_types.specs.Step.{Stepped, asker, step, step_request, is_accepted}
-use Rattle.im_types.specs.Run.{accepted}
-use Rattle.im_types.specs.Trace.{contents_after, end_of}
-use Rattle.im_laws.specs.Traces.{commands_of_call, commands_of}
-use Rattle.im_laws.proofs.OpLemmas.{same_kind-equal}
-use Rattle.im_laws.proofs.PlaceLemmas.{get_or-fill, get_or-change_each, place-free}
-use Rattle.im_laws.proofs.AgreementLemmas.{held_at-set, held_at-within}
-use Rattle.im_laws.proofs.AcceptLemmas.{accepted-fresh, unaccepted-leaves}
-use Rattle.im_laws.proofs.JudgeLemmas.{confirm-cells}
-use Rattle.im_types.specs.declared.changes.Change.{Change}
-use Rattle.im_types.specs.declared.changes.Change.TheVariants.{Same, Gone}
-use Rattle.im_types.specs.Changes.{is_among, changed, store_change, store_change_in, emptying_change, change_of}
-use Rattle.im_types.specs.Changes.{change_by, changes_at, changes_in, changes_of, value_after, fill_at, fills_from}
-use Rattle.im_types.specs.Changes.{opening, shown_by}
+use Rattle.std.proofs.Common.{◌≡◌, ℕ, zero, suc, ◌+◌, ◌<◌, ◌≤◌, Bool, true, false, cond, ◌≢◌, ◌⊎◌, List, [], ◌∷◌, ◌++◌}
+use Rattle.std.proofs.Common.{length, get_or, take, drop, set, nat_lt, ◌==◌, Some, None, Option, sym, refl, ap, ◌∙◌}
+use Rattle.std.proofs.Common.{inl, inr, ⊎_elim, arith}
+use Rattle.std.{proofs.lemmas.Bool.cases_eq, proofs.lemmas.Bool.Decides.nat_tests, specs.List.list_any}
+use Rattle.im_types.specs.Types.{Kind, Op, Reply, Waiter, Block, Answered, I, M, Alloc, Release, Reset, Fetch, Store}
+use Rattle.im_types.specs.Types.{Take, Put, BadLength, WrongKind, Released, StillWaiting, Cleared, Command, Call, Line}
+use Rattle.im_types.specs.Types.{Asks, Confirm, Commands, Collect, CellState, Empty, Full, Clashed, Held, Contents}
+use Rattle.im_types.specs.Types.{held_at, full_value, full_in, full_at, place, fill, change_each, ServedCell as Served}
+use Rattle.im_types.specs.Types.{fetch, store, take_from, put, only_tells, same_kind, serve_cell, at_cell, new_cell}
+use Rattle.im_types.specs.Types.{allocate_at, allocate, block_with_base, is_waiting_cell, unless_waited_for, emptied}
+use Rattle.im_types.specs.Types.{act, Stepped, asker, step_request, step, is_accepted, accepted, contents_after, end_of}
+use Rattle.im_types.specs.Types.{is_among, changed, value_after, store_change, store_change_in, emptying_change}
+use Rattle.im_types.specs.Types.{change_of, change_by, changes_at, changes_in, changes_of, fill_at, fills_from, opening}
+use Rattle.im_types.specs.Types.{shown_by, Change, Same, Gone}
+use Rattle.{im_types.proofs.Tests.false_true, im_laws.specs.Traces.commands_of, im_laws.specs.Traces.commands_of_call}
+use Rattle.im_laws.proofs.{AcceptLemmas.accepted-fresh, AcceptLemmas.unaccepted-leaves, AgreementLemmas.held_at-set}
+use Rattle.im_laws.proofs.{AgreementLemmas.held_at-within, JudgeLemmas.confirm-cells, OpLemmas.same_kind-equal}
+use Rattle.im_laws.proofs.PlaceLemmas.{get_or-change_each, get_or-fill, place-free}
 
 -- the value at an address of these cells
 abbrev pub value_at : List (Option Held) → ℕ → Option ℕ

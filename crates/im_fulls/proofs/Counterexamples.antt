@@ -1,21 +1,12 @@
 -- The law of groups says no more than it does: with a case more of what may stand before a request, it fails at a
 -- memory and at requests that are written out here. And a group meets its premise.
-use Rattle.std.proofs.Common.{◌≡◌, ◌≢◌, ℕ, List, [], ◌∷◌, refl, ap}
+use Rattle.std.proofs.Common.{◌≡◌, ℕ, ◌≢◌, List, [], ◌∷◌, refl, ap}
 use Rattle.std.specs.List.{AllByRecursion}
+use Rattle.im_types.specs.Types.{Op, I, Alloc, Release, Fetch, Store, Base, Request, Asks, Contents, empty_contents}
+use Rattle.im_types.specs.Types.{end_of, changes_at, Change, Fills, Same, Gone}
 use Rattle.im_types.proofs.Tests.{differ}
-use Rattle.im_types.specs.declared.operations.Op.{Op}
-use Rattle.im_types.specs.declared.operations.Op.TheVariants.{Alloc, Release, Fetch, Store}
-use Rattle.im_types.specs.declared.operations.Kind.TheVariants.{I}
-use Rattle.im_types.specs.declared.operations.Reply.TheVariants.{Base}
-use Rattle.im_types.specs.declared.commands.Request.{Request}
-use Rattle.im_types.specs.declared.commands.Command.TheVariants.{Request as Asks}
-use Rattle.im_types.specs.declared.changes.Change.{Change}
-use Rattle.im_types.specs.declared.changes.Change.TheVariants.{Same, Full as Fills, Gone}
-use Rattle.im_types.specs.Contents.{Contents, empty_contents}
-use Rattle.im_types.specs.Trace.{end_of}
-use Rattle.im_types.specs.Changes.{changes_at}
-use Rattle.im_laws.specs.Examples.{sixteen_cells, asks, told_reply, told_waits}
-use Rattle.im_fulls.specs.Groups.{AreBefore, after_requests}
+use Rattle.im_laws.specs.Examples.{asks, sixteen_cells, told_reply, told_waits}
+use Rattle.im_fulls.specs.Groups.{after_requests, AreBefore}
 
 abbrev request : ℕ → ℕ → Op → Request
 request element number op = record { element = element; number = number; op = op }

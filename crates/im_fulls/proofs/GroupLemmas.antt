@@ -1,28 +1,16 @@
 -- What stands before a request in a group leaves its change.
-use Rattle.std.proofs.Common.{◌≡◌, ◌≢◌, ⊎_elim, ℕ, List, [], ◌∷◌, Some, None, Bool, true, false, cond, refl, sym, ap}
-use Rattle.std.proofs.Common.{◌∙◌, subst}
-use Rattle.std.specs.Prelude.{Option}
+use Rattle.std.proofs.Common.{◌≡◌, ℕ, Bool, true, false, cond, ◌≢◌, List, [], ◌∷◌, Some, None, Option, sym, refl, ap}
+use Rattle.std.proofs.Common.{◌∙◌, subst, ⊎_elim}
 use Rattle.std.proofs.lemmas.Bool.{cases_eq}
-use Rattle.im_types.specs.declared.operations.Op.{Op}
-use Rattle.im_types.specs.declared.operations.Op.TheVariants.{Alloc, Release, Reset, Fetch, Store, Take, Put}
-use Rattle.im_types.specs.declared.operations.Kind.{Kind}
-use Rattle.im_types.specs.declared.operations.Kind.TheVariants.{I, M}
-use Rattle.im_types.specs.declared.operations.Reply.TheVariants.{WrongKind}
-use Rattle.im_types.specs.declared.operations.Waiter.{Waiter}
-use Rattle.im_types.specs.declared.commands.Request.{Request}
-use Rattle.im_types.specs.declared.commands.Command.TheVariants.{Request as Asks}
-use Rattle.im_types.specs.Contents.{CellState, Empty, Full, Clashed, Held, Contents, held_at}
-use Rattle.im_types.specs.Act.{Served, only_tells, fetch, store, take_from, put, same_kind, serve_cell, at_cell, act}
-use Rattle.im_types.specs.Window.{bounds}
-use Rattle.im_types.specs.Step.{Stepped, asker, step, step_request, is_accepted}
-use Rattle.im_laws.proofs.Tests.{true_or_false}
-use Rattle.im_laws.proofs.OpLemmas.{same_kind-equal}
-use Rattle.im_laws.proofs.AgreementLemmas.{held_at-set, held_at-within}
+use Rattle.im_types.specs.Types.{Kind, Op, Waiter, I, M, Alloc, Release, Reset, Fetch, Store, Take, Put, WrongKind}
+use Rattle.im_types.specs.Types.{Request, Asks, CellState, Empty, Full, Clashed, Held, Contents, held_at}
+use Rattle.im_types.specs.Types.{ServedCell as Served, fetch, store, take_from, put, only_tells, same_kind, serve_cell}
+use Rattle.im_types.specs.Types.{at_cell, act, bounds, Stepped, asker, step_request, step, is_accepted, store_change}
+use Rattle.im_types.specs.Types.{store_change_in, change_of, changes_at, Same}
 use Rattle.im_laws.proofs.AcceptLemmas.{accepted-fresh, accepted-takes_next, unaccepted-leaves}
-use Rattle.im_laws.proofs.JudgeLemmas.{accepted-next, next-accepted}
-use Rattle.im_types.specs.declared.changes.Change.TheVariants.{Same}
-use Rattle.im_types.specs.Changes.{store_change, store_change_in, change_of, changes_at}
-use Rattle.im_fulls.specs.Groups.{LeavesStores, MayPrecede, AreBefore, after_requests}
+use Rattle.im_laws.proofs.{AgreementLemmas.held_at-set, AgreementLemmas.held_at-within, JudgeLemmas.accepted-next}
+use Rattle.im_laws.proofs.{JudgeLemmas.next-accepted, OpLemmas.same_kind-equal, Tests.true_or_false}
+use Rattle.im_fulls.specs.Groups.{after_requests, AreBefore, LeavesStores, MayPrecede}
 
 -- what a store to an address would change, after an operation on a cell
 module _ (cells : List (Option Held)) (a v : ℕ) where

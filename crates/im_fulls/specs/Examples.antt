@@ -1,11 +1,7 @@
 -- A worked trace, and its changes. (Own.)
 use Rattle.std.specs.Prelude.{List, [], ◌∷◌}
-use Rattle.im_types.specs.declared.operations.Op.TheVariants.{Alloc, Release, Reset, Store}
-use Rattle.im_types.specs.declared.operations.Kind.TheVariants.{I}
-use Rattle.im_types.specs.declared.operations.Reply.TheVariants.{Base, Stored, Clash, Released, Cleared}
-use Rattle.im_types.specs.declared.commands.Line.{Line}
-use Rattle.im_types.specs.declared.changes.Change.{Change}
-use Rattle.im_types.specs.declared.changes.Change.TheVariants.{Same, Full as Fills, Gone}
+use Rattle.im_types.specs.Types.{I, Alloc, Release, Reset, Store, Base, Stored, Clash, Released, Cleared, Line, Change}
+use Rattle.im_types.specs.Types.{Fills, Same, Gone}
 use Rattle.im_laws.specs.Examples.{asks, collects, told_reply}
 
 -- two cells are stored to, one of them twice; their block is reset, stored to again, and released

@@ -1,13 +1,7 @@
 -- Requests that are served together, and their order: which of them may stand before another, so that it has the same
 -- change as at the memory before all of them. (Own.)
-use Rattle.std.specs.Prelude.{◌≢◌, ℕ, List, map}
-use Rattle.std.specs.List.{AllByRecursion}
-use Rattle.im_types.specs.declared.operations.Op.{Op}
-use Rattle.im_types.specs.declared.operations.Op.TheVariants.{Alloc, Release, Reset, Fetch, Store, Take, Put}
-use Rattle.im_types.specs.declared.commands.Request.{Request}
-use Rattle.im_types.specs.declared.commands.Command.TheVariants.{Request as Asks}
-use Rattle.im_types.specs.Contents.{Contents}
-use Rattle.im_types.specs.Run.{after}
+use Rattle.std.specs.{Prelude.ℕ, Prelude.◌≢◌, Prelude.List, Prelude.map, List.AllByRecursion}
+use Rattle.im_types.specs.Types.{Op, Alloc, Release, Reset, Fetch, Store, Take, Put, Request, Asks, Contents, after}
 
 -- an operation that may stand before a store to an address: no other store there, and no allocation, release or reset
 abbrev pub LeavesStores : ℕ → Op → Type 0

@@ -2,22 +2,14 @@
 //! contract is a law. A law holds for every memory, every command and every trace.
 #![tactic(auto)]
 
-ghost use Rattle.std.specs.Prelude.{◌≡◌, ℕ, ◌++◌, ◌∷◌, [], List, None, length, true};
+ghost use Rattle.std.specs.Prelude.{◌≡◌, ℕ, true, List, [], ◌∷◌, ◌++◌, length, None};
 ghost use Rattle.std.specs.List.{AllByRecursion};
-ghost use Rattle.im_types.specs.declared.commands.Request.{Request};
-ghost use Rattle.im_types.specs.declared.commands.Command.{Command};
-ghost use Rattle.im_types.specs.declared.commands.Command.TheVariants.{Request as Asks};
-ghost use Rattle.im_types.specs.declared.commands.Line.{Line};
-ghost use Rattle.im_types.specs.Contents.{Contents, HasBlocks, full_at};
-ghost use Rattle.im_types.specs.Step.{step};
-ghost use Rattle.im_types.specs.Run.{accepted};
-ghost use Rattle.im_types.specs.Trace.{IsLegal, end_of};
-ghost use Rattle.im_types.specs.Changes.{value_after, is_below, change_by, changes_at, changes_in, changes_of};
-ghost use Rattle.im_types.specs.Changes.{opening, shown_by};
-ghost use Rattle.im_laws.specs.Traces.{commands_of};
-ghost use Rattle.im_laws.specs.Examples.{sixteen_cells};
-ghost use Rattle.im_fulls.specs.Examples.{stored_and_released, seven_changes};
-ghost use Rattle.im_fulls.specs.Groups.{AreBefore, after_requests};
+ghost use Rattle.im_types.specs.Types.{Request, Command, Line, Asks, Contents, full_at, HasBlocks, step, accepted};
+ghost use Rattle.im_types.specs.Types.{IsLegal, end_of, value_after, is_below, change_by, changes_at, changes_in};
+ghost use Rattle.im_types.specs.Types.{changes_of, opening, shown_by};
+ghost use Rattle.im_laws.specs.{Examples.sixteen_cells, Traces.commands_of};
+ghost use Rattle.im_fulls.specs.Examples.{seven_changes, stored_and_released};
+ghost use Rattle.im_fulls.specs.Groups.{after_requests, AreBefore};
 
 /// The full cells after a command, or after a trace, are the full cells before it with its changes, applied in order.
 pub fn changes_give_the_full_cells()

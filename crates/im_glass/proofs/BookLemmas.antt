@@ -1,14 +1,12 @@
 -- The exchange that adds a change keeps the rule of the book.
-use Rattle.std.proofs.Common.{◌≡◌, ℕ, ◌+◌, ◌<◌, ◌==◌, Bool, true, false, List, [], ◌∷◌, ◌++◌, length, refl, ap, sym}
-use Rattle.std.proofs.Common.{subst, arith, inl, length-append, None}
-use Rattle.std.proofs.lemmas.List.{append-nil}
+use Rattle.std.proofs.Common.{◌≡◌, ℕ, ◌+◌, ◌<◌, Bool, true, false, List, [], ◌∷◌, ◌++◌, length, ◌==◌, None, sym, refl}
+use Rattle.std.proofs.Common.{ap, subst, inl, append-nil, arith, length-append}
+use Rattle.logbook.specs.Pages.{Cell, cell, Goes, keeps, Moves, no_nib, step}
 use Rattle.std.proofs.lemmas.Bool.Decides.{nat_tests}
+use Rattle.im_types.specs.Types.{Change}
+use Rattle.im_glass.{proofs.PrefixLemmas.prefix_whole, specs.Books.AddsChange, specs.Books.CountsChanges}
 use mathlib.Core.List.{IsPrefix}
 use prog.Atomic.{either}
-use Rattle.logbook.specs.Pages.{Cell, cell, keeps, no_nib, step, Moves, Goes}
-use Rattle.im_types.specs.declared.changes.Change.{Change}
-use Rattle.im_glass.specs.Books.{CountsChanges, AddsChange}
-use Rattle.im_glass.proofs.PrefixLemmas.{prefix_whole}
 
 abbrev pub shown : List Change → List Change
 shown log = []

@@ -1,9 +1,7 @@
 -- Cells with their values, and what a change makes of them.
-use Rattle.std.proofs.Common.{◌≡◌, ◌<◌, ◌≤◌, ◌+◌, ℕ, zero, suc, List, [], ◌∷◌, length, set, get_or, replicate, Bool}
-use Rattle.std.proofs.Common.{true, false, Option, Some, None, refl, ap, ◌∙◌, arith, length-set}
-use Rattle.im_types.specs.declared.changes.Change.{Change}
-use Rattle.im_types.specs.declared.changes.Change.TheVariants.{Same, Full, Gone}
-use Rattle.im_types.specs.Place.{fill}
+use Rattle.std.proofs.Common.{◌≡◌, ℕ, zero, suc, ◌+◌, ◌<◌, ◌≤◌, Bool, true, false, List, [], ◌∷◌, length, get_or, set}
+use Rattle.std.proofs.Common.{replicate, Some, None, Option, refl, ap, ◌∙◌, arith, length-set}
+use Rattle.im_types.specs.Types.{fill, Change, Fills as Full, Same, Gone}
 use Rattle.im_glass.specs.Cells.{cell_seen, cells_seen, cells_written}
 
 pub cells_length : (fulls : List Bool) (values : List ℕ) → length fulls ≡ length values

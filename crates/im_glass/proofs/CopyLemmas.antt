@@ -1,21 +1,14 @@
 -- What is put ahead, one change after another, and what a copy is after it.
-use Rattle.std.proofs.Common.{◌≡◌, ◌≢◌, ◌<◌, ℕ, zero, suc, replicate, Bool, true, false, List, [], ◌∷◌, ◌++◌, length}
-use Rattle.std.proofs.Common.{fold, set, get_or, sym, refl, ap, ◌∙◌, cond, subst, Option, Some, None, arith}
-use Rattle.std.proofs.Common.{append_assoc, get_or-set_same, get_or-set_other, take, ◌+◌, ◌<◌}
-use Rattle.std.specs.Prelude.{◌==◌}
-use Rattle.std.proofs.lemmas.Bool.Decides.{nat_tests}
-use Rattle.std.proofs.lemmas.List.{append-nil, take_more}
-use Rattle.std.specs.List.{AllByRecursion}
+use Rattle.std.proofs.Common.{◌≡◌, ℕ, zero, suc, ◌+◌, ◌<◌, Bool, true, false, cond, ◌≢◌, List, [], ◌∷◌, ◌++◌, length}
+use Rattle.std.proofs.Common.{get_or, take, set, replicate, ◌==◌, Some, None, fold, Option, sym, refl, ap, ◌∙◌, subst}
+use Rattle.std.proofs.Common.{append_assoc, append-nil, arith, get_or-set_other, get_or-set_same}
 use Rattle.logbook.specs.Pages.{Book}
-use Rattle.im_types.specs.declared.changes.Change.{Change}
-use Rattle.im_types.specs.declared.changes.Change.TheVariants.{Same, Full, Gone}
-use Rattle.im_types.specs.Changes.{is_among, is_below, changed, value_after}
+use Rattle.std.{proofs.lemmas.Bool.Decides.nat_tests, proofs.lemmas.List.take_more, specs.List.AllByRecursion}
+use Rattle.im_types.specs.Types.{is_among, changed, value_after, is_below, Change, Fills as Full, Same, Gone}
 use Rattle.im_fulls.proofs.ChangeLemmas.{get_or-emptied}
-use Rattle.im_glass.specs.declared.copies.Ahead.{Ahead}
-use Rattle.im_glass.specs.Cells.{cells_written}
-use Rattle.im_glass.specs.Copies.{History, CopyState, IsKeptCopy, FollowEach, ChangeNothing, AddsOne, applied_to}
-use Rattle.im_glass.specs.Copies.{after_all, changes_ahead}
-use Rattle.im_glass.proofs.CellLemmas.{length-written}
+use Rattle.im_glass.{proofs.CellLemmas.length-written, specs.Cells.cells_written, specs.declared.copies.Ahead.Ahead}
+use Rattle.im_glass.specs.Copies.{AddsOne, after_all, applied_to, ChangeNothing, changes_ahead, CopyState, FollowEach}
+use Rattle.im_glass.specs.Copies.{History, IsKeptCopy}
 
 value_after-more : (a : ℕ) (changes : List Change) (change : Change) → value_after a None (changes ++ change ∷ [])
     ≡ changed a (value_after a None changes) change

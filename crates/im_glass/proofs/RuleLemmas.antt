@@ -1,14 +1,12 @@
 -- Each move keeps the rule of the two copies.
-use Rattle.std.proofs.Common.{◌≡◌, ◌≢◌, ℕ, List, set, sym, refl, ap, ◌∙◌, subst, ⊎_elim, Some}
+use Rattle.std.proofs.Common.{◌≡◌, ℕ, ◌≢◌, List, set, Some, sym, refl, ap, ◌∙◌, subst, ⊎_elim}
+use Rattle.atomic_table.proofs.Lists.{at_set, at_snoc}
+use Rattle.crossbeam_utils.specs.Register.{Admits, Forks, Merges, Turns, TurnsAt}
+use Rattle.logbook.specs.Pages.{Book}
+use Rattle.im_glass.specs.{Copies.History, Copies.IsKeptCopy, declared.copies.Copy.Copy, declared.rule.Known.Known}
+use Rattle.im_glass.specs.Rule.{copy_state, IsKnownOf, IsShownCopy, newcomer, SeesShown}
 use mathlib.Core.Option.{some}
 use lib.ListN.{get_elem?}
-use Rattle.crossbeam_utils.specs.Register.{Admits, TurnsAt, Turns, Forks, Merges}
-use Rattle.atomic_table.proofs.Lists.{at_set, at_snoc}
-use Rattle.logbook.specs.Pages.{Book}
-use Rattle.im_glass.specs.declared.copies.Copy.{Copy}
-use Rattle.im_glass.specs.declared.rule.Known.{Known}
-use Rattle.im_glass.specs.Copies.{History, IsKeptCopy}
-use Rattle.im_glass.specs.Rule.{copy_state, IsKnownOf, IsShownCopy, SeesShown, newcomer}
 
 none-known : (book : Book) → IsKnownOf newcomer book
 none-known book s e = absurd (cc)

@@ -1,8 +1,8 @@
 -- The rule of the book: its one word is the number of changes. (Own.)
-use Rattle.std.specs.Prelude.{◌≡◌, ◌==◌, ◌<◌, ℕ, true, List, [], ◌∷◌, ◌++◌, length, MatchBool}
+use Rattle.std.specs.Prelude.{◌≡◌, ℕ, ◌<◌, true, List, [], ◌∷◌, ◌++◌, length, ◌==◌, MatchBool}
+use Rattle.logbook.specs.Pages.{Book, Cell, Named, Step, View}
+use Rattle.im_types.specs.Types.{Change}
 use mathlib.Core.List.{IsPrefix}
-use Rattle.logbook.specs.Pages.{Cell, Step, View, Book, Named}
-use Rattle.im_types.specs.declared.changes.Change.{Change}
 
 -- the first word is the length of the list; a book has two words, and this book leaves the second at 0
 pub record CountsChanges (cells : List Cell) (log : List Change) : Type 0 where

@@ -1,8 +1,6 @@
 -- Cells that are full or not, and how a change changes them. (Own.)
-use Rattle.std.specs.Prelude.{ℕ, List, [], ◌∷◌, Bool, true, false, Option, Some, None, slice_set}
-use Rattle.im_types.specs.declared.changes.Change.{Change}
-use Rattle.im_types.specs.declared.changes.Change.TheVariants.{Same, Full as Fills, Gone}
-use Rattle.im_types.specs.Place.{fill}
+use Rattle.std.specs.Prelude.{ℕ, Bool, true, false, List, [], ◌∷◌, slice_set, Some, None, Option}
+use Rattle.im_types.specs.Types.{fill, Change, Fills, Same, Gone}
 
 -- a cell: its value if it is full
 abbrev pub cell_seen : Bool → ℕ → Option ℕ

@@ -1,13 +1,9 @@
 -- What the two copies hold, and what is put ahead of them. (Own.)
-use Rattle.std.specs.Prelude.{◌≡◌, ℕ, if◌then◌else◌, true, List, [], ◌∷◌, ◌++◌, length, fold, Option, None}
-use Rattle.std.specs.Prelude.{slice_index_or}
-use Rattle.logbook.specs.Pages.{Book}
-use Rattle.logbook.specs.declared.tokens.Seen.{Seen}
-use Rattle.im_types.specs.declared.changes.Change.{Change}
-use Rattle.im_types.specs.Changes.{value_after, is_below}
-use Rattle.im_glass.specs.declared.book.InOrder.{InOrder}
-use Rattle.im_glass.specs.declared.copies.Ahead.{Ahead}
-use Rattle.im_glass.specs.Cells.{cells_written}
+use Rattle.std.specs.Prelude.{◌≡◌, ℕ, true, List, [], ◌∷◌, ◌++◌, length, if◌then◌else◌, slice_index_or, None, fold}
+use Rattle.std.specs.Prelude.{Option}
+use Rattle.logbook.specs.{declared.tokens.Seen.Seen, Pages.Book}
+use Rattle.im_types.specs.Types.{value_after, is_below, Change}
+use Rattle.im_glass.specs.{Cells.cells_written, declared.book.InOrder.InOrder, declared.copies.Ahead.Ahead}
 
 -- a prefix of the list of changes
 abbrev pub History : Type 0

@@ -1,7 +1,7 @@
 -- What contracts see of a pane. (Own.)
-use Rattle.std.specs.Prelude.{◌≡◌, ℕ, ◌^◌, List, [], Bool, true, nat_lt, nat_le, if◌then◌else◌}
+use Rattle.std.specs.Prelude.{◌≡◌, ℕ, ◌^◌, Bool, true, List, [], if◌then◌else◌, nat_lt, nat_le}
 use Rattle.logbook.specs.Pages.{Book}
-use Rattle.im_types.specs.declared.changes.Change.{Change}
+use Rattle.im_types.specs.Types.{Change}
 
 -- the changes that are shown, those that are put ahead, how many cells there are, and how many readers weren't given
 -- out

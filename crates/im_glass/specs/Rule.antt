@@ -1,11 +1,10 @@
 -- The rule of the two copies. (Own.)
 use Rattle.std.specs.Prelude.{◌≡◌, ℕ, List, Some, None}
+use Rattle.logbook.specs.Pages.{Book}
+use Rattle.im_glass.specs.Copies.{CopyState, History, IsKeptCopy}
+use Rattle.im_glass.specs.declared.{copies.Copy.Copy, rule.Known.Known}
 use mathlib.Core.Option.{some}
 use lib.ListN.{get_elem?}
-use Rattle.logbook.specs.Pages.{Book}
-use Rattle.im_glass.specs.declared.copies.Copy.{Copy}
-use Rattle.im_glass.specs.declared.rule.Known.{Known}
-use Rattle.im_glass.specs.Copies.{History, CopyState, IsKeptCopy}
 
 -- a copy, as its state
 abbrev pub copy_state : Copy → CopyState

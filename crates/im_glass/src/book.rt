@@ -1,8 +1,8 @@
 //! The list of changes: one book of the toolchain's `logbook`. Each holder has a prefix of it. The list is for
 //! contracts alone; its length is a word that all share.
-ghost use Rattle.std.specs.Prelude.{◌≡◌, ◌<◌, ◌^◌, ◌++◌, ◌∷◌, ◌⊎◌, [], length, MatchBool};
+ghost use Rattle.std.specs.Prelude.{◌≡◌, ◌^◌, ◌<◌, ◌⊎◌, [], ◌∷◌, ◌++◌, length, MatchBool};
+ghost use Rattle.im_glass.specs.Books.{head_of, IsLonger};
 ghost use mathlib.Core.List.{IsPrefix};
-ghost use Rattle.im_glass.specs.Books.{IsLonger, head_of};
 
 use im_types::Change;
 use logbook::{Gain, Offer, Plain, Play, Rule, Seen, Start, Word};
@@ -14,8 +14,8 @@ pub struct InOrder;
 
 impl Rule<Change, u64> for InOrder {
     ghost use Rattle.std.specs.Prelude.{[]};
-    ghost use base.Fml.{ftrue};
     ghost use Rattle.im_glass.specs.Books.{CountsChanges};
+    ghost use base.Fml.{ftrue};
 
     ghost holds = { λ cells log. CountsChanges cells log };
 
@@ -187,7 +187,7 @@ pub struct Beginning<J: PaneName> {
 
 impl<J: PaneName> Model for Beginning<J> {
     ghost use Rattle.std.specs.Prelude.{◌≡◌, List, length};
-    ghost use Rattle.im_types.specs.declared.changes.Change.{Change};
+    ghost use Rattle.im_types.specs.Types.{Change};
 
     ghost Value = { List Change };
 

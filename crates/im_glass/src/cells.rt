@@ -1,8 +1,7 @@
 //! Cells that are full or not, with the values of those that are full. A cell takes 9 bytes.
-ghost use Rattle.std.specs.Prelude.{◌≡◌, ◌<◌, ◌≤◌, ◌+◌, ℕ, None, Some, length, replicate, slice_index_or};
-ghost use Rattle.std.specs.Prelude.{slice_set, true, IfOk};
-ghost use Rattle.im_types.specs.Place.{fill};
-ghost use Rattle.im_types.specs.Changes.{is_below};
+ghost use Rattle.std.specs.Prelude.{◌≡◌, ℕ, ◌+◌, ◌<◌, ◌≤◌, true, length, replicate, IfOk, slice_index_or, slice_set};
+ghost use Rattle.std.specs.Prelude.{Some, None};
+ghost use Rattle.im_types.specs.Types.{fill, is_below};
 ghost use Rattle.im_glass.specs.Cells.{cells_written};
 
 use im_types::Change;
@@ -17,7 +16,7 @@ pub struct FullCells {
 }
 
 impl Model for FullCells {
-    ghost use Rattle.std.specs.Prelude.{◌≡◌, List, Option, ℕ, length};
+    ghost use Rattle.std.specs.Prelude.{◌≡◌, ℕ, List, length, Option};
     ghost use Rattle.im_glass.specs.Cells.{cells_seen};
 
     ghost Value = { List (Option ℕ) };

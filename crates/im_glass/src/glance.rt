@@ -1,11 +1,10 @@
 //! Readers of the full cells.
-ghost use Rattle.std.specs.Prelude.{◌≡◌, None, Some, IfOk, IfErr, OnErr, IfSome};
-ghost use mathlib.Core.List.{IsPrefix};
+ghost use Rattle.std.specs.Prelude.{◌≡◌, IfSome, IfOk, IfErr, OnErr, Some, None};
 ghost use Rattle.left_right.specs.Sides.{view};
-ghost use Rattle.im_types.specs.Changes.{value_after};
+ghost use Rattle.im_types.specs.Types.{value_after};
+ghost use Rattle.im_glass.specs.{Copies.IsKeptCopy, Rule.copy_state, Rule.HasSeen};
+ghost use mathlib.Core.List.{IsPrefix};
 ghost use Rattle.im_types.specs.declared.refusals.Refusal.TheVariants as Refusal;
-ghost use Rattle.im_glass.specs.Copies.{IsKeptCopy};
-ghost use Rattle.im_glass.specs.Rule.{HasSeen, copy_state};
 
 use crate::book::{Beginning, PaneName};
 use crate::copies::{Ahead, Copy, History};
@@ -49,7 +48,7 @@ pub struct Glance<J: PaneName> {
 impl<J: PaneName> Model for Glance<J> {
     ghost use Rattle.std.specs.Prelude.{List};
     ghost use Rattle.left_right.specs.Sides.{view as known};
-    ghost use Rattle.im_types.specs.declared.changes.Change.{Change};
+    ghost use Rattle.im_types.specs.Types.{Change};
     ghost use Rattle.im_glass.specs.Rule.{HasSeen};
 
     ghost Value = { List Change };

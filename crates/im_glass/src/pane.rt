@@ -1,10 +1,9 @@
 //! Panes, which show the full cells.
-ghost use Rattle.std.specs.Prelude.{◌≡◌, ◌-◌, ◌<◌, ◌++◌, ◌∷◌, [], true, length, is_err, IfOk, IfSome, IsOkUnless};
-ghost use Rattle.std.specs.Prelude.{◌↔◌, IsSome, OnErr, OnOk};
+ghost use Rattle.std.specs.Prelude.{◌≡◌, ◌-◌, ◌<◌, true, ◌↔◌, [], ◌∷◌, ◌++◌, length, IfSome, is_err, IfOk, OnOk, OnErr};
+ghost use Rattle.std.specs.Prelude.{IsOkUnless, IsSome};
+ghost use Rattle.im_types.specs.Types.{NoMemory, is_below};
+ghost use Rattle.im_glass.specs.Panes.{is_filled, PaneView, with_name};
 ghost use mathlib.Core.List.{IsPrefix};
-ghost use Rattle.im_types.specs.declared.refusals.Refusal.TheVariants.{NoMemory};
-ghost use Rattle.im_types.specs.Changes.{is_below};
-ghost use Rattle.im_glass.specs.Panes.{PaneView, is_filled, with_name};
 
 use crate::book::{Beginning, Book, NewBook, PaneName};
 use crate::glance::{Glance, Spare};
@@ -34,13 +33,11 @@ pub struct Pane<J: PaneName> {
 }
 
 impl<J: PaneName> Model for Pane<J> {
-    ghost use Rattle.std.specs.Prelude.{◌≡◌, ◌+◌, ◌^◌, ◌≤◌, [], length, drop, true, Some, vec_capacity};
-    ghost use Rattle.std.specs.List.{AllByRecursion};
+    ghost use Rattle.std.specs.Prelude.{◌≡◌, ◌+◌, ◌^◌, ◌≤◌, true, [], length, drop, Some, vec_capacity};
     ghost use Rattle.left_right.specs.Sides.{view as known};
-    ghost use Rattle.im_types.specs.Changes.{is_below};
-    ghost use Rattle.im_glass.specs.Copies.{IsKeptCopy};
-    ghost use Rattle.im_glass.specs.Rule.{copy_state};
-    ghost use Rattle.im_glass.specs.Panes.{PaneView};
+    ghost use Rattle.std.specs.List.{AllByRecursion};
+    ghost use Rattle.im_types.specs.Types.{is_below};
+    ghost use Rattle.im_glass.specs.{Copies.IsKeptCopy, Panes.PaneView, Rule.copy_state};
 
     ghost Value = { PaneView };
 
@@ -71,7 +68,7 @@ pub struct Told<J: PaneName> {
 
 impl<J: PaneName> Model for Told<J> {
     ghost use Rattle.std.specs.Prelude.{List};
-    ghost use Rattle.im_types.specs.declared.changes.Change.{Change};
+    ghost use Rattle.im_types.specs.Types.{Change};
 
     ghost Value = { List Change };
 

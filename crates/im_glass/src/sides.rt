@@ -1,10 +1,10 @@
 //! The two copies of a pane: the one that is shown, and the other one.
-ghost use Rattle.std.specs.Prelude.{◌≡◌, ◌+◌, ◌^◌, ◌<◌, ◌≤◌, ◌++◌, ◌∷◌, [], true, None, Some, drop, length, replicate};
-ghost use Rattle.std.specs.Prelude.{IfOk};
-ghost use Rattle.std.specs.List.{AllByRecursion};
+ghost use Rattle.std.specs.Prelude.{◌≡◌, ◌+◌, ◌^◌, ◌<◌, ◌≤◌, true, [], ◌∷◌, ◌++◌, length, drop, replicate, IfOk, Some};
+ghost use Rattle.std.specs.Prelude.{None};
 ghost use Rattle.left_right.specs.Sides.{view};
-ghost use Rattle.im_types.specs.Changes.{is_below};
-ghost use Rattle.im_glass.specs.Copies.{IsKeptCopy, ChangeNothing, FollowEach, AddsOne, after_all, changes_ahead};
+ghost use Rattle.std.specs.List.{AllByRecursion};
+ghost use Rattle.im_types.specs.Types.{is_below};
+ghost use Rattle.im_glass.specs.Copies.{AddsOne, after_all, ChangeNothing, changes_ahead, FollowEach, IsKeptCopy};
 ghost use Rattle.im_glass.specs.Rule.{copy_state, IsKeptOf};
 
 use crate::book::{Beginning, Book, PaneName};

@@ -1,8 +1,7 @@
 //! Panes without a name.
 ghost use Rattle.std.specs.Prelude.{◌≡◌, ◌<◌, true, IfOk, IsOkUnless};
 ghost use Rattle.std.specs.List.{AllByRecursion};
-ghost use Rattle.im_types.specs.declared.refusals.Refusal.TheVariants.{NoMemory};
-ghost use Rattle.im_types.specs.Changes.{is_below};
+ghost use Rattle.im_types.specs.Types.{NoMemory, is_below};
 ghost use Rattle.im_glass.specs.Panes.{with_name};
 
 use crate::book::{NewBook, PaneName, UnnamedBook};
@@ -25,11 +24,9 @@ pub struct Unnamed {
 
 impl Model for Unnamed {
     ghost use Rattle.std.specs.Prelude.{◌≡◌, ◌+◌, ◌^◌, ◌≤◌, [], length, drop, Some, vec_capacity};
-    ghost use Rattle.std.specs.List.{AllByRecursion};
     ghost use Rattle.left_right.specs.Sides.{view as known};
-    ghost use Rattle.im_glass.specs.Copies.{IsKeptCopy};
-    ghost use Rattle.im_glass.specs.Rule.{copy_state};
-    ghost use Rattle.im_glass.specs.Panes.{UnnamedView};
+    ghost use Rattle.std.specs.List.{AllByRecursion};
+    ghost use Rattle.im_glass.specs.{Copies.IsKeptCopy, Panes.UnnamedView, Rule.copy_state};
 
     ghost Value = { UnnamedView };
 

@@ -1,54 +1,27 @@
 -- What is known of a command before those ahead of it act.
-use Rattle.std.proofs.Common.{◌≡◌, ◌≢◌, ◌⊎◌, inl, inr, ⊎_elim, ℕ, ◌+◌, ◌<◌, ◌≤◌, List, [], ◌∷◌, Bool, true, false}
-use Rattle.std.proofs.Common.{None, Some}
-use Rattle.std.proofs.Common.{Result, Ok, Err, Option, take, drop, refl, sym, ap, ◌∙◌, arith, if◌then◌else◌}
-use Rattle.std.specs.Prelude.{◌&&◌, ◌||◌, ◌==◌, nat_lt, slice_index_or}
-use Rattle.std.specs.List.{list_any}
-use Rattle.std.proofs.lemmas.Bool.Decides.{nat_tests}
-use Rattle.im_types.specs.declared.TheConstants.{LAST, WINDOW}
-use Rattle.im_types.specs.declared.operations.Op.{Op}
-use Rattle.im_types.specs.declared.operations.Op.TheVariants.{Alloc, Release, Reset, Fetch, Store, Take, Put}
-use Rattle.im_types.specs.declared.operations.Kind.{Kind}
-use Rattle.im_types.specs.declared.operations.Kind.TheVariants.{I, M}
-use Rattle.im_types.specs.declared.operations.Entry.{Entry}
-use Rattle.im_types.specs.declared.operations.Entry.TheVariants.{Answered}
-use Rattle.im_types.specs.declared.operations.Waiter.{Waiter}
-use Rattle.im_types.specs.declared.operations.Kept.{Kept}
-use Rattle.im_types.specs.declared.operations.Block.{Block}
-use Rattle.im_types.specs.declared.operations.Reply.{Reply}
-use Rattle.im_types.specs.declared.operations.Reply.TheVariants.{WrongKind, BadLength}
-use Rattle.im_types.specs.declared.operations.Reply.TheVariants.{StillWaiting}
-use Rattle.im_types.specs.declared.commands.Request.{Request}
-use Rattle.im_types.specs.declared.commands.Command.{Command}
-use Rattle.im_types.specs.declared.commands.Command.TheVariants.{Request as Asks, Confirm}
-use Rattle.im_types.specs.declared.commands.Outcome.TheVariants.{Entry as Tells}
-use Rattle.im_types.specs.declared.refusals.Refusal.{Refusal}
-use Rattle.im_types.specs.declared.refusals.Refusal.TheVariants.{Forgotten}
-use Rattle.im_types.specs.Contents.{CellState, Empty, Full, Clashed, Held, Window, Contents, held_at, kept_for}
-use Rattle.im_types.specs.Contents.{new_window}
-use Rattle.im_types.specs.Place.{place}
-use Rattle.im_types.specs.Act.{Served, act, allocate_at, at_cell, serve_cell, only_tells, same_kind}
-use Rattle.im_types.specs.Act.{store, put}
-use Rattle.im_types.specs.Act.{unless_waited_for, block_with_base, is_waiting_cell}
-use Rattle.im_types.specs.Window.{is_waiting, is_waiting_entry, bounds}
-use Rattle.im_types.specs.Step.{step, step_request, is_accepted, asker, moves_base}
-use Rattle.im_types.specs.Run.{after}
-use Rattle.im_types.specs.Meaning.{accept_each}
-use Rattle.im_types.specs.Memory.{IsWindow, IsMemory}
-use Rattle.im_types.specs.Agreement.{WaitingAgrees}
-use Rattle.im_laws.specs.Windows.{IsForgotten, TakesNextNumber, MovesBase}
-use Rattle.im_laws.proofs.Tests.{and_both, true_or_false, true_false, eq_by_test, test-self, some_same, below_or_from}
-use Rattle.im_laws.proofs.GroupLemmas.{same_test}
-use Rattle.im_laws.proofs.AcceptLemmas.{same_bounds, accepted-fresh, accepted-takes_next, accepted-moves_base}
-use Rattle.im_laws.proofs.JudgeLemmas.{next-accepted, accepted-next, confirmable-confirms}
-use Rattle.im_laws.proofs.BoundsLemmas.{BoundsMove, Stays, Grows, Rises, step-moves}
-use Rattle.im_laws.proofs.MemoryLemmas.{bounds-window, after-memory}
-use Rattle.im_laws.proofs.WindowLemmas.{window_at}
-use Rattle.im_laws.proofs.ForgetLemmas.{bounds-forgotten, ask-forgotten}
-use Rattle.im_laws.proofs.EntryLemmas.{told-kept, ask-kept, answered-lasts}
-use Rattle.im_laws.proofs.RunAgrees.{step-agrees}
-use Rattle.im_groups.specs.Ahead.{AreAccepted, bounds_behind, bounds_behind_all, moved_by, is_next, is_at_once}
-use Rattle.im_groups.specs.Ahead.{asks_at_once, is_answered_or, is_sure}
+use Rattle.std.proofs.Common.{◌≡◌, ℕ, ◌+◌, ◌<◌, ◌≤◌, Bool, true, false, ◌&&◌, ◌||◌, ◌≢◌, ◌⊎◌, List, [], ◌∷◌, take, drop}
+use Rattle.std.proofs.Common.{if◌then◌else◌, nat_lt, ◌==◌, slice_index_or, Some, None, Ok, Err, Option, Result, sym}
+use Rattle.std.proofs.Common.{refl, ap, ◌∙◌, inl, inr, ⊎_elim, arith}
+use Rattle.std.{proofs.lemmas.Bool.Decides.nat_tests, specs.List.list_any}
+use Rattle.im_types.specs.Types.{Entry, Kind, Op, Reply, Waiter, Block, Kept, Answered, I, M, Alloc, Release, Reset}
+use Rattle.im_types.specs.Types.{Fetch, Store, Take, Put, BadLength, WrongKind, StillWaiting, Request, Command, Asks}
+use Rattle.im_types.specs.Types.{Confirm, Tells, Refusal, Forgotten, WINDOW, LAST, CellState, Empty, Full, Clashed}
+use Rattle.im_types.specs.Types.{Held, Window, Contents, new_window, held_at, kept_for, IsWindow, IsMemory}
+use Rattle.im_types.specs.Types.{WaitingAgrees, place, ServedCell as Served, store, put, only_tells, same_kind}
+use Rattle.im_types.specs.Types.{serve_cell, at_cell, allocate_at, block_with_base, is_waiting_cell, unless_waited_for}
+use Rattle.im_types.specs.Types.{act, is_waiting_entry, is_waiting, bounds, asker, step_request, step, moves_base}
+use Rattle.im_types.specs.Types.{is_accepted, after, accept_each}
+use Rattle.im_laws.proofs.AcceptLemmas.{accepted-fresh, accepted-moves_base, accepted-takes_next, same_bounds}
+use Rattle.im_laws.proofs.BoundsLemmas.{BoundsMove, Grows, Rises, Stays, step-moves}
+use Rattle.im_laws.proofs.EntryLemmas.{answered-lasts, ask-kept, told-kept}
+use Rattle.im_laws.proofs.ForgetLemmas.{ask-forgotten, bounds-forgotten}
+use Rattle.im_laws.proofs.{GroupLemmas.same_test, RunAgrees.step-agrees, WindowLemmas.window_at}
+use Rattle.im_laws.proofs.JudgeLemmas.{accepted-next, confirmable-confirms, next-accepted}
+use Rattle.im_laws.proofs.MemoryLemmas.{after-memory, bounds-window}
+use Rattle.im_laws.proofs.Tests.{and_both, below_or_from, eq_by_test, some_same, test-self, true_false, true_or_false}
+use Rattle.im_laws.specs.Windows.{IsForgotten, MovesBase, TakesNextNumber}
+use Rattle.im_groups.specs.Ahead.{AreAccepted, asks_at_once, bounds_behind, bounds_behind_all, is_answered_or}
+use Rattle.im_groups.specs.Ahead.{is_at_once, is_next, is_sure, moved_by}
 
 -- commands that are accepted in turn, taken apart
 pub accepted_first : (m : Contents) (c : Command) (cs : List Command) → AreAccepted m (c ∷ cs)

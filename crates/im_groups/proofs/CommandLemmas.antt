@@ -1,19 +1,11 @@
 -- A group of commands, and the run of those that take a place.
-use Rattle.std.proofs.Common.{◌≡◌, ℕ, ◌-◌, ◌<◌, ◌≤◌, List, [], ◌∷◌, ◌++◌, length, Bool, true, false, None, Some, refl}
-use Rattle.std.proofs.Common.{sym, ap}
-use Rattle.std.proofs.Common.{subst, ◌∙◌, arith, append_assoc, append-nil, if◌then◌else◌}
-use Rattle.std.specs.Prelude.{nat_lt}
-use Rattle.im_types.specs.declared.commands.Command.{Command}
-use Rattle.im_types.specs.Contents.{Contents}
-use Rattle.im_types.specs.Step.{step, is_accepted}
-use Rattle.im_types.specs.Run.{after}
-use Rattle.im_types.specs.Meaning.{accept_each}
-use Rattle.im_laws.proofs.Tests.{and_both}
-use Rattle.im_laws.proofs.GroupLemmas.{above_zero}
-use Rattle.im_groups.specs.Commands.{takes_place, contents_with, places_behind, command_at, contents_after_all}
-use Rattle.im_groups.specs.Commands.{left_after}
-use Rattle.im_groups.specs.Commands.{commands_at, takes_at}
+use Rattle.std.proofs.Common.{◌≡◌, ℕ, ◌-◌, ◌<◌, ◌≤◌, Bool, true, false, List, [], ◌∷◌, ◌++◌, length, if◌then◌else◌}
+use Rattle.std.proofs.Common.{nat_lt, Some, None, sym, refl, ap, ◌∙◌, subst, append_assoc, append-nil, arith}
+use Rattle.im_types.specs.Types.{Command, Contents, step, is_accepted, after, accept_each}
+use Rattle.im_laws.proofs.{GroupLemmas.above_zero, Tests.and_both}
 use Rattle.im_groups.specs.Ahead.{AreAccepted}
+use Rattle.im_groups.specs.Commands.{command_at, commands_at, contents_after_all, contents_with, left_after}
+use Rattle.im_groups.specs.Commands.{places_behind, takes_at, takes_place}
 
 -- no more commands than places
 pub few_at : (m : Contents) (left : ℕ) (cs : List Command) → length (commands_at m left cs) ≤ left

@@ -1,17 +1,12 @@
 -- Members that are judged one after another.
-use Rattle.std.proofs.Common.{◌≡◌, ℕ, zero, suc, ◌+◌, ◌-◌, ◌<◌, ◌≤◌, List, [], ◌∷◌, ◌++◌, length, take, get_or, Bool}
-use Rattle.std.proofs.Common.{true, false}
-use Rattle.std.proofs.Common.{Some, sym, ap, subst, ◌∙◌, arith, length-append, if◌then◌else◌}
-use Rattle.std.specs.Prelude.{◌&&◌, nat_lt, slice_get}
+use Rattle.std.proofs.Common.{◌≡◌, ℕ, zero, suc, ◌+◌, ◌-◌, ◌<◌, ◌≤◌, Bool, true, false, ◌&&◌, List, [], ◌∷◌, ◌++◌}
+use Rattle.std.proofs.Common.{length, get_or, take, if◌then◌else◌, nat_lt, slice_get, Some, sym, ap, ◌∙◌, subst, arith}
+use Rattle.std.proofs.Common.{length-append}
 use Rattle.std.proofs.lemmas.List.{take_more}
-use Rattle.im_types.specs.declared.commands.Command.{Command}
-use Rattle.im_types.specs.declared.commands.Command.TheVariants.{Request as Asks, Confirm}
-use Rattle.im_types.specs.Contents.{Contents}
-use Rattle.im_types.specs.Step.{is_accepted}
-use Rattle.im_types.specs.Run.{after}
-use Rattle.im_groups.specs.Commands.{contents_after_all, left_after, command_at, commands_at, takes_place, takes_at}
-use Rattle.im_groups.specs.Ahead.{IsUnsure, ServesPrefix}
+use Rattle.im_types.specs.Types.{Command, Asks, Confirm, Contents, is_accepted, after}
 use Rattle.im_groups.proofs.CommandLemmas.{at-after, commands_behind, left_behind, takes_behind}
+use Rattle.im_groups.specs.Ahead.{IsUnsure, ServesPrefix}
+use Rattle.im_groups.specs.Commands.{command_at, commands_at, contents_after_all, left_after, takes_at, takes_place}
 
 -- one member more is judged
 pub record JudgesOneMore (m : Contents) (places : ℕ) (members : List Command) (i : ℕ) (commands : List Command) (left

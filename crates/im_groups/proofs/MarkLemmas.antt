@@ -1,19 +1,11 @@
 -- Marks of the elements of commands.
-use Rattle.std.proofs.Common.{◌≡◌, ℕ, zero, suc, ◌+◌, List, [], ◌∷◌, ◌++◌, set, Bool}
-use Rattle.std.proofs.Common.{true, false, Result, Ok, Err, refl, sym, ap, subst, ◌∙◌, if◌then◌else◌}
-use Rattle.std.specs.Prelude.{◌==◌}
-use Rattle.im_types.specs.declared.commands.Request.{Request}
-use Rattle.im_types.specs.declared.commands.Command.{Command}
-use Rattle.im_types.specs.declared.commands.Command.TheVariants.{Request as Asks, Confirm}
-use Rattle.im_types.specs.declared.refusals.Refusal.{Refusal}
-use Rattle.im_types.specs.Contents.{Contents}
-use Rattle.im_types.specs.Window.{bounds}
-use Rattle.im_types.specs.Step.{is_accepted}
-use Rattle.im_types.specs.Run.{after}
-use Rattle.im_laws.proofs.Tests.{true_false, eq_by_test}
+use Rattle.std.proofs.Common.{◌≡◌, ℕ, zero, suc, ◌+◌, Bool, true, false, List, [], ◌∷◌, ◌++◌, set, if◌then◌else◌, ◌==◌}
+use Rattle.std.proofs.Common.{Ok, Err, Result, sym, refl, ap, ◌∙◌, subst}
+use Rattle.im_types.specs.Types.{Request, Command, Asks, Confirm, Refusal, Contents, bounds, is_accepted, after}
+use Rattle.im_laws.proofs.Tests.{eq_by_test, true_false}
+use Rattle.im_groups.proofs.AheadLemmas.{request-behind, request-judged, request-lost, request-nowhere}
 use Rattle.im_groups.specs.Ahead.{AreAccepted, bounds_behind, bounds_behind_all, moved_by}
 use Rattle.im_groups.specs.Marks.{element_behind, has_mark, HaveMarks}
-use Rattle.im_groups.proofs.AheadLemmas.{request-judged, request-nowhere, request-behind, request-lost}
 
 -- ---- marking
 

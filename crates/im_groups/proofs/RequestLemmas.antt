@@ -1,26 +1,14 @@
 -- A group of requests is a group of commands.
-use Rattle.std.proofs.Common.{◌≡◌, ℕ, zero, suc, ◌+◌, ◌-◌, ◌<◌, ◌≤◌, min, List, [], ◌∷◌, ◌++◌, map, Bool, true, false}
-use Rattle.std.proofs.Common.{refl, sym, ap, ◌∙◌, arith, if◌then◌else◌}
-use Rattle.std.specs.Prelude.{◌&&◌, ◌==◌, nat_lt, Result, Err}
+use Rattle.std.proofs.Common.{◌≡◌, ℕ, zero, suc, ◌+◌, ◌-◌, ◌<◌, ◌≤◌, min, Bool, true, false, ◌&&◌, List, [], ◌∷◌, ◌++◌}
+use Rattle.std.proofs.Common.{map, if◌then◌else◌, nat_lt, ◌==◌, Err, Result, sym, refl, ap, ◌∙◌, arith}
 use Rattle.std.proofs.lemmas.Bool.Decides.{nat_tests}
-use Rattle.im_types.specs.declared.TheConstants.{LAST}
-use Rattle.im_types.specs.declared.commands.Request.{Request}
-use Rattle.im_types.specs.declared.commands.Command.{Command}
-use Rattle.im_types.specs.declared.commands.Command.TheVariants.{Request as Asks}
-use Rattle.im_types.specs.declared.commands.Outcome.{Outcome}
-use Rattle.im_types.specs.declared.refusals.Refusal.{Refusal}
-use Rattle.im_types.specs.declared.refusals.Refusal.TheVariants.{JournalFull}
-use Rattle.im_types.specs.Contents.{Contents}
-use Rattle.im_types.specs.Step.{step}
-use Rattle.im_types.specs.Meaning.{Reached}
-use Rattle.im_types.specs.Groups.{is_new, is_put, with_request, answer_of, reached_by_one, answers_of, reached_by_all}
-use Rattle.im_types.specs.Groups.{puts_of}
-use Rattle.im_laws.specs.Groups.{IsCounted}
-use Rattle.im_laws.proofs.Tests.{and_both}
-use Rattle.im_laws.proofs.GroupLemmas.{same_test, above_zero, below_last, counted-one}
-use Rattle.im_groups.specs.Commands.{places, takes_place, answer_with, contents_with, places_behind, command_at}
-use Rattle.im_groups.specs.Commands.{answers_with}
-use Rattle.im_groups.specs.Commands.{contents_after_all, commands_at}
+use Rattle.im_types.specs.Types.{Request, Command, Outcome, Asks, Refusal, JournalFull, LAST, Contents, step, is_new}
+use Rattle.im_types.specs.Types.{is_put, with_request, answer_of, reached_by_one, answers_of, reached_by_all, puts_of}
+use Rattle.im_types.specs.Types.{Reached}
+use Rattle.im_laws.proofs.GroupLemmas.{above_zero, below_last, counted-one, same_test}
+use Rattle.im_laws.{proofs.Tests.and_both, specs.Groups.IsCounted}
+use Rattle.im_groups.specs.Commands.{answer_with, answers_with, command_at, commands_at, contents_after_all}
+use Rattle.im_groups.specs.Commands.{contents_with, places, places_behind, takes_place}
 
 -- the places at what was reached
 abbrev pub places_of : Reached → ℕ

@@ -1,17 +1,10 @@
 -- Members that are all accepted, each in its turn.
-use Rattle.std.proofs.Common.{◌≡◌, ℕ, zero, suc, ◌+◌, ◌-◌, ◌<◌, ◌≤◌, List, [], ◌∷◌, ◌++◌, length, take, get_or, Bool}
-use Rattle.std.proofs.Common.{true, false, None, Some, refl, sym, ap, subst, ◌∙◌, arith, if◌then◌else◌}
-use Rattle.std.specs.Prelude.{◌&&◌, nat_lt}
-use Rattle.std.proofs.lemmas.Bool.Decides.{nat_tests}
-use Rattle.std.proofs.lemmas.List.{take_more}
-use Rattle.im_types.specs.declared.commands.Command.{Command}
-use Rattle.im_types.specs.Contents.{Contents}
-use Rattle.im_types.specs.Step.{step, is_accepted}
-use Rattle.im_types.specs.Run.{after}
-use Rattle.im_types.specs.Meaning.{accept_each}
-use Rattle.im_groups.specs.Commands.{takes_place, commands_at}
-use Rattle.im_groups.specs.Ahead.{AreAccepted}
+use Rattle.std.proofs.Common.{◌≡◌, ℕ, zero, suc, ◌+◌, ◌-◌, ◌<◌, ◌≤◌, Bool, true, false, ◌&&◌, List, [], ◌∷◌, ◌++◌}
+use Rattle.std.proofs.Common.{length, get_or, take, if◌then◌else◌, nat_lt, Some, None, sym, refl, ap, ◌∙◌, subst, arith}
+use Rattle.std.proofs.lemmas.{Bool.Decides.nat_tests, List.take_more}
+use Rattle.im_types.specs.Types.{Command, Contents, step, is_accepted, after, accept_each}
 use Rattle.im_groups.proofs.AheadLemmas.{accepted_first}
+use Rattle.im_groups.specs.{Ahead.AreAccepted, Commands.commands_at, Commands.takes_place}
 
 accepted_behind : (m : Contents) (cs : List Command) (c : Command) → AreAccepted m cs
     → is_accepted (after m cs) c ≡ true → AreAccepted m (cs ++ c ∷ [])

@@ -1,21 +1,10 @@
 -- A command before the commands ahead of it have acted, and what is known of it. (Own.)
-use Rattle.std.specs.Prelude.{◌≡◌, ℕ, ◌+◌, ◌<◌, ◌≤◌, ◌==◌, Bool, true, false, ◌&&◌, nat_lt, List, [], ◌∷◌, length}
-use Rattle.std.specs.Prelude.{Option, None, Some}
-use Rattle.std.specs.Prelude.{Result, Ok, Err, slice_get, if◌then◌else◌}
+use Rattle.std.specs.Prelude.{◌≡◌, ℕ, ◌+◌, ◌<◌, ◌≤◌, Bool, true, false, ◌&&◌, List, [], ◌∷◌, length, if◌then◌else◌}
+use Rattle.std.specs.Prelude.{nat_lt, ◌==◌, slice_get, Some, None, Ok, Err, Option, Result}
 use Rattle.std.specs.List.{list_any}
-use Rattle.im_types.specs.declared.TheConstants.{LAST, WINDOW}
-use Rattle.im_types.specs.declared.operations.Op.{Op}
-use Rattle.im_types.specs.declared.operations.Op.TheVariants.{Alloc, Release, Reset, Fetch, Store, Take, Put}
-use Rattle.im_types.specs.declared.operations.Waiter.{Waiter}
-use Rattle.im_types.specs.declared.operations.Kept.{Kept}
-use Rattle.im_types.specs.declared.commands.Request.{Request}
-use Rattle.im_types.specs.declared.commands.Command.{Command}
-use Rattle.im_types.specs.declared.commands.Command.TheVariants.{Request as Asks, Confirm}
-use Rattle.im_types.specs.declared.refusals.Refusal.{Refusal}
-use Rattle.im_types.specs.Contents.{Contents, kept_for}
-use Rattle.im_types.specs.Window.{is_waiting, bounds}
-use Rattle.im_types.specs.Run.{after}
-use Rattle.im_types.specs.Meaning.{accept_each}
+use Rattle.im_types.specs.Types.{Op, Waiter, Kept, Alloc, Release, Reset, Fetch, Store, Take, Put, Request, Command}
+use Rattle.im_types.specs.Types.{Asks, Confirm, Refusal, WINDOW, LAST, Contents, kept_for, is_waiting, bounds, after}
+use Rattle.im_types.specs.Types.{accept_each}
 
 -- each of these commands is accepted in its turn
 abbrev pub AreAccepted : Contents → List Command → Type 0

@@ -1,14 +1,8 @@
 -- A group of commands with a number of places: the answers to its members and their effect, each after the one before.
 -- (Own.)
-use Rattle.std.specs.Prelude.{ℕ, ◌+◌, ◌-◌, ◌==◌, Bool, ◌&&◌, nat_lt, min, List, [], ◌∷◌, ◌++◌, Result, Err}
-use Rattle.std.specs.Prelude.{if◌then◌else◌}
-use Rattle.im_types.specs.declared.TheConstants.{LAST}
-use Rattle.im_types.specs.declared.commands.Command.{Command}
-use Rattle.im_types.specs.declared.commands.Outcome.{Outcome}
-use Rattle.im_types.specs.declared.refusals.Refusal.{Refusal}
-use Rattle.im_types.specs.declared.refusals.Refusal.TheVariants.{JournalFull}
-use Rattle.im_types.specs.Contents.{Contents}
-use Rattle.im_types.specs.Step.{step, is_accepted}
+use Rattle.std.specs.Prelude.{ℕ, ◌+◌, ◌-◌, min, Bool, ◌&&◌, List, [], ◌∷◌, ◌++◌, if◌then◌else◌, nat_lt, ◌==◌, Err}
+use Rattle.std.specs.Prelude.{Result}
+use Rattle.im_types.specs.Types.{Command, Outcome, Refusal, JournalFull, LAST, Contents, step, is_accepted}
 use Rattle.im_memory.specs.Covering.{most_pages}
 
 -- the number of further commands, after `count` commands and with this room in the journal

@@ -1,7 +1,6 @@
 -- Marks of the elements that commands are of. (Own.)
 use Rattle.std.specs.Prelude.{◌≡◌, ℕ, Bool, true, List, [], ◌∷◌, slice_index_or}
-use Rattle.im_types.specs.declared.commands.Command.{Command}
-use Rattle.im_types.specs.declared.commands.Command.TheVariants.{Request as Asks, Confirm}
+use Rattle.im_types.specs.Types.{Command, Asks, Confirm}
 
 -- the element that a command is of
 abbrev pub element_behind : Command → ℕ

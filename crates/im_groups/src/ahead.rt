@@ -1,14 +1,9 @@
 //! A command that is judged after the commands ahead of it, before any of them acts.
-ghost use Rattle.std.specs.Prelude.{◌≡◌, ◌+◌, ◌≤◌, ◌<◌, ℕ, length, true, false, IfOk, IfSome, IsNone, slice_set};
+ghost use Rattle.std.specs.Prelude.{◌≡◌, ℕ, ◌+◌, ◌<◌, ◌≤◌, true, false, length, IfSome, IfOk, IsNone, slice_set};
 ghost use Rattle.std.specs.List.{list_any};
-ghost use Rattle.im_types.specs.declared.TheConstants.{LAST, MAX_GROUP};
-ghost use Rattle.im_types.specs.declared.commands.Command.TheVariants.{Confirm};
-ghost use Rattle.im_types.specs.Memory.{IsMemory};
-ghost use Rattle.im_types.specs.Window.{bounds};
-ghost use Rattle.im_types.specs.Step.{is_accepted};
-ghost use Rattle.im_types.specs.Run.{after};
-ghost use Rattle.im_groups.specs.Ahead.{AreAccepted, bounds_behind, moved_by, is_next, is_at_once, asks_at_once};
-ghost use Rattle.im_groups.specs.Ahead.{is_sure, IsUnsure};
+ghost use Rattle.im_types.specs.Types.{Confirm, MAX_GROUP, LAST, IsMemory, bounds, is_accepted, after};
+ghost use Rattle.im_groups.specs.Ahead.{AreAccepted, asks_at_once, bounds_behind, is_at_once, is_next, is_sure};
+ghost use Rattle.im_groups.specs.Ahead.{IsUnsure, moved_by};
 ghost use Rattle.im_groups.specs.Marks.{element_behind, HaveMarks};
 
 use crate::marks::{has_mark, mark};

@@ -1,10 +1,9 @@
 //! The members of a group, judged in their order before any of them acts.
-ghost use Rattle.std.specs.Prelude.{◌≡◌, ◌⊎◌, ◌+◌, ◌-◌, ◌<◌, ◌≤◌, ◌&&◌, ◌++◌, ◌∷◌, [], length, take, nat_lt};
-ghost use Rattle.std.specs.Prelude.{None, IfSome, IsNone, if◌then◌else◌};
-ghost use Rattle.im_types.specs.declared.TheConstants.{MAX_GROUP};
-ghost use Rattle.im_types.specs.Meaning.{accept_each};
-ghost use Rattle.im_groups.specs.Commands.{commands_at, takes_at, takes_place};
+ghost use Rattle.std.specs.Prelude.{◌≡◌, ◌+◌, ◌-◌, ◌<◌, ◌≤◌, ◌&&◌, ◌⊎◌, [], ◌∷◌, ◌++◌, length, take, IfSome};
+ghost use Rattle.std.specs.Prelude.{if◌then◌else◌, IsNone, nat_lt, None};
+ghost use Rattle.im_types.specs.Types.{MAX_GROUP, accept_each};
 ghost use Rattle.im_groups.specs.Ahead.{AreAccepted, ServesPrefix};
+ghost use Rattle.im_groups.specs.Commands.{commands_at, takes_at, takes_place};
 
 use crate::ahead::{accepts, judge_member, take_member};
 use crate::marks::mark;

@@ -1,22 +1,12 @@
 -- Each accepted request has an entry in the end, and an answer stays.
-use Rattle.std.proofs.Common.{◌≡◌, ℕ, List, [], ◌∷◌, ◌++◌, Some, None, refl, sym, ap, ◌∙◌, subst}
-use Rattle.std.specs.Prelude.{Option, option_map, IsSomeAnd}
+use Rattle.std.proofs.Common.{◌≡◌, ℕ, List, [], ◌∷◌, ◌++◌, IsSomeAnd, Some, None, Option, option_map, sym, refl, ap}
+use Rattle.std.proofs.Common.{◌∙◌, subst}
 use Rattle.std.specs.List.{AllByRecursion}
-use Rattle.im_types.specs.declared.operations.Entry.{Entry}
-use Rattle.im_types.specs.declared.operations.Entry.TheVariants.{Waiting, Answered}
-use Rattle.im_types.specs.declared.operations.Waiter.{Waiter}
-use Rattle.im_types.specs.declared.operations.Kept.{Kept}
-use Rattle.im_types.specs.declared.commands.Command.{Command}
-use Rattle.im_types.specs.Contents.{Contents, empty_contents, kept_for}
-use Rattle.im_types.specs.Step.{asker, step}
-use Rattle.im_types.specs.Agreement.{WaitingAgrees}
-use Rattle.im_types.specs.History.{events, latest, last_kept}
-use Rattle.im_histories.specs.Entries.{MayBecome, EntryLaw}
-use Rattle.im_histories.proofs.ListLemmas.{all_map}
-use Rattle.im_histories.proofs.EndEntry.{ends-answered}
-use Rattle.im_histories.proofs.OneStep.{Takes, Silent, Asked, takes_command, IsSound, sound-step}
-use Rattle.im_histories.proofs.NewEntry.{own_entry}
-use Rattle.im_histories.proofs.AllLives.{empty-sound}
+use Rattle.im_types.specs.Types.{Entry, Waiter, Kept, Waiting, Answered, Command, Contents, kept_for, empty_contents}
+use Rattle.im_types.specs.Types.{WaitingAgrees, asker, step, events, latest, last_kept}
+use Rattle.im_histories.proofs.{AllLives.empty-sound, EndEntry.ends-answered, ListLemmas.all_map, NewEntry.own_entry}
+use Rattle.im_histories.proofs.OneStep.{Asked, IsSound, Silent, sound-step, Takes, takes_command}
+use Rattle.im_histories.specs.Entries.{EntryLaw, MayBecome}
 
 -- where something was kept, something is the last that was kept
 kept_before : (m : Contents) (commands : List Command) (who : Waiter) (k : Kept) → (last : Kept)

@@ -1,35 +1,21 @@
 -- A law of each cell holds of all lives of blocks of its kind, from the empty memory on.
-use Rattle.std.proofs.Common.{◌≡◌, ◌⊎◌, inl, inr, ℕ, zero, suc, ◌+◌, ◌<◌, ◌≤◌, List, [], ◌∷◌, ◌++◌, replicate, Some}
-use Rattle.std.proofs.Common.{None, Bool, true, false, cond, refl, sym, ap, ◌∙◌, subst, arith}
-use Rattle.std.specs.Prelude.{Option, ◌==◌, option_map}
+use Rattle.std.proofs.Common.{◌≡◌, ℕ, zero, suc, ◌+◌, ◌<◌, ◌≤◌, Bool, true, false, cond, ◌⊎◌, List, [], ◌∷◌, ◌++◌}
+use Rattle.std.proofs.Common.{replicate, ◌==◌, Some, None, Option, option_map, sym, refl, ap, ◌∙◌, subst, inl, inr}
+use Rattle.std.proofs.Common.{arith, get_or-set_same}
+use Rattle.std.proofs.lemmas.{Bool.Decides.nat_tests, Option.IfSome_then, Option.none-some, Option.same_Some}
 use Rattle.std.specs.List.{AllByRecursion}
-use Rattle.std.proofs.lemmas.Option.{none-some, same_Some, IfSome_then}
-use Rattle.std.proofs.lemmas.List.{get_or-set_same}
-use Rattle.std.proofs.lemmas.Bool.Decides.{nat_tests}
-use Rattle.im_types.proofs.Tests.{true_false}
-use Rattle.im_types.specs.declared.operations.Waiter.{Waiter}
-use Rattle.im_types.specs.declared.operations.Op.{Op}
-use Rattle.im_types.specs.declared.operations.Op.TheVariants.{Alloc, Release, Reset, Fetch, Store, Take, Put}
-use Rattle.im_types.specs.declared.operations.Kind.{Kind}
-use Rattle.im_types.specs.declared.operations.Reply.TheVariants.{BadLength}
-use Rattle.im_types.specs.declared.operations.Block.{Block}
-use Rattle.im_types.specs.declared.commands.Command.{Command}
-use Rattle.im_types.specs.declared.commands.Request.{Request}
-use Rattle.im_types.specs.Contents.{Empty, Held, Contents, empty_contents, held_at, block_at}
-use Rattle.im_types.specs.Place.{place}
-use Rattle.im_types.specs.Act.{Acted, only_tells, new_cell, allocate, allocate_at, emptied, act}
-use Rattle.im_types.specs.Step.{asker, step}
-use Rattle.im_types.specs.History.{Event, Life, life_of, events, releases, clears, until_end, lives_by_reset}
-use Rattle.im_types.specs.History.{lives_from, lives, lawful_entry, EachAfter, IsLawfulLife}
-use Rattle.im_histories.proofs.Given.{get_or-fill_in, held_at-within, place-fits, empty-agrees}
-use Rattle.im_histories.proofs.ListLemmas.{all_map, all_append}
-use Rattle.im_histories.proofs.EndEntry.{ends-later}
-use Rattle.im_histories.proofs.OneStep.{contents_of, event_for, Takes, Silent, Asked, takes_command, IsSound}
-use Rattle.im_histories.proofs.OneStep.{sound-step}
-use Rattle.im_laws.proofs.Tests.{or_right}
-use Rattle.im_histories.proofs.CellStep.{serve_op, Meets, Passes, Serves, Frees, Clears, meets}
-use Rattle.im_histories.proofs.CellLaw.{CellLaw}
+use Rattle.im_types.specs.Types.{Kind, Op, Waiter, Block, Alloc, Release, Reset, Fetch, Store, Take, Put, BadLength}
+use Rattle.im_types.specs.Types.{Request, Command, Empty, Held, Contents, held_at, block_at, empty_contents, place}
+use Rattle.im_types.specs.Types.{Acted, only_tells, new_cell, allocate_at, allocate, emptied, act, asker, step, Event}
+use Rattle.im_types.specs.Types.{events, releases, clears, until_end, Life, life_of, lives_by_reset, lives_from, lives}
+use Rattle.im_types.specs.Types.{lawful_entry, EachAfter, IsLawfulLife}
+use Rattle.{im_types.proofs.Tests.true_false, im_laws.proofs.Tests.or_right}
+use Rattle.im_histories.proofs.{CellLaw.CellLaw, EndEntry.ends-later, ListLemmas.all_append, ListLemmas.all_map}
+use Rattle.im_histories.proofs.CellStep.{Clears, Frees, Meets, meets, Passes, serve_op, Serves}
+use Rattle.im_histories.proofs.Given.{empty-agrees, get_or-fill_in, held_at-within, place-fits}
 use Rattle.im_histories.proofs.Life.{EndsAsSaid, IsAt, life_lawful}
+use Rattle.im_histories.proofs.OneStep.{Asked, contents_of, event_for, IsSound, Silent, sound-step, Takes}
+use Rattle.im_histories.proofs.OneStep.{takes_command}
 
 abbrev blocks_of : Option Held → Option Block
 blocks_of o = option_map (λ (held : Held). held.block) o

@@ -1,19 +1,10 @@
 -- A law of one cell, said request by request.
-use Rattle.std.proofs.Common.{◌≡◌, ◌⊎◌, inl, ℕ, ◌≤◌, List, [], ◌∷◌, ◌++◌, Some, true, false, sym, ap, ◌∙◌}
-use Rattle.std.specs.Prelude.{slice_get, IfSome}
-use Rattle.std.proofs.lemmas.Option.{none-some, IfSome_then}
-use Rattle.im_types.specs.declared.operations.Op.{Op}
-use Rattle.im_types.specs.declared.operations.Kind.{Kind}
-use Rattle.im_types.specs.declared.operations.Reply.{Reply}
-use Rattle.im_types.specs.declared.operations.Entry.{Entry}
-use Rattle.im_types.specs.declared.operations.Entry.TheVariants.{Waiting, Answered}
-use Rattle.im_types.specs.declared.operations.Waiter.{Waiter}
-use Rattle.im_types.specs.Contents.{CellState, Empty, waiters_of}
-use Rattle.im_types.specs.Act.{Served}
-use Rattle.im_types.specs.Step.{asker}
-use Rattle.im_types.specs.Agreement.{times}
-use Rattle.im_types.specs.History.{Event, lawful_entry}
-use Rattle.im_histories.proofs.CellStep.{is_for, serve_op, answered_by, given_by}
+use Rattle.std.proofs.Common.{◌≡◌, ℕ, ◌≤◌, true, false, ◌⊎◌, List, [], ◌∷◌, ◌++◌, IfSome, slice_get, Some, sym, ap, ◌∙◌}
+use Rattle.std.proofs.Common.{inl}
+use Rattle.std.proofs.lemmas.Option.{IfSome_then, none-some}
+use Rattle.im_types.specs.Types.{Entry, Kind, Op, Reply, Waiter, Waiting, Answered, CellState, Empty, waiters_of, times}
+use Rattle.im_types.specs.Types.{ServedCell as Served, asker, Event, lawful_entry}
+use Rattle.im_histories.proofs.CellStep.{answered_by, given_by, is_for, serve_op}
 
 abbrev pub served_by : Event → CellState → Served
 served_by e state = serve_op (asker e.request) e.request.op state

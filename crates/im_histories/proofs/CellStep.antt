@@ -1,32 +1,19 @@
 -- What one operation does to one cell that is in a block, and what is kept then.
-use Rattle.std.proofs.Common.{◌≡◌, ◌≢◌, ◌⊎◌, inl, inr, ⊎_elim, ℕ, suc, ◌+◌, ◌<◌, ◌≤◌, List, [], ◌∷◌, map, take, drop}
-use Rattle.std.proofs.Common.{Some, None, Bool, true, false, cond, refl, sym, ap, ◌∙◌, subst, arith}
-use Rattle.std.specs.Prelude.{Option, ◌==◌, ◌&&◌, ◌||◌, option_map}
-use Rattle.std.specs.List.{list_any}
-use Rattle.std.proofs.lemmas.Option.{none-some, same_Some}
+use Rattle.std.proofs.Common.{◌≡◌, ℕ, suc, ◌+◌, ◌<◌, ◌≤◌, Bool, true, false, cond, ◌&&◌, ◌||◌, ◌≢◌, ◌⊎◌, List, [], ◌∷◌}
+use Rattle.std.proofs.Common.{map, take, drop, ◌==◌, Some, None, Option, option_map, sym, refl, ap, ◌∙◌, subst, inl}
+use Rattle.std.proofs.Common.{inr, ⊎_elim, arith}
+use Rattle.std.{proofs.lemmas.Option.none-some, proofs.lemmas.Option.same_Some, specs.List.list_any}
+use Rattle.im_types.specs.Types.{Kind, Op, Reply, Waiter, Block, Answered, I, M, Alloc, Release, Reset, Fetch, Store}
+use Rattle.im_types.specs.Types.{Take, Put, BadLength, Value, NoCell, WrongKind, Released, StillWaiting, Cleared}
+use Rattle.im_types.specs.Types.{CellState, Empty, Full, Clashed, Held, held_at, waiters_of, waiters_in, block_at}
+use Rattle.im_types.specs.Types.{HasBlocks, same_waiter, times, place, fill, change_each, ServedCell as Served, tells}
+use Rattle.im_types.specs.Types.{fetch, store, take_from, put, Acted, only_tells, same_kind, serve_cell, at_cell}
+use Rattle.im_types.specs.Types.{new_cell, allocate_at, allocate, block_with_base, is_waiting_cell, release_block}
+use Rattle.im_types.specs.Types.{emptied, reset_block, act, releases, clears, ends_life}
 use Rattle.im_types.proofs.Tests.{true_false}
-use Rattle.im_types.specs.declared.operations.Op.{Op}
-use Rattle.im_types.specs.declared.operations.Op.TheVariants.{Alloc, Release, Reset, Fetch, Store, Take, Put}
-use Rattle.im_types.specs.declared.operations.Kind.{Kind}
-use Rattle.im_types.specs.declared.operations.Kind.TheVariants.{I, M}
-use Rattle.im_types.specs.declared.operations.Block.{Block}
-use Rattle.im_types.specs.declared.operations.Reply.{Reply}
-use Rattle.im_types.specs.declared.operations.Reply.TheVariants.{Value, BadLength, NoCell, WrongKind, Released}
-use Rattle.im_types.specs.declared.operations.Reply.TheVariants.{Cleared, StillWaiting}
-use Rattle.im_types.specs.declared.operations.Entry.TheVariants.{Answered}
-use Rattle.im_types.specs.declared.operations.Waiter.{Waiter}
-use Rattle.im_types.specs.Contents.{CellState, Empty, Full, Clashed, Held, held_at, waiters_of, waiters_in, block_at}
-use Rattle.im_types.specs.Contents.{HasBlocks}
-use Rattle.im_types.specs.Place.{place, fill, change_each}
-use Rattle.im_types.specs.Act.{Served, Acted, tells, fetch, store, take_from, put, only_tells, same_kind, serve_cell}
-use Rattle.im_types.specs.Act.{at_cell, new_cell, allocate, allocate_at, block_with_base, is_waiting_cell}
-use Rattle.im_types.specs.Act.{release_block, emptied, reset_block, act}
-use Rattle.im_types.specs.Agreement.{same_waiter, times}
-use Rattle.im_types.specs.History.{releases, clears, ends_life}
-use Rattle.im_laws.proofs.StepAgrees.{nobody_waits}
-use Rattle.im_laws.proofs.Tests.{and_false, eq_by_test, test-self}
-use Rattle.im_histories.proofs.Given.{get_or-fill, get_or-change_each, get_or-change_each_in, place-free, held_at-set}
-use Rattle.im_histories.proofs.Given.{held_at-within}
+use Rattle.im_laws.proofs.{StepAgrees.nobody_waits, Tests.and_false, Tests.eq_by_test, Tests.test-self}
+use Rattle.im_histories.proofs.Given.{get_or-change_each, get_or-change_each_in, get_or-fill, held_at-set}
+use Rattle.im_histories.proofs.Given.{held_at-within, place-free}
 
 -- the operation is for cells of this kind, and for this address
 abbrev pub is_for : Kind → ℕ → Op → Bool

@@ -1,21 +1,12 @@
 -- No law of histories says more than it does: each one with an answer changed fails at commands that are written out in the
 -- worked traces of `im_laws`. The definitions compute the lives and the entries.
-use Rattle.std.proofs.Common.{◌≡◌, ℕ, ◌+◌, ◌<◌, ◌≤◌, List, [], ◌∷◌, Option, Some, refl, ap, arith}
-use Rattle.std.specs.Prelude.{reverse, IfSome}
+use Rattle.std.proofs.Common.{◌≡◌, ℕ, ◌+◌, ◌<◌, ◌≤◌, List, [], ◌∷◌, reverse, IfSome, Some, Option, refl, ap, arith}
 use Rattle.std.specs.List.{AllByRecursion}
+use Rattle.im_types.specs.Types.{Entry, Op, Waiting, Answered, I, M, Fetch, Store, Take, Put, Value, Stored, Clash}
+use Rattle.im_types.specs.Types.{Command, Contents, empty_contents, asker, Event, events, lives, last_entry}
+use Rattle.im_types.specs.Types.{lawful_entry, EachAfter}
 use Rattle.im_types.proofs.Tests.{differ}
-use Rattle.im_types.specs.declared.operations.Op.{Op}
-use Rattle.im_types.specs.declared.operations.Op.TheVariants.{Fetch, Store, Take, Put}
-use Rattle.im_types.specs.declared.operations.Kind.TheVariants.{I, M}
-use Rattle.im_types.specs.declared.operations.Reply.TheVariants.{Value, Stored, Clash}
-use Rattle.im_types.specs.declared.operations.Entry.{Entry}
-use Rattle.im_types.specs.declared.operations.Entry.TheVariants.{Waiting, Answered}
-use Rattle.im_types.specs.declared.commands.Command.{Command}
-use Rattle.im_types.specs.Contents.{Contents, empty_contents}
-use Rattle.im_types.specs.Step.{asker}
-use Rattle.im_types.specs.History.{Event, lives, events, last_entry, lawful_entry, EachAfter}
-use Rattle.im_laws.specs.Traces.{commands_of}
-use Rattle.im_laws.specs.Examples.{fetches, takes_and_puts}
+use Rattle.im_laws.specs.{Examples.fetches, Examples.takes_and_puts, Traces.commands_of}
 
 -- the value of an entry
 abbrev value_in : Option Entry → ℕ

@@ -1,32 +1,16 @@
 -- The last entry that is kept for a request: an answer stays until it is dropped, and then nothing is kept any more.
-use Rattle.std.proofs.Common.{◌≡◌, ◌⊎◌, inl, inr, ⊎_elim, ℕ, zero, suc, ◌+◌, ◌-◌, ◌<◌, ◌≤◌, List, [], ◌∷◌, length}
-use Rattle.std.proofs.Common.{max, take, drop, set, Some, None, Ok, Err, Bool, true, false, cond, refl, sym, ap, ◌∙◌}
-use Rattle.std.proofs.Common.{arith}
-use Rattle.std.specs.Prelude.{Option, Result, ◌==◌, slice_get, nat_lt, option_map, option_and_then}
+use Rattle.std.proofs.Common.{◌≡◌, ℕ, zero, suc, ◌+◌, ◌-◌, ◌<◌, ◌≤◌, max, Bool, true, false, cond, ◌⊎◌, List, [], ◌∷◌}
+use Rattle.std.proofs.Common.{length, take, drop, set, nat_lt, ◌==◌, slice_get, Some, None, Ok, Err, Option, Result}
+use Rattle.std.proofs.Common.{option_map, option_and_then, sym, refl, ap, ◌∙◌, inl, inr, ⊎_elim, arith}
+use Rattle.std.proofs.lemmas.{Bool.Decides.nat_tests, Option.none-some, Option.same_Some}
 use Rattle.std.specs.List.{list_any}
-use Rattle.std.proofs.lemmas.Option.{none-some, same_Some}
-use Rattle.std.proofs.lemmas.Bool.Decides.{nat_tests}
-use Rattle.im_types.proofs.Tests.{and_both, false_true}
-use Rattle.im_types.specs.declared.operations.Reply.{Reply}
-use Rattle.im_types.specs.declared.operations.Entry.{Entry}
-use Rattle.im_types.specs.declared.operations.Entry.TheVariants.{Answered}
-use Rattle.im_types.specs.declared.operations.Waiter.{Waiter}
-use Rattle.im_types.specs.declared.operations.Kept.{Kept}
-use Rattle.im_types.specs.declared.commands.Command.{Command}
-use Rattle.im_types.specs.declared.commands.Command.TheVariants.{Request as Asks, Confirm}
-use Rattle.im_types.specs.declared.commands.Judged.{Judged}
-use Rattle.im_types.specs.declared.commands.Judged.TheVariants.{Fresh, Repeat}
-use Rattle.im_types.specs.declared.refusals.Refusal.{Refusal}
-use Rattle.im_types.specs.declared.refusals.Refusal.TheVariants.{Gap, NotAnswered}
-use Rattle.im_types.specs.Contents.{Window, Contents, kept_under, kept_for}
-use Rattle.im_types.specs.Window.{with_window, note_in, note, answer_in, answer, answer_each, is_waiting_entry}
-use Rattle.im_types.specs.Window.{is_waiting, confirm_window, judge}
-use Rattle.im_types.specs.Act.{act}
-use Rattle.im_types.specs.Step.{asker, step, step_request, step_confirm}
-use Rattle.im_types.specs.Agreement.{StaysOrIsAnswered, WaitingAgrees, drops}
-use Rattle.im_types.specs.History.{latest, last_kept}
-use Rattle.im_laws.proofs.Tests.{eq_by_test}
-use Rattle.im_histories.proofs.Given.{kept_under-below, step-keeps, step-agrees}
+use Rattle.im_types.specs.Types.{Entry, Reply, Waiter, Kept, Answered, Command, Judged, Asks, Confirm, Fresh, Repeat}
+use Rattle.im_types.specs.Types.{Refusal, Gap, NotAnswered, Window, Contents, kept_under, kept_for, WaitingAgrees}
+use Rattle.im_types.specs.Types.{StaysOrIsAnswered, drops, act, judge, with_window, note_in, note, answer_in, answer}
+use Rattle.im_types.specs.Types.{answer_each, is_waiting_entry, is_waiting, confirm_window, asker, step_request}
+use Rattle.im_types.specs.Types.{step_confirm, step, latest, last_kept}
+use Rattle.{im_types.proofs.Tests.and_both, im_types.proofs.Tests.false_true, im_laws.proofs.Tests.eq_by_test}
+use Rattle.im_histories.proofs.Given.{kept_under-below, step-agrees, step-keeps}
 
 -- in the window of this element the number lies below the base
 abbrev pub IsPast : ℕ → ℕ → List Window → Type 0

@@ -1,24 +1,14 @@
 -- The law of one I cell, request by request: the state of the cell by the values stored so far.
-use Rattle.std.proofs.Common.{◌≡◌, inl, inr, ℕ, ◌≤◌, List, [], ◌∷◌, ◌++◌, length, Some, None, true, false, cond, refl}
-use Rattle.std.proofs.Common.{sym, ap, ◌∙◌, arith, length-append}
-use Rattle.std.specs.Prelude.{slice_get, nat_lt, ◌==◌}
-use Rattle.std.proofs.lemmas.Option.{none-some}
-use Rattle.std.proofs.lemmas.List.Elements.{filter_map-append}
-use Rattle.std.proofs.lemmas.Bool.Decides.{nat_tests}
+use Rattle.std.proofs.Common.{◌≡◌, ℕ, ◌≤◌, true, false, cond, List, [], ◌∷◌, ◌++◌, length, nat_lt, ◌==◌, slice_get}
+use Rattle.std.proofs.Common.{Some, None, sym, refl, ap, ◌∙◌, inl, inr, arith, length-append}
+use Rattle.std.proofs.lemmas.{Bool.Decides.nat_tests, List.Elements.filter_map-append, Option.none-some}
+use Rattle.im_types.specs.Types.{Entry, Op, Waiter, Waiting, Answered, I, Alloc, Release, Reset, Fetch, Store, Take}
+use Rattle.im_types.specs.Types.{Put, Value, Clash, CellState, Empty, Full, Clashed, waiters_of, Event, value_stored}
+use Rattle.im_types.specs.Types.{stores, value_or_waiting, entry_of_fetch}
 use Rattle.im_types.proofs.Tests.{false_true}
-use Rattle.im_types.specs.declared.operations.Op.{Op}
-use Rattle.im_types.specs.declared.operations.Op.TheVariants.{Alloc, Release, Reset, Fetch, Store, Take, Put}
-use Rattle.im_types.specs.declared.operations.Kind.TheVariants.{I}
-use Rattle.im_types.specs.declared.operations.Reply.TheVariants.{Value, Clash}
-use Rattle.im_types.specs.declared.operations.Entry.{Entry}
-use Rattle.im_types.specs.declared.operations.Entry.TheVariants.{Waiting, Answered}
-use Rattle.im_types.specs.declared.operations.Waiter.{Waiter}
-use Rattle.im_types.specs.Contents.{CellState, Empty, Full, Clashed, waiters_of}
-use Rattle.im_types.specs.History.{Event, value_stored, stores, value_or_waiting, entry_of_fetch}
-use Rattle.im_histories.proofs.ListLemmas.{get-left, get-end, if_tested, filter_map-skips, filter_map-adds}
-use Rattle.im_histories.proofs.CellStep.{is_for}
-use Rattle.im_histories.proofs.OneStep.{times-get}
-use Rattle.im_histories.proofs.CellLaw.{event_with, IsServed, served_at_once, CellLaw}
+use Rattle.im_histories.proofs.CellLaw.{CellLaw, event_with, IsServed, served_at_once}
+use Rattle.im_histories.proofs.{CellStep.is_for, OneStep.times-get}
+use Rattle.im_histories.proofs.ListLemmas.{filter_map-adds, filter_map-skips, get-end, get-left, if_tested}
 
 module _ (a : ℕ) where
   -- empty before the first store, full after it, clashed after the second

@@ -1,34 +1,19 @@
 -- A law of one cell, said request by request, holds of the cell's whole life.
-use Rattle.std.proofs.Common.{◌≡◌, ⊎_elim, ℕ, ◌≤◌, List, [], ◌∷◌, ◌++◌, Some, None, true, false, cond, refl, sym, ap}
-use Rattle.std.proofs.Common.{◌∙◌, subst, append_assoc, append-nil}
-use Rattle.std.specs.Prelude.{slice_get, IfSome, ◌||◌}
-use Rattle.std.proofs.lemmas.List.{get_or-set_same}
-use Rattle.std.proofs.lemmas.Option.{none-some, IfSome_then, MatchOption-from_none}
-use Rattle.im_types.specs.declared.operations.Op.{Op}
-use Rattle.im_types.specs.declared.operations.Op.TheVariants.{Alloc, Release, Reset, Fetch, Store, Take, Put}
-use Rattle.im_types.specs.declared.operations.Kind.{Kind}
-use Rattle.im_types.specs.declared.operations.Kind.TheVariants.{I, M}
-use Rattle.im_types.specs.declared.operations.Entry.{Entry}
-use Rattle.im_types.specs.declared.operations.Entry.TheVariants.{Waiting, Answered}
-use Rattle.im_types.specs.declared.operations.Waiter.{Waiter}
-use Rattle.im_types.specs.declared.commands.Request.{Request}
-use Rattle.im_types.specs.declared.commands.Command.{Command}
-use Rattle.im_types.specs.Contents.{Held, Contents, held_at, waiters_of, kept_for}
-use Rattle.im_types.specs.Window.{is_waiting_entry}
-use Rattle.im_types.specs.Agreement.{times, WaitingAgrees}
-use Rattle.im_types.specs.declared.operations.Reply.{Reply}
-use Rattle.im_types.specs.Act.{Served, Acted, serve_cell, act}
-use Rattle.im_types.specs.Step.{asker, step}
-use Rattle.im_types.specs.History.{Event, event_of, events, clears, ends_life, until_end, stores, entry_of_fetch}
-use Rattle.im_types.specs.History.{entry_of_take, entry_of_put, lawful_entry}
-use Rattle.im_histories.proofs.Given.{IsNext, held_at-within, step-agrees}
-use Rattle.im_histories.proofs.EndEntry.{Ends, ends-answered, ends-now, ends-later}
-use Rattle.im_histories.proofs.CellStep.{is_for, serve_op, answered_by, given_by, Meets, Passes, Serves, Frees}
-use Rattle.im_histories.proofs.CellStep.{Clears, meets}
-use Rattle.im_histories.proofs.OneStep.{contents_of, event_for, Takes, Silent, Asked, takes_command, IsSound}
-use Rattle.im_histories.proofs.OneStep.{sound-step, times-get, waiting_kept}
-use Rattle.im_histories.proofs.NewEntry.{own_entry, resumed_entry}
-use Rattle.im_histories.proofs.CellLaw.{IsServed, CellLaw}
+use Rattle.std.proofs.Common.{◌≡◌, ℕ, ◌≤◌, true, false, cond, ◌||◌, List, [], ◌∷◌, ◌++◌, IfSome, slice_get, Some, None}
+use Rattle.std.proofs.Common.{sym, refl, ap, ◌∙◌, subst, ⊎_elim, append_assoc, append-nil, get_or-set_same}
+use Rattle.std.proofs.lemmas.Option.{IfSome_then, MatchOption-from_none, none-some}
+use Rattle.im_types.specs.Types.{Entry, Kind, Op, Reply, Waiter, Waiting, Answered, I, M, Alloc, Release, Reset, Fetch}
+use Rattle.im_types.specs.Types.{Store, Take, Put, Request, Command, Held, Contents, held_at, waiters_of, kept_for}
+use Rattle.im_types.specs.Types.{times, WaitingAgrees, ServedCell as Served, Acted, serve_cell, act, is_waiting_entry}
+use Rattle.im_types.specs.Types.{asker, step, Event, event_of, events, clears, ends_life, until_end, stores}
+use Rattle.im_types.specs.Types.{entry_of_fetch, entry_of_take, entry_of_put, lawful_entry}
+use Rattle.im_histories.proofs.{CellLaw.CellLaw, CellLaw.IsServed, NewEntry.own_entry, NewEntry.resumed_entry}
+use Rattle.im_histories.proofs.CellStep.{answered_by, Clears, Frees, given_by, is_for, Meets, meets, Passes, serve_op}
+use Rattle.im_histories.proofs.CellStep.{Serves}
+use Rattle.im_histories.proofs.EndEntry.{Ends, ends-answered, ends-later, ends-now}
+use Rattle.im_histories.proofs.Given.{held_at-within, IsNext, step-agrees}
+use Rattle.im_histories.proofs.OneStep.{Asked, contents_of, event_for, IsSound, Silent, sound-step, Takes}
+use Rattle.im_histories.proofs.OneStep.{takes_command, times-get, waiting_kept}
 
 nil_split : (before : List Event) (x : Event) (later : List Event) → [] ≡ before ++ x ∷ later → ⊥
 nil_split [] x later e = cc

@@ -1,10 +1,8 @@
 -- Elements of lists, by place and each, and what tests come to.
-use Rattle.std.proofs.Common.{◌≡◌, ℕ, zero, suc, List, [], ◌∷◌, ◌++◌, length, Some, None, Bool, true, cond, refl, sym}
-use Rattle.std.proofs.Common.{ap, ◌∙◌, subst, arith, append-nil}
-use Rattle.std.specs.Prelude.{Option, slice_get, filter_map, IfSome}
-use Rattle.std.specs.List.{cons_option, AllByRecursion}
-use Rattle.std.proofs.lemmas.Option.{none-some}
-use Rattle.std.proofs.lemmas.List.Elements.{filter_map-append}
+use Rattle.std.proofs.Common.{◌≡◌, ℕ, zero, suc, Bool, true, cond, List, [], ◌∷◌, ◌++◌, length, IfSome, slice_get, Some}
+use Rattle.std.proofs.Common.{None, Option, filter_map, sym, refl, ap, ◌∙◌, subst, append-nil, arith}
+use Rattle.std.proofs.lemmas.{List.Elements.filter_map-append, Option.none-some}
+use Rattle.std.specs.List.{AllByRecursion, cons_option}
 
 pub get-left : {X : Type 0} (xs ys : List X) (k : ℕ) (x : X) → slice_get xs k ≡ Some x → slice_get (xs ++ ys) k ≡ Some x
 get-left [] ys k x at = absurd (none-some x at)

@@ -1,32 +1,16 @@
 -- What is kept after a new request: its own entry, and the replies of those that it resumes.
-use Rattle.std.proofs.Common.{◌≡◌, ℕ, zero, suc, ◌≤◌, List, [], map, take, drop, Some, None, Bool, true, false, cond}
-use Rattle.std.proofs.Common.{refl, sym, ap, ◌∙◌, arith}
-use Rattle.std.specs.Prelude.{Option, ◌==◌, option_map}
-use Rattle.std.specs.List.{list_any}
-use Rattle.std.proofs.lemmas.Option.{none-some}
-use Rattle.im_types.specs.declared.operations.Op.{Op}
-use Rattle.im_types.specs.declared.operations.Op.TheVariants.{Alloc, Release, Reset, Fetch, Store, Take, Put}
-use Rattle.im_types.specs.declared.operations.Kind.{Kind}
-use Rattle.im_types.specs.declared.operations.Kind.TheVariants.{I, M}
-use Rattle.im_types.specs.declared.operations.Block.{Block}
-use Rattle.im_types.specs.declared.operations.Reply.{Reply}
-use Rattle.im_types.specs.declared.operations.Reply.TheVariants.{BadLength, NoCell, WrongKind, Released, Cleared}
-use Rattle.im_types.specs.declared.operations.Reply.TheVariants.{StillWaiting}
-use Rattle.im_types.specs.declared.operations.Entry.{Entry}
-use Rattle.im_types.specs.declared.operations.Entry.TheVariants.{Answered}
-use Rattle.im_types.specs.declared.operations.Waiter.{Waiter}
-use Rattle.im_types.specs.declared.operations.Kept.{Kept}
-use Rattle.im_types.specs.declared.commands.Request.{Request}
-use Rattle.im_types.specs.Contents.{Held, Window, Contents, held_at, kept_for}
-use Rattle.im_types.specs.Place.{place, fill, change_each}
-use Rattle.im_types.specs.Window.{note, answer_each}
-use Rattle.im_types.specs.Act.{Acted, only_tells, same_kind, serve_cell, at_cell, allocate, allocate_at}
-use Rattle.im_types.specs.Act.{block_with_base, is_waiting_cell, unless_waited_for, emptied, act}
-use Rattle.im_types.specs.Step.{asker}
-use Rattle.im_types.specs.Agreement.{same_waiter, times, WaitingAgrees}
-use Rattle.im_histories.proofs.Given.{answered_kept, kept_for-note, same_waiter-equal, same_waiter-self, IsNext}
-use Rattle.im_histories.proofs.Given.{kept_for-next, AreKept, AfterAnswers, answer_each-AfterAnswers}
-use Rattle.im_histories.proofs.CellStep.{serve_op, answered_by, given_by, resumed_by_serve, answered_have_waited}
+use Rattle.std.proofs.Common.{◌≡◌, ℕ, zero, suc, ◌≤◌, Bool, true, false, cond, List, [], map, take, drop, ◌==◌, Some}
+use Rattle.std.proofs.Common.{None, Option, option_map, sym, refl, ap, ◌∙◌, arith}
+use Rattle.std.{proofs.lemmas.Option.none-some, specs.List.list_any}
+use Rattle.im_types.specs.Types.{Entry, Kind, Op, Reply, Waiter, Block, Kept, Answered, I, M, Alloc, Release, Reset}
+use Rattle.im_types.specs.Types.{Fetch, Store, Take, Put, BadLength, NoCell, WrongKind, Released, StillWaiting, Cleared}
+use Rattle.im_types.specs.Types.{Request, Held, Window, Contents, held_at, kept_for, same_waiter, times, WaitingAgrees}
+use Rattle.im_types.specs.Types.{place, fill, change_each, Acted, only_tells, same_kind, serve_cell, at_cell}
+use Rattle.im_types.specs.Types.{allocate_at, allocate, block_with_base, is_waiting_cell, unless_waited_for, emptied}
+use Rattle.im_types.specs.Types.{act, note, answer_each, asker}
+use Rattle.im_histories.proofs.CellStep.{answered_by, answered_have_waited, given_by, resumed_by_serve, serve_op}
+use Rattle.im_histories.proofs.Given.{AfterAnswers, answer_each-AfterAnswers, answered_kept, AreKept, IsNext}
+use Rattle.im_histories.proofs.Given.{kept_for-next, kept_for-note, same_waiter-equal, same_waiter-self}
 use Rattle.im_histories.proofs.OneStep.{contents_of, waiting_kept}
 
 -- what is kept after a new request with an entry, which resumes some requests

@@ -1,24 +1,13 @@
 -- One command on a memory: it leaves the cells, or it is a new request, which its operation serves.
-use Rattle.std.proofs.Common.{◌≡◌, ℕ, zero, suc, ◌≤◌, List, [], ◌∷◌, Some, Ok, Err, Bool, true, false, cond, refl}
-use Rattle.std.proofs.Common.{sym, ap, ◌∙◌, subst, arith}
-use Rattle.std.specs.Prelude.{Result, slice_get}
+use Rattle.std.proofs.Common.{◌≡◌, ℕ, zero, suc, ◌≤◌, Bool, true, false, cond, List, [], ◌∷◌, slice_get, Some, Ok, Err}
+use Rattle.std.proofs.Common.{Result, sym, refl, ap, ◌∙◌, subst, arith}
 use Rattle.std.proofs.lemmas.Option.{none-some, same_Some}
-use Rattle.im_types.specs.declared.operations.Waiter.{Waiter}
-use Rattle.im_types.specs.declared.operations.Kept.{Kept}
-use Rattle.im_types.specs.declared.commands.Request.{Request}
-use Rattle.im_types.specs.declared.commands.Command.{Command}
-use Rattle.im_types.specs.declared.commands.Command.TheVariants.{Request as Asks, Confirm}
-use Rattle.im_types.specs.declared.commands.Judged.{Judged}
-use Rattle.im_types.specs.declared.commands.Judged.TheVariants.{Fresh, Repeat}
-use Rattle.im_types.specs.declared.refusals.Refusal.{Refusal}
-use Rattle.im_types.specs.Contents.{Held, Window, Contents, held_at, waiters_of, kept_for, HasBlocks}
-use Rattle.im_types.specs.Window.{judge, confirm_window, is_waiting, note, answer_each}
-use Rattle.im_types.specs.Act.{Acted, act}
-use Rattle.im_types.specs.Step.{asker, step, step_request, step_confirm, is_fresh}
-use Rattle.im_types.specs.Agreement.{same_waiter, times, awaiting, waits_for, WaitingAgrees}
-use Rattle.im_types.specs.History.{Event, event_of}
-use Rattle.im_histories.proofs.Given.{IsNext, judge-fresh, act-blocks, step-agrees, listed_at, one_if, waits_for-kept}
-use Rattle.im_histories.proofs.Given.{same_waiter-self}
+use Rattle.im_types.specs.Types.{Waiter, Kept, Request, Command, Judged, Asks, Confirm, Fresh, Repeat, Refusal, Held}
+use Rattle.im_types.specs.Types.{Window, Contents, held_at, waiters_of, kept_for, HasBlocks, same_waiter, times}
+use Rattle.im_types.specs.Types.{awaiting, waits_for, WaitingAgrees, Acted, act, judge, note, answer_each, is_waiting}
+use Rattle.im_types.specs.Types.{confirm_window, asker, step_request, step_confirm, step, is_fresh, Event, event_of}
+use Rattle.im_histories.proofs.Given.{act-blocks, IsNext, judge-fresh, listed_at, one_if, same_waiter-self, step-agrees}
+use Rattle.im_histories.proofs.Given.{waits_for-kept}
 
 -- the memory after an operation of a new request
 abbrev pub contents_of : Contents → Request → Acted → Contents

@@ -1,31 +1,17 @@
 -- The law of one M cell, request by request: the state of the cell by how many puts and takes there were so far.
-use Rattle.std.proofs.Common.{◌≡◌, ◌⊎◌, inl, inr, ℕ, zero, suc, ◌+◌, ◌<◌, ◌≤◌, List, [], ◌∷◌, ◌++◌, length, Some}
-use Rattle.std.proofs.Common.{None, Bool, true, false, cond, refl, sym, ap, ◌∙◌, arith, length-append, append_assoc}
-use Rattle.std.proofs.Common.{append-nil}
-use Rattle.std.specs.Prelude.{slice_get, nat_lt, ◌==◌, ◌&&◌, ◌||◌, IfSome, is_some}
-use Rattle.std.proofs.Math.Bool.{or_assoc}
-use Rattle.std.proofs.lemmas.Option.{none-some, slice_get_past}
-use Rattle.std.proofs.lemmas.List.Elements.{filter_map-append}
-use Rattle.std.proofs.lemmas.List.Sums.{sum_by-append}
-use Rattle.std.proofs.lemmas.Bool.Decides.{nat_tests}
+use Rattle.std.proofs.Common.{◌≡◌, ℕ, zero, suc, ◌+◌, ◌<◌, ◌≤◌, Bool, true, false, cond, ◌&&◌, ◌||◌, ◌⊎◌, List, [], ◌∷◌}
+use Rattle.std.proofs.Common.{◌++◌, length, is_some, IfSome, nat_lt, ◌==◌, slice_get, Some, None, sym, refl, ap, ◌∙◌}
+use Rattle.std.proofs.Common.{inl, inr, append_assoc, append-nil, arith, length-append}
+use Rattle.std.proofs.lemmas.{Bool.Decides.nat_tests, Option.none-some, Option.slice_get_past}
+use Rattle.std.proofs.{lemmas.List.Elements.filter_map-append, lemmas.List.Sums.sum_by-append, Math.Bool.or_assoc}
+use Rattle.im_types.specs.Types.{Entry, Op, Reply, Waiter, Waiting, Answered, M, Alloc, Release, Reset, Fetch, Store}
+use Rattle.im_types.specs.Types.{Take, Put, Value, Stored, Clash, CellState, Empty, Full, Clashed, waiters_of, times}
+use Rattle.im_types.specs.Types.{put, Event, value_put, is_take, puts, takes, value_or_waiting, has_clash}
+use Rattle.im_types.specs.Types.{entry_of_take, entry_of_put, lawful_entry}
 use Rattle.im_types.proofs.Tests.{false_true}
-use Rattle.im_types.specs.declared.operations.Op.{Op}
-use Rattle.im_types.specs.declared.operations.Op.TheVariants.{Alloc, Release, Reset, Fetch, Store, Take, Put}
-use Rattle.im_types.specs.declared.operations.Kind.TheVariants.{M}
-use Rattle.im_types.specs.declared.operations.Reply.{Reply}
-use Rattle.im_types.specs.declared.operations.Reply.TheVariants.{Value, Stored, Clash}
-use Rattle.im_types.specs.declared.operations.Entry.{Entry}
-use Rattle.im_types.specs.declared.operations.Entry.TheVariants.{Waiting, Answered}
-use Rattle.im_types.specs.declared.operations.Waiter.{Waiter}
-use Rattle.im_types.specs.Contents.{CellState, Empty, Full, Clashed, waiters_of}
-use Rattle.im_types.specs.Act.{put}
-use Rattle.im_types.specs.Agreement.{times}
-use Rattle.im_types.specs.History.{Event, value_put, is_take, puts, takes, value_or_waiting, has_clash, entry_of_take}
-use Rattle.im_types.specs.History.{entry_of_put, lawful_entry}
-use Rattle.im_histories.proofs.ListLemmas.{get-left, get-end, if_tested, filter_map-skips, filter_map-adds}
-use Rattle.im_histories.proofs.CellStep.{is_for}
-use Rattle.im_histories.proofs.OneStep.{times-get}
-use Rattle.im_histories.proofs.CellLaw.{event_with, served_by, IsServed, served_at_once, CellLaw}
+use Rattle.im_histories.proofs.CellLaw.{CellLaw, event_with, IsServed, served_at_once, served_by}
+use Rattle.im_histories.proofs.{CellStep.is_for, OneStep.times-get}
+use Rattle.im_histories.proofs.ListLemmas.{filter_map-adds, filter_map-skips, get-end, get-left, if_tested}
 
 or_false : (t : Bool) → (t || false) ≡ t
 or_false true = refl

@@ -1,12 +1,6 @@
 -- What becomes of the entry that a request was given at once. (Own.)
-use Rattle.std.specs.Prelude.{◌≡◌, List, IsSomeAnd}
-use Rattle.std.specs.List.{AllByRecursion}
-use Rattle.im_types.specs.declared.operations.Entry.{Entry}
-use Rattle.im_types.specs.declared.operations.Entry.TheVariants.{Waiting, Answered}
-use Rattle.im_types.specs.declared.commands.Command.{Command}
-use Rattle.im_types.specs.Contents.{Contents}
-use Rattle.im_types.specs.Step.{asker}
-use Rattle.im_types.specs.History.{events, last_entry}
+use Rattle.std.specs.{Prelude.◌≡◌, Prelude.List, Prelude.IsSomeAnd, List.AllByRecursion}
+use Rattle.im_types.specs.Types.{Entry, Waiting, Answered, Command, Contents, asker, events, last_entry}
 
 -- an answer stays; a request that waits may be answered, or wait on
 abbrev pub MayBecome : Entry → Entry → Type 0

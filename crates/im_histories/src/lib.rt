@@ -3,9 +3,7 @@
 #![tactic(auto)]
 
 ghost use Rattle.std.specs.Prelude.{ℕ, List};
-ghost use Rattle.im_types.specs.declared.commands.Command.{Command};
-ghost use Rattle.im_types.specs.Contents.{empty_contents};
-ghost use Rattle.im_types.specs.History.{MatchingLaw, ValueLaw};
+ghost use Rattle.im_types.specs.Types.{Command, empty_contents, ValueLaw, MatchingLaw};
 ghost use Rattle.im_histories.specs.Entries.{EntryLaw};
 
 /// The value law of I cells. Each fetch of a cell in a block's life has, in the end, the first value that is stored

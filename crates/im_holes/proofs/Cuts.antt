@@ -1,10 +1,7 @@
 -- What is left of the marks and lengths of holes where cells are taken and given back.
-use Rattle.std.proofs.Common.{◌≡◌, ℕ, ◌+◌, ◌*◌, ◌/◌, ◌<◌, ◌≤◌, max, List, length, Bool}
-use Rattle.std.proofs.Common.{false, inl, inr, ap, arith}
-use Rattle.std.proofs.lemmas.Bool.{cases_eq, cases_lt}
-use Rattle.std.proofs.lemmas.List.{get_or_past}
-use Rattle.im_holes.specs.declared.tags.TheConstants.{PART}
-use Rattle.im_holes.specs.Holes.{kept_at, begin_at, length_by}
+use Rattle.std.proofs.Common.{◌≡◌, ℕ, ◌+◌, ◌*◌, ◌/◌, ◌<◌, ◌≤◌, max, Bool, false, List, length, ap, inl, inr, arith}
+use Rattle.std.proofs.lemmas.{Bool.cases_eq, Bool.cases_lt, List.get_or_past}
+use Rattle.im_holes.specs.{declared.tags.TheConstants.PART, Holes.begin_at, Holes.kept_at, Holes.length_by}
 
 -- the largest among the cells of a part before this one
 pub record IsLargestTo (lengths : ℕ → ℕ) (part at largest : ℕ) : Type 0 where

@@ -1,19 +1,16 @@
 -- Cells are given back, and the holes beside them are joined with them.
-use Rattle.std.proofs.Common.{◌≡◌, ◌≢◌, ℕ, zero, suc, ◌+◌, ◌-◌, ◌<◌, ◌≤◌, List, [], ◌∷◌, length, set, Bool, true}
-use Rattle.std.proofs.Common.{false, Some, None}
-use Rattle.std.proofs.Common.{inl, inr, refl, sym, ap, ◌∙◌, subst, arith, length-set, Option, get_or}
-use Rattle.std.specs.Prelude.{IsSome}
-use Rattle.std.proofs.lemmas.Bool.{cases_eq, cases_lt}
-use Rattle.std.proofs.lemmas.List.{get_or-set_same, get_or-set_other, get_or_past, ext_get_or}
-use Rattle.im_types.specs.Place.{fill}
-use Rattle.im_laws.proofs.Tests.{true_or_false}
-use Rattle.im_laws.proofs.BlockLemmas.{length-fill, get_or-fill_in}
-use Rattle.im_holes.specs.Holes.{holder_at, free_at, mark_at, kept_at, begin_at, told_cells, IsHole, HasTags}
-use Rattle.im_holes.specs.Holes.{AreHoles, IsRenewed, AreHeld, MeetsHole, joined_marks, joined_tags}
-use Rattle.im_holes.proofs.Runs.{neither, not-there, hole-at, IsFront, IsBack, joined-one, joined-others}
-use Rattle.im_holes.proofs.Runs.{joined-all, Outside}
-use Rattle.im_holes.proofs.Shown.{cell_by, length-cells, get-cells, begin-own, begin-none, begin-hole, hole-begins}
-use Rattle.im_holes.proofs.Kept.{patched, patched-in, patched-out, AreHoles-renewed}
+use Rattle.std.proofs.Common.{◌≡◌, ℕ, zero, suc, ◌+◌, ◌-◌, ◌<◌, ◌≤◌, Bool, true, false, ◌≢◌, List, [], ◌∷◌, length}
+use Rattle.std.proofs.Common.{get_or, set, IsSome, Some, None, Option, sym, refl, ap, ◌∙◌, subst, inl, inr, arith}
+use Rattle.std.proofs.Common.{length-set, get_or-set_other, get_or-set_same, ext_get_or}
+use Rattle.std.proofs.lemmas.{Bool.cases_eq, Bool.cases_lt, List.get_or_past}
+use Rattle.im_types.specs.Types.{fill}
+use Rattle.im_laws.proofs.{BlockLemmas.get_or-fill_in, BlockLemmas.length-fill, Tests.true_or_false}
+use Rattle.im_holes.proofs.Kept.{AreHoles-renewed, patched, patched-in, patched-out}
+use Rattle.im_holes.proofs.Runs.{hole-at, IsBack, IsFront, joined-all, joined-one, joined-others, neither, not-there}
+use Rattle.im_holes.proofs.Runs.{Outside}
+use Rattle.im_holes.proofs.Shown.{begin-hole, begin-none, begin-own, cell_by, get-cells, hole-begins, length-cells}
+use Rattle.im_holes.specs.Holes.{AreHeld, AreHoles, begin_at, free_at, HasTags, holder_at, IsHole, IsRenewed}
+use Rattle.im_holes.specs.Holes.{joined_marks, joined_tags, kept_at, mark_at, MeetsHole, told_cells}
 
 -- a cell after a fill
 pub fill-out : {X : Type 0} (xs : List (Option X)) (base n : ℕ) (x : Option X) (k : ℕ) → (base ≤ k → k < base + n → ⊥)

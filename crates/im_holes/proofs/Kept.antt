@@ -1,22 +1,18 @@
 -- What is kept of all cells, where some are taken and given back.
-use Rattle.std.proofs.Common.{◌≡◌, ◌≢◌, ℕ, zero, suc, ◌+◌, ◌-◌, ◌*◌, ◌/◌, ◌<◌, ◌≤◌, List, ◌∷◌, length, set}
-use Rattle.std.proofs.Common.{replicate, Bool, true, false}
-use Rattle.std.proofs.Common.{None, Some, get_or, inl, inr, refl, sym, ap, ◌∙◌, subst, arith, length-set}
-use Rattle.std.specs.Prelude.{if◌then◌else◌, nat_lt, IsSome, is_some, ◌^◌}
-use Rattle.std.proofs.lemmas.Bool.{cases_eq, cases_lt}
-use Rattle.std.proofs.lemmas.Bool.Decides.{nat_tests}
-use Rattle.std.proofs.lemmas.List.{get_or-set_same, get_or-set_other, get_or_past, ext_get_or, length-replicate}
-use Rattle.im_types.specs.Place.{place}
-use Rattle.im_laws.proofs.Tests.{true_or_false}
+use Rattle.std.proofs.Common.{◌≡◌, ℕ, zero, suc, ◌+◌, ◌-◌, ◌*◌, ◌/◌, ◌^◌, ◌<◌, ◌≤◌, Bool, true, false, ◌≢◌, List, ◌∷◌}
+use Rattle.std.proofs.Common.{length, get_or, set, replicate, is_some, if◌then◌else◌, IsSome, nat_lt, Some, None, sym}
+use Rattle.std.proofs.Common.{refl, ap, ◌∙◌, subst, inl, inr, arith, length-set, get_or-set_other, get_or-set_same}
+use Rattle.std.proofs.Common.{ext_get_or}
+use Rattle.std.proofs.lemmas.Bool.{cases_eq, cases_lt, Decides.nat_tests}
+use Rattle.std.proofs.lemmas.List.{get_or_past, length-replicate}
+use Rattle.{im_types.specs.Types.place, im_laws.proofs.Tests.true_or_false}
+use Rattle.im_holes.proofs.{Cuts.begin-past, Least.place-first, Least.place-none_first, Runs.neither}
+use Rattle.im_holes.proofs.Nodes.{leaf-upto, leaves-some, lowest-root}
+use Rattle.im_holes.proofs.Shown.{begin-none, begin-own, cell_by, get-cells, HasTags-shown, length-cells}
 use Rattle.im_holes.specs.declared.tags.TheConstants.{PART}
-use Rattle.im_holes.specs.Tree.{at_node, leaf_count, IsFirst, IsZeroTree}
-use Rattle.im_holes.specs.Holes.{holder_at, free_at, mark_at, kept_at, begin_at, told_cells, cells_from}
-use Rattle.im_holes.specs.Holes.{IsHole, HasTags, IsLargest, HasLeaf, IsLeast, IsRenewed, AreHoles}
-use Rattle.im_holes.proofs.Nodes.{leaves-some, leaf-upto, lowest-root}
-use Rattle.im_holes.proofs.Runs.{neither}
-use Rattle.im_holes.proofs.Shown.{cell_by, length-cells, get-cells, HasTags-shown, begin-own, begin-none}
-use Rattle.im_holes.proofs.Cuts.{begin-past}
-use Rattle.im_holes.proofs.Least.{place-first, place-none_first}
+use Rattle.im_holes.specs.Holes.{AreHoles, begin_at, cells_from, free_at, HasLeaf, HasTags, holder_at, IsHole}
+use Rattle.im_holes.specs.Holes.{IsLargest, IsLeast, IsRenewed, kept_at, mark_at, told_cells}
+use Rattle.im_holes.specs.Tree.{at_node, IsFirst, IsZeroTree, leaf_count}
 
 -- the leaf of each cell is there
 pub leaf-inside : (begins : List Bool) (tags nodes : List ℕ) (k : ℕ) → AreHoles begins tags nodes → k < length tags

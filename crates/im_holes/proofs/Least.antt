@@ -1,13 +1,11 @@
 -- The least place, by the lengths of holes at their first cells.
-use Rattle.std.proofs.Common.{◌≡◌, ℕ, zero, suc, ◌+◌, ◌<◌, ◌≤◌, List, [], ◌∷◌, length, Bool, true, false, Option}
-use Rattle.std.proofs.Common.{None, Some, inl, inr, refl, arith}
+use Rattle.std.proofs.Common.{◌≡◌, ℕ, zero, suc, ◌+◌, ◌<◌, ◌≤◌, Bool, true, false, List, [], ◌∷◌, length, Some, None}
+use Rattle.std.proofs.Common.{Option, refl, inl, inr, arith}
 use Rattle.std.proofs.lemmas.Bool.{cases_lt}
-use Rattle.im_types.specs.Place.{begins_free, is_free, place}
-use Rattle.im_laws.proofs.Tests.{true_or_false}
-use Rattle.im_laws.proofs.PlaceLemmas.{place-is_least, place-is_none}
-use Rattle.im_holes.specs.Holes.{free_at, begin_at, HasTags}
-use Rattle.im_holes.proofs.Runs.{neither, hole-at}
-use Rattle.im_holes.proofs.Shown.{begin-hole, hole-begins}
+use Rattle.im_types.specs.Types.{begins_free, is_free, place}
+use Rattle.im_laws.proofs.{PlaceLemmas.place-is_least, PlaceLemmas.place-is_none, Tests.true_or_false}
+use Rattle.im_holes.proofs.{Runs.hole-at, Runs.neither, Shown.begin-hole, Shown.hole-begins}
+use Rattle.im_holes.specs.Holes.{begin_at, free_at, HasTags}
 
 -- where all of n cells are free
 free-front : (n : ℕ) (cells : List (Option ℕ)) → ((k : ℕ) → k < n → free_at cells k ≡ true) → begins_free n cells ≡ true

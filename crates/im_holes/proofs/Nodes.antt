@@ -1,10 +1,8 @@
 -- The tree of maxima: a leaf that changes, and the first leaf that is large enough.
-use Rattle.std.proofs.Common.{◌≡◌, ◌≢◌, ℕ, zero, suc, ◌+◌, ◌-◌, ◌*◌, ◌/◌, ◌<◌, ◌≤◌, max, List, length, set, inl}
-use Rattle.std.proofs.Common.{inr, refl}
-use Rattle.std.proofs.Common.{sym, ap, ◌∙◌, arith, length-set}
+use Rattle.std.proofs.Common.{◌≡◌, ℕ, zero, suc, ◌+◌, ◌-◌, ◌*◌, ◌/◌, ◌<◌, ◌≤◌, max, ◌≢◌, List, length, set, sym, refl}
+use Rattle.std.proofs.Common.{ap, ◌∙◌, inl, inr, arith, length-set, get_or-set_other, get_or-set_same}
 use Rattle.std.proofs.lemmas.Bool.{cases_eq, cases_lt}
-use Rattle.std.proofs.lemmas.List.{get_or-set_same, get_or-set_other}
-use Rattle.im_holes.specs.Tree.{at_node, row_length, leaf_count, IsLarger, HasMaxima, IsFirst, IsUpTo, IsStart}
+use Rattle.im_holes.specs.Tree.{at_node, HasMaxima, IsFirst, IsLarger, IsStart, IsUpTo, leaf_count, row_length}
 
 -- a node stays joined where it and the two below it stay
 pub joined-kept : (old new : List ℕ) (k : ℕ) → at_node new k ≡ at_node old k → at_node new (2 * k)

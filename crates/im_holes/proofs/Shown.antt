@@ -1,12 +1,11 @@
 -- The cells that marks and numbers stand for.
-use Rattle.std.proofs.Common.{◌≡◌, ◌⊎◌, ℕ, zero, suc, pred, ◌+◌, ◌<◌, ◌≤◌, max, List, [], ◌∷◌, length, Bool, true}
-use Rattle.std.proofs.Common.{false, Option, None, Some, get_or, inl, inr, refl, sym, ap, ◌∙◌, subst, arith}
-use Rattle.std.proofs.lemmas.Bool.{cases_lt}
-use Rattle.std.proofs.lemmas.List.{get_or_past}
+use Rattle.std.proofs.Common.{◌≡◌, ℕ, zero, suc, pred, ◌+◌, ◌<◌, ◌≤◌, max, Bool, true, false, ◌⊎◌, List, [], ◌∷◌}
+use Rattle.std.proofs.Common.{length, get_or, Some, None, Option, sym, refl, ap, ◌∙◌, subst, inl, inr, arith}
+use Rattle.std.proofs.lemmas.{Bool.cases_lt, List.get_or_past}
 use Rattle.im_laws.proofs.Tests.{true_or_false}
-use Rattle.im_holes.specs.Holes.{free_at, is_free_cell, mark_at, kept_at, begin_at, length_by, cell_in_run, cells_from}
-use Rattle.im_holes.specs.Holes.{told_cells, IsHole, HasTags}
-use Rattle.im_holes.proofs.Runs.{neither, hole-at, IsHole-by}
+use Rattle.im_holes.proofs.Runs.{hole-at, IsHole-by, neither}
+use Rattle.im_holes.specs.Holes.{begin_at, cell_in_run, cells_from, free_at, HasTags, is_free_cell, IsHole, kept_at}
+use Rattle.im_holes.specs.Holes.{length_by, mark_at, told_cells}
 
 -- the first n cells are free, and those of each mark
 pub record Covers (n : ℕ) (free : ℕ → Bool) (begins : List Bool) (tags : List ℕ) : Type 0 where

@@ -1,16 +1,14 @@
 -- Cells are taken from the front of a hole.
-use Rattle.std.proofs.Common.{◌≡◌, ◌≢◌, ℕ, ◌+◌, ◌-◌, ◌<◌, ◌≤◌, List, length, set, Bool, true, false, Some, None}
-use Rattle.std.proofs.Common.{inl, inr, refl, sym, ap, ◌∙◌, subst, arith, length-set}
-use Rattle.std.specs.Prelude.{if◌then◌else◌, is_some}
-use Rattle.std.proofs.lemmas.Bool.{cases_eq, cases_lt}
-use Rattle.std.proofs.lemmas.List.{get_or-set_same, get_or-set_other, get_or_past}
+use Rattle.std.proofs.Common.{◌≡◌, ℕ, ◌+◌, ◌-◌, ◌<◌, ◌≤◌, Bool, true, false, ◌≢◌, List, length, set, is_some}
+use Rattle.std.proofs.Common.{if◌then◌else◌, Some, None, sym, refl, ap, ◌∙◌, subst, inl, inr, arith, length-set}
+use Rattle.std.proofs.Common.{get_or-set_other, get_or-set_same}
+use Rattle.std.proofs.lemmas.{Bool.cases_eq, Bool.cases_lt, List.get_or_past}
 use Rattle.im_laws.proofs.Tests.{true_or_false}
-use Rattle.im_holes.specs.Holes.{holder_at, free_at, mark_at, kept_at, begin_at, told_cells, marked, tagged, cut_marks}
-use Rattle.im_holes.specs.Holes.{cut_tags, IsHole, AreTakenFrom, HasTags, IsRenewed, AreHoles}
-use Rattle.im_holes.proofs.Runs.{neither, not-there, taken-rest, taken-others, taken-all, Beside}
-use Rattle.im_holes.proofs.Runs.{less-free}
-use Rattle.im_holes.proofs.Shown.{cell_by, length-cells, get-cells, begin-own, begin-none}
-use Rattle.im_holes.proofs.Kept.{patched, patched-in, patched-out, AreHoles-renewed, lt-yes, lt-not}
+use Rattle.im_holes.proofs.Kept.{AreHoles-renewed, lt-not, lt-yes, patched, patched-in, patched-out}
+use Rattle.im_holes.proofs.Runs.{Beside, less-free, neither, not-there, taken-all, taken-others, taken-rest}
+use Rattle.im_holes.proofs.Shown.{begin-none, begin-own, cell_by, get-cells, length-cells}
+use Rattle.im_holes.specs.Holes.{AreHoles, AreTakenFrom, begin_at, cut_marks, cut_tags, free_at, HasTags, holder_at}
+use Rattle.im_holes.specs.Holes.{IsHole, IsRenewed, kept_at, mark_at, marked, tagged, told_cells}
 
 -- what became of the marks and of the lengths, cell by cell
 pub record IsCut (begins begins2 : List Bool) (tags tags2 : List ℕ) (base n l : ℕ) : Type 0 where

@@ -1,10 +1,9 @@
 -- Holes among cells: rows of free cells that no free cell can lengthen. (Own.)
-use Rattle.std.specs.Prelude.{◌≡◌, ◌≢◌, ℕ, zero, suc, pred, ◌+◌, ◌-◌, ◌*◌, ◌/◌, ◌^◌, ◌<◌, ◌≤◌, max, List, [], ◌∷◌}
-use Rattle.std.specs.Prelude.{length}
-use Rattle.std.specs.Prelude.{Bool, true, false, Option, None, Some, IsSome, if◌then◌else◌, slice_index_or}
-use Rattle.std.specs.Prelude.{slice_set, nat_lt}
+use Rattle.std.specs.Prelude.{◌≡◌, ℕ, zero, suc, pred, ◌+◌, ◌-◌, ◌*◌, ◌/◌, ◌^◌, ◌<◌, ◌≤◌, max, Bool, true, false, ◌≢◌}
+use Rattle.std.specs.Prelude.{List, [], ◌∷◌, length, if◌then◌else◌, IsSome, nat_lt, slice_index_or, slice_set, Some}
+use Rattle.std.specs.Prelude.{None, Option}
 use Rattle.im_holes.specs.declared.tags.TheConstants.{PART}
-use Rattle.im_holes.specs.Tree.{at_node, leaf_count, row_length, HasMaxima}
+use Rattle.im_holes.specs.Tree.{at_node, HasMaxima, leaf_count, row_length}
 
 -- a cell: None for a free one and past the last cell, and the holder's number for a held one
 abbrev pub holder_at : List (Option ℕ) → ℕ → Option ℕ

@@ -1,5 +1,5 @@
 -- A tree of maxima in one list: node 1 is its root, and the nodes below node k are 2 k and 2 k + 1. (Own.)
-use Rattle.std.specs.Prelude.{◌≡◌, ◌≢◌, ℕ, zero, suc, ◌+◌, ◌*◌, ◌/◌, ◌<◌, ◌≤◌, max, List, length, slice_index_or}
+use Rattle.std.specs.Prelude.{◌≡◌, ℕ, zero, suc, ◌+◌, ◌*◌, ◌/◌, ◌<◌, ◌≤◌, max, ◌≢◌, List, length, slice_index_or}
 
 -- a node of the tree
 abbrev pub at_node : List ℕ → ℕ → ℕ

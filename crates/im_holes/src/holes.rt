@@ -1,8 +1,8 @@
 //! The holes of a table of cells.
-ghost use Rattle.std.specs.Prelude.{◌≡◌, ℕ, ◌+◌, ◌<◌, ◌≤◌, length, replicate, slice_set, None, Some, IsSome, IsNone};
-ghost use Rattle.std.specs.Prelude.{IfSome, IfOk};
-ghost use Rattle.im_types.specs.Place.{place, fill};
-ghost use Rattle.im_holes.specs.Holes.{holder_at, begin_at, told_cells, AreTakenFrom, AreHeld, AreHoles};
+ghost use Rattle.std.specs.Prelude.{◌≡◌, ℕ, ◌+◌, ◌<◌, ◌≤◌, length, replicate, IfSome, IfOk, IsSome, IsNone, slice_set};
+ghost use Rattle.std.specs.Prelude.{Some, None};
+ghost use Rattle.im_types.specs.Types.{place, fill};
+ghost use Rattle.im_holes.specs.Holes.{AreHeld, AreHoles, AreTakenFrom, begin_at, holder_at, told_cells};
 
 use crate::tags::{
     PART, behind_of, count, cut, first_in, front_of, join, no_marks, no_numbers, renew_two, tag,
@@ -24,8 +24,8 @@ pub struct Holes {
 }
 
 impl Model for Holes {
-    ghost use Rattle.std.specs.Prelude.{List, Option, ℕ};
-    ghost use Rattle.im_holes.specs.Holes.{told_cells, AreHoles};
+    ghost use Rattle.std.specs.Prelude.{ℕ, List, Option};
+    ghost use Rattle.im_holes.specs.Holes.{AreHoles, told_cells};
 
     ghost Value = { List (Option ℕ) };
 

@@ -1,10 +1,8 @@
 //! Boundary tags: a mark at the first cell of a hole, and the hole's length at its first and its last cell.
-ghost use Rattle.std.specs.Prelude.{◌≡◌, ℕ, false, slice_set, ◌+◌, ◌*◌, ◌/◌, ◌<◌, ◌≤◌, ◌^◌, length, replicate};
-ghost use Rattle.std.specs.Prelude.{IfOk};
-ghost use Rattle.im_holes.specs.Tree.{leaf_count, IsMaxTree};
-ghost use Rattle.im_holes.specs.Holes.{mark_at, kept_at, begin_at, IsLargest, HasLeaf, IsLeast};
-ghost use Rattle.im_holes.specs.Holes.{marked, tagged, cut_marks, cut_tags, joined_marks, joined_tags};
-ghost use Rattle.im_holes.specs.Holes.{MeetsHole, IsRenewed};
+ghost use Rattle.std.specs.Prelude.{◌≡◌, ℕ, ◌+◌, ◌*◌, ◌/◌, ◌^◌, ◌<◌, ◌≤◌, false, length, replicate, IfOk, slice_set};
+ghost use Rattle.im_holes.specs.Holes.{begin_at, cut_marks, cut_tags, HasLeaf, IsLargest, IsLeast, IsRenewed};
+ghost use Rattle.im_holes.specs.Holes.{joined_marks, joined_tags, kept_at, mark_at, marked, MeetsHole, tagged};
+ghost use Rattle.im_holes.specs.Tree.{IsMaxTree, leaf_count};
 
 use crate::tree::put;
 use std::alloc::{AllocError, Global};

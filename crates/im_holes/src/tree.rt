@@ -1,8 +1,8 @@
 //! A tree of maxima, complete and in one list. Node 1 is its root, and the nodes below node k are 2 k and 2 k + 1. The
 //! caller gives the numbers of the leaves.
-ghost use Rattle.std.specs.Prelude.{◌≡◌, ℕ, false, slice_set, max, ◌+◌, ◌*◌, ◌<◌, ◌≤◌, ◌^◌, length, IfOk};
-ghost use Rattle.im_holes.specs.Tree.{at_node, row_length, leaf_count, IsMaxTree, IsPut, IsUp, IsUpTo, IsFirst};
-ghost use Rattle.im_holes.specs.Tree.{IsStart, IsZeroTree};
+ghost use Rattle.std.specs.Prelude.{◌≡◌, ℕ, ◌+◌, ◌*◌, ◌^◌, ◌<◌, ◌≤◌, max, false, length, IfOk, slice_set};
+ghost use Rattle.im_holes.specs.Tree.{at_node, IsFirst, IsMaxTree, IsPut, IsStart, IsUp, IsUpTo, IsZeroTree};
+ghost use Rattle.im_holes.specs.Tree.{leaf_count, row_length};
 
 use std::alloc::{AllocError, Global};
 

@@ -1,19 +1,16 @@
 -- The pages of an area that spells records.
-use Rattle.std.proofs.Common.{◌≡◌, ◌⊎◌, inl, inr, ℕ, suc, ◌+◌, ◌-◌, ◌*◌, ◌/◌, ◌<◌, ◌≤◌, List, length, take, drop}
-use Rattle.std.proofs.Common.{refl, sym, ap, ◌∙◌, arith}
-use Rattle.std.specs.Prelude.{slice_get}
-use Rattle.std.proofs.Math.Nat.{mul-suc, mul-sub, mul-le-mul_left}
-use Rattle.std.proofs.lemmas.Bool.{cases_lt}
-use Rattle.std.proofs.lemmas.List.{drop-replicate, take-replicate, length-drop, length-take-le}
+use Rattle.std.proofs.Common.{◌≡◌, ℕ, suc, ◌+◌, ◌-◌, ◌*◌, ◌/◌, ◌<◌, ◌≤◌, ◌⊎◌, List, length, take, drop, slice_get, sym}
+use Rattle.std.proofs.Common.{refl, ap, ◌∙◌, inl, inr, arith, length-drop, length-take-le}
+use Rattle.std.proofs.lemmas.{Bool.cases_lt, List.drop-replicate, List.take-replicate}
 use Rattle.std.proofs.lemmas.Option.{slice_get-get_or, slice_get_past}
-use Rattle.im_types.specs.Bytes.{zeros}
-use Rattle.im_types.specs.Layout.{Sizes, layout_in_use, page_bytes, area_bytes, area_pages, cell_pages, node_pages}
-use Rattle.im_types.specs.Layout.{session_pages, node_count, cell_part, node_part, session_part, record_at}
-use Rattle.im_types.specs.Pages.{Records, IsRow, SpellsArea}
+use Rattle.std.proofs.Math.Nat.{mul-le-mul_left, mul-sub, mul-suc}
+use Rattle.im_types.specs.Types.{layout_in_use, Sizes, page_bytes, node_count, cell_pages, node_pages, session_pages}
+use Rattle.im_types.specs.Types.{area_pages, area_bytes, cell_part, node_part, session_part, record_at, zeros, Records}
+use Rattle.im_types.specs.Types.{IsRow, SpellsArea}
+use Rattle.im_records.proofs.Joining.{length_of_take, page_of_drop, page_of_take}
+use Rattle.im_records.proofs.Pieces.{of_page, record_behind, record_is}
 use Rattle.im_records.specs.Paging.{bytes_or_zeros}
-use Rattle.im_records.proofs.Pieces.{record_is, of_page, record_behind}
-use Rattle.im_records.proofs.Joining.{page_of_take, page_of_drop, length_of_take}
-use Rattle.im_image.specs.Encoding.{SpellsPage, IsAreaPage}
+use Rattle.im_image.specs.Encoding.{IsAreaPage, SpellsPage}
 
 -- a record of zeros
 zeros_at : (size n i : ℕ) → size * i + size ≤ n → record_at size (zeros n) i ≡ zeros size

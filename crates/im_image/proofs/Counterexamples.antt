@@ -2,28 +2,18 @@
 -- is weaker,
 -- fails at an area that is written out here. Of two areas with other windows each shows a memory, so the laws of one
 -- area are met.
-use Rattle.std.proofs.Common.{◌≡◌, ℕ, zero, suc, ◌+◌, ◌-◌, ◌<◌, nat_lt, Bool, true, false, List, [], ◌∷◌, get_or}
-use Rattle.std.proofs.Common.{replicate, Option, None, Some, if◌then◌else◌, refl, sym, ap, ◌∙◌, subst, arith}
-use Rattle.std.specs.Prelude.{slice_get, slice_index_or}
+use Rattle.std.proofs.Common.{◌≡◌, ℕ, zero, suc, ◌+◌, ◌-◌, ◌<◌, Bool, true, false, List, [], ◌∷◌, get_or, replicate}
+use Rattle.std.proofs.Common.{if◌then◌else◌, nat_lt, slice_get, slice_index_or, Some, None, Option, sym, refl, ap, ◌∙◌}
+use Rattle.std.proofs.Common.{subst, arith}
 use Rattle.std.proofs.lemmas.List.{length-replicate}
-use Rattle.im_types.proofs.Tests.{differ}
-use Rattle.im_types.specs.declared.operations.Kept.{Kept}
-use Rattle.im_types.specs.declared.records.PresenceTag.TheVariants.{Empty as TagEmpty, Waiting as TagWaiting}
-use Rattle.im_types.specs.declared.records.PresenceTag.TheVariants.{Full as TagFull, Clashed as TagClashed}
-use Rattle.im_types.specs.declared.records.CellRecord.{CellRecord}
-use Rattle.im_types.specs.declared.records.CellRecord.TheVariants.{Free as FreeCell, Held as BlockCell}
-use Rattle.im_types.specs.Sizes.{AreLimits}
-use Rattle.im_types.specs.Layout.{Sizes, layout_in_use, area_pages, record_at, page_bytes}
-use Rattle.im_types.specs.Contents.{Window, Contents, new_window, empty_contents, kept_for, held_at}
-use Rattle.im_types.specs.Agreement.{waits_in}
-use Rattle.im_types.specs.Memory.{IsWindow, IsMemory}
-use Rattle.im_types.specs.Records.{cell_bytes, FitsWindow}
-use Rattle.im_types.specs.Pages.{Records, SpellsArea, ShowsRecords, Shows}
-use Rattle.im_laws.proofs.MemoryLemmas.{empty-memory}
-use Rattle.im_records.specs.Paging.{joined}
-use Rattle.im_image.specs.Encoding.{IsAreaPage, AreCounted}
-use Rattle.im_image.proofs.FreshArea.{area_with, records_with, contents_with, area_spelled, records_show, no_kept}
-use Rattle.im_image.proofs.FreshArea.{new_window_fits}
+use Rattle.im_types.specs.Types.{Kept, AreLimits, Window, Contents, new_window, held_at, kept_for, empty_contents}
+use Rattle.im_types.specs.Types.{IsWindow, IsMemory, waits_in, layout_in_use, Sizes, page_bytes, area_pages, record_at}
+use Rattle.im_types.specs.Types.{CellRecord, TagEmpty, TagWaiting, TagFull, TagClashed, FreeCell, BlockCell, cell_bytes}
+use Rattle.im_types.specs.Types.{FitsWindow, Records, SpellsArea, ShowsRecords, Shows}
+use Rattle.{im_types.proofs.Tests.differ, im_laws.proofs.MemoryLemmas.empty-memory, im_records.specs.Paging.joined}
+use Rattle.im_image.proofs.FreshArea.{area_spelled, area_with, contents_with, new_window_fits, no_kept, records_show}
+use Rattle.im_image.proofs.FreshArea.{records_with}
+use Rattle.im_image.specs.Encoding.{AreCounted, IsAreaPage}
 
 -- ---- two areas: of the least sizes, with the new window and with one whose first entry was confirmed
 

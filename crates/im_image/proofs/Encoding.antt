@@ -1,25 +1,17 @@
 -- Pages that are made record by record, and the area that they make.
-use Rattle.std.proofs.Common.{◌≡◌, ◌≢◌, ⊎_elim, ℕ, zero, suc, ◌+◌, ◌-◌, ◌*◌, ◌/◌, ◌%◌, ◌<◌, ◌≤◌, List, ◌++◌, ◌∷◌, []}
-use Rattle.std.proofs.Common.{length, take, get_or, Some, None, Ok, Err, refl, sym, ap, subst, ◌∙◌, arith}
-use Rattle.std.specs.Prelude.{Option, slice_get, slice_index_or}
-use Rattle.std.proofs.lemmas.Bool.{cases_lt}
-use Rattle.std.proofs.lemmas.List.{take_more, take_all}
-use Rattle.std.proofs.lemmas.Option.{slice_get-get_or, slice_get_past, get_or_from_slice_get}
-use Rattle.im_types.specs.declared.TheConstants.{NONE, WINDOW}
-use Rattle.im_types.specs.declared.refusals.Refusal.{Refusal}
-use Rattle.im_types.specs.declared.operations.Kept.{Kept}
-use Rattle.im_types.specs.Contents.{Window, Contents, new_window, kept_for}
-use Rattle.im_types.specs.Window.{next_number, bounds_of, bounds}
-use Rattle.im_types.specs.Layout.{Sizes, layout_in_use, area_bytes, area_pages, cell_pages, node_pages, session_pages}
-use Rattle.im_types.specs.Layout.{node_count, record_at}
-use Rattle.im_types.specs.declared.records.CellRecord.TheVariants.{Free as FreeCell}
-use Rattle.im_types.specs.declared.records.NodeRecord.TheVariants.{Free as FreeNode}
-use Rattle.im_types.specs.Records.{FitsCell, FitsNode, FitsWindow}
-use Rattle.im_types.specs.Pages.{Records, ShowsRecords, Shows}
-use Rattle.im_laws.proofs.WindowLemmas.{kept_under-from, kept_for-here}
-use Rattle.im_records.specs.Paging.{bytes_or_zeros, ArePages, FitRecords, joined}
-use Rattle.im_records.proofs.Joining.{joined_is_area, area_of_pages}
-use Rattle.im_image.specs.Encoding.{SpellsPage, SpellsCells, SpellsNodes, SpellsSessions, IsAreaPage, AreCounted}
+use Rattle.std.proofs.Common.{◌≡◌, ℕ, zero, suc, ◌+◌, ◌-◌, ◌*◌, ◌/◌, ◌%◌, ◌<◌, ◌≤◌, ◌≢◌, List, [], ◌∷◌, ◌++◌, length}
+use Rattle.std.proofs.Common.{get_or, take, slice_get, slice_index_or, Some, None, Ok, Err, Option, sym, refl, ap, ◌∙◌}
+use Rattle.std.proofs.Common.{subst, ⊎_elim, arith, take_all}
+use Rattle.std.proofs.lemmas.{Bool.cases_lt, List.take_more}
+use Rattle.std.proofs.lemmas.Option.{get_or_from_slice_get, slice_get-get_or, slice_get_past}
+use Rattle.im_types.specs.Types.{Kept, Refusal, WINDOW, NONE, Window, Contents, new_window, kept_for, next_number}
+use Rattle.im_types.specs.Types.{bounds_of, bounds, layout_in_use, Sizes, node_count, cell_pages, node_pages}
+use Rattle.im_types.specs.Types.{session_pages, area_pages, area_bytes, record_at, FreeCell, FreeNode, FitsCell}
+use Rattle.im_types.specs.Types.{FitsNode, FitsWindow, Records, ShowsRecords, Shows}
+use Rattle.im_laws.proofs.WindowLemmas.{kept_for-here, kept_under-from}
+use Rattle.im_records.proofs.Joining.{area_of_pages, joined_is_area}
+use Rattle.im_records.specs.Paging.{ArePages, bytes_or_zeros, FitRecords, joined}
+use Rattle.im_image.specs.Encoding.{AreCounted, IsAreaPage, SpellsCells, SpellsNodes, SpellsPage, SpellsSessions}
 
 -- records that are put on a page one by one
 module _ {X : Type 0} (size per : ℕ) (spelled : X → List ℕ) (Fits : X → Type 0) (none : X) (row : List X) (i : ℕ) where

@@ -1,26 +1,18 @@
 -- The area of a new image shows the empty memory.
-use Rattle.std.proofs.Common.{◌≡◌, ℕ, zero, suc, ◌+◌, ◌*◌, ◌-◌, ◌/◌, ◌<◌, ◌≤◌, List, [], ◌∷◌, ◌++◌, length, take}
-use Rattle.std.proofs.Common.{drop, replicate, slice_range, slice_index_or, inl, Option, None, Some, refl, sym, ap}
-use Rattle.std.proofs.Common.{◌∙◌, arith, subst, slice_get, mul-zero, zero-add}
-use Rattle.std.proofs.Math.Nat.{mul-suc}
-use Rattle.std.proofs.lemmas.List.{length-append, length-replicate, append_assoc, take_at, drop_at, drop-drop}
-use Rattle.im_types.specs.declared.TheConstants.{NONE}
-use Rattle.im_types.specs.declared.operations.Kept.{Kept}
-use Rattle.im_types.specs.Contents.{Held, Window, Contents, new_window, empty_contents}
-use Rattle.im_types.specs.Memory.{IsMemory}
-use Rattle.im_types.specs.Bytes.{zeros}
-use Rattle.im_types.specs.Layout.{Sizes, layout_in_use, page_bytes, cell_pages, node_pages, session_pages, area_bytes}
-use Rattle.im_types.specs.Layout.{node_count, cell_record_bytes, node_record_bytes, session_record_bytes, cell_part}
-use Rattle.im_types.specs.Layout.{node_part, session_part, record_at}
-use Rattle.im_types.specs.declared.records.CellRecord.TheVariants.{Free as FreeCell}
-use Rattle.im_types.specs.declared.records.NodeRecord.{NodeRecord}
-use Rattle.im_types.specs.declared.records.NodeRecord.TheVariants.{Free as FreeNode}
-use Rattle.im_types.specs.Records.{cell_bytes, node_bytes, session_bytes, FitsCell, FitsNode, FitsWindow}
-use Rattle.im_types.specs.Chains.{HaveChains, all_uses, bit, is_listed}
-use Rattle.im_types.specs.Pages.{Records, IsRow, SpellsArea, ShowsRecords, Shows, cells_shown}
+use Rattle.std.proofs.Common.{◌≡◌, ℕ, zero, suc, ◌+◌, ◌-◌, ◌*◌, ◌/◌, ◌<◌, ◌≤◌, List, [], ◌∷◌, ◌++◌, length, take, drop}
+use Rattle.std.proofs.Common.{replicate, slice_get, slice_index_or, slice_range, Some, None, Option, sym, refl, ap, ◌∙◌}
+use Rattle.std.proofs.Common.{subst, inl, append_assoc, mul-zero, zero-add, arith, length-append, drop-drop, take_at}
+use Rattle.std.proofs.Common.{drop_at}
+use Rattle.std.proofs.{lemmas.List.length-replicate, Math.Nat.mul-suc}
+use Rattle.im_types.specs.Types.{Kept, NONE, Held, Window, Contents, new_window, empty_contents, IsMemory}
+use Rattle.im_types.specs.Types.{layout_in_use, Sizes, page_bytes, cell_record_bytes, node_record_bytes}
+use Rattle.im_types.specs.Types.{session_record_bytes, node_count, cell_pages, node_pages, session_pages, area_bytes}
+use Rattle.im_types.specs.Types.{cell_part, node_part, session_part, record_at, zeros, NodeRecord, FreeCell, FreeNode}
+use Rattle.im_types.specs.Types.{cell_bytes, node_bytes, FitsCell, FitsNode, session_bytes, FitsWindow, HaveChains, bit}
+use Rattle.im_types.specs.Types.{all_uses, is_listed, Records, IsRow, SpellsArea, cells_shown, ShowsRecords, Shows}
 use Rattle.im_records.proofs.Parts.{cells_fit}
-use Rattle.im_image.specs.Fresh.{repeated, new_cell_record, new_node_record, new_row, new_area}
 use Rattle.im_image.proofs.Rows.{length-repeated}
+use Rattle.im_image.specs.Fresh.{new_area, new_cell_record, new_node_record, new_row, repeated}
 
 less : (a b : ℕ) → (a + b) - a ≡ b
 less a b = omega arith

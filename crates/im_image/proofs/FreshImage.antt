@@ -1,26 +1,16 @@
 -- A new image has no fault in its length and its headers, and its area in force shows the empty memory.
-use Rattle.std.proofs.Common.{◌≡◌, ℕ, zero, suc, ◌+◌, ◌*◌, ◌-◌, ◌≤◌, ◌&&◌, ◌==◌, nat_lt, nat_le, not, Bool, true}
-use Rattle.std.proofs.Common.{List, ◌∷◌, ◌++◌, length, take, drop, slice_range, Option, None, Some, refl, sym}
-use Rattle.std.proofs.Common.{ap, subst, ◌∙◌, arith, if◌then◌else◌}
-use Rattle.std.proofs.lemmas.List.{length-append, append_assoc, take_at, drop_at, drop-drop}
-use Rattle.im_types.specs.declared.TheConstants.{MAX_CELLS, MAX_ELEMENTS, MIN_SLOTS, MAX_SLOTS}
-use Rattle.im_types.specs.declared.refusals.Refusal.{Refusal}
-use Rattle.im_types.specs.declared.refusals.Refusal.TheVariants.{WrongLength, BadHeader}
-use Rattle.im_types.specs.Sizes.{AreLimits}
-use Rattle.im_types.specs.Contents.{empty_contents}
-use Rattle.im_types.specs.Memory.{IsMemory}
-use Rattle.im_types.specs.Bytes.{zeros}
-use Rattle.im_types.specs.Layout.{Sizes, layout_in_use, are_sizes, area_bytes, area_of, image_length}
-use Rattle.im_types.specs.Header.{Header, header_body, header_in, header_place, header_of, header_fault, place_fault}
-use Rattle.im_types.specs.Header.{place_in_force as place_of, spells_header, or_else}
-use Rattle.im_types.specs.Pages.{Shows}
-use Rattle.im_types.specs.Meaning.{IsShown}
-use Rattle.im_formats.specs.Fitting.{FitsHeader}
-use Rattle.im_formats.proofs.Headers.{header_in-spelled, spells_header-spelled}
-use Rattle.im_image.specs.Fresh.{new_header, new_area, new_image}
+use Rattle.std.proofs.Common.{◌≡◌, ℕ, zero, suc, ◌+◌, ◌-◌, ◌*◌, ◌≤◌, Bool, true, not, ◌&&◌, List, ◌∷◌, ◌++◌, length}
+use Rattle.std.proofs.Common.{take, drop, if◌then◌else◌, nat_lt, nat_le, ◌==◌, slice_range, Some, None, Option, sym}
+use Rattle.std.proofs.Common.{refl, ap, ◌∙◌, subst, append_assoc, arith, length-append, drop-drop, take_at, drop_at}
+use Rattle.im_types.specs.Types.{Refusal, WrongLength, BadHeader, MAX_CELLS, MAX_ELEMENTS, MIN_SLOTS, MAX_SLOTS}
+use Rattle.im_types.specs.Types.{AreLimits, empty_contents, IsMemory, layout_in_use, Sizes, are_sizes, area_bytes}
+use Rattle.im_types.specs.Types.{image_length, area_of, zeros, Header, header_body, header_in, spells_header}
+use Rattle.im_types.specs.Types.{header_place, place_in_force as place_of, place_fault, header_of, or_else}
+use Rattle.im_types.specs.Types.{header_fault, Shows, IsShown}
+use Rattle.im_formats.{proofs.Headers.header_in-spelled, proofs.Headers.spells_header-spelled, specs.Fitting.FitsHeader}
 use Rattle.im_image.proofs.FreshArea.{length-area, length-zeros, new_area_shows}
-use Rattle.im_image.proofs.Headers.{le_is, same_itself}
-use Rattle.im_image.proofs.ImageStart.{long}
+use Rattle.im_image.proofs.{Headers.le_is, Headers.same_itself, ImageStart.long}
+use Rattle.im_image.specs.Fresh.{new_area, new_header, new_image}
 
 abbrev first : Sizes → List ℕ
 first s = 0xA5 ∷ header_body (new_header s)

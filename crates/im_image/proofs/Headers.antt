@@ -1,17 +1,13 @@
 -- What the tests of a header say.
-use Rattle.std.proofs.Common.{◌≡◌, ℕ, ◌≤◌, ◌&&◌, ◌==◌, nat_le, Bool, true, false, Option, None, IsSome, is_some, List}
-use Rattle.std.proofs.Common.{sym, ap, ◌∙◌, arith, slice_range, if◌then◌else◌}
+use Rattle.std.proofs.Common.{◌≡◌, ℕ, ◌≤◌, Bool, true, false, ◌&&◌, List, is_some, if◌then◌else◌, IsSome, nat_le, ◌==◌}
+use Rattle.std.proofs.Common.{slice_range, None, Option, sym, ap, ◌∙◌, arith}
 use Rattle.std.proofs.lemmas.Bool.Decides.{nat_tests}
+use Rattle.im_types.specs.Types.{MAX_CELLS, MAX_ELEMENTS, MIN_SLOTS, MAX_SLOTS, LAST, AreLimits, layout_1, layout_2}
+use Rattle.im_types.specs.Types.{layout_named, Sizes, are_sizes, same_bytes, Header, header_body, header_in, is_header}
+use Rattle.im_types.specs.Types.{spells_header, is_second, number_in_force, place_in_force}
 use Rattle.im_types.proofs.Tests.{false_true}
-use Rattle.im_types.specs.declared.TheConstants.{LAST, MAX_CELLS, MAX_ELEMENTS, MIN_SLOTS, MAX_SLOTS}
-use Rattle.im_types.specs.Sizes.{AreLimits}
-use Rattle.im_types.specs.Bytes.{same_bytes}
-use Rattle.im_types.specs.Layout.{Sizes, layout_1, layout_2, layout_named, are_sizes}
-use Rattle.im_types.specs.Header.{Header, header_in, header_body, is_header, spells_header, is_second}
-use Rattle.im_types.specs.Header.{number_in_force, place_in_force}
+use Rattle.im_formats.proofs.{Headers.spells_header-only, Same.both_true}
 use Rattle.im_image.specs.Headers.{layout_at}
-use Rattle.im_formats.proofs.Same.{both_true}
-use Rattle.im_formats.proofs.Headers.{spells_header-only}
 
 pub le_true : (m n : ℕ) → nat_le m n ≡ true → m ≤ n
 le_true m n e = grind (arith, nat_tests)

@@ -1,15 +1,10 @@
 -- The first fault of an image is the one of its beginning.
-use Rattle.std.proofs.Common.{◌≡◌, ◌⊎◌, inr, ℕ, ◌≤◌, nat_lt, Bool, false, List, length, Some, None, Result}
-use Rattle.std.proofs.Common.{Ok, Err, OnOk, IfErr, sym, ap, ◌∙◌, arith, if◌then◌else◌}
+use Rattle.std.proofs.Common.{◌≡◌, ℕ, ◌≤◌, Bool, false, ◌⊎◌, List, length, IfErr, if◌then◌else◌, OnOk, nat_lt, Some}
+use Rattle.std.proofs.Common.{None, Ok, Err, Result, sym, ap, ◌∙◌, inr, arith}
 use Rattle.std.proofs.lemmas.Bool.Decides.{nat_tests}
-use Rattle.im_types.specs.declared.refusals.Refusal.{Refusal}
-use Rattle.im_types.specs.declared.refusals.Refusal.TheVariants.{WrongLength, Device}
-use Rattle.im_types.specs.Header.{header_place}
-use Rattle.im_image.specs.declared.in_force.ImageStart.{ImageStart}
-use Rattle.im_image.specs.declared.header.Header.{Header}
-use Rattle.im_image.specs.declared.versions.Versions.{Versions}
-use Rattle.im_image.specs.Headers.{beginning_fault, first_fault}
-use Rattle.im_image.specs.ImageStart.{IsImageStart}
+use Rattle.im_types.specs.Types.{Refusal, Device, WrongLength, header_place}
+use Rattle.im_image.specs.declared.{header.Header.Header, in_force.ImageStart.ImageStart, versions.Versions.Versions}
+use Rattle.im_image.specs.{Headers.beginning_fault, Headers.first_fault, ImageStart.IsImageStart}
 
 -- a file with room for two header places isn't short
 pub long : (n : ℕ) → 8192 ≤ n → nat_lt n 8192 ≡ false

@@ -1,15 +1,12 @@
 -- What the area of a header in force shows.
-use Rattle.std.proofs.Common.{◌≡◌, ℕ, ◌+◌, ◌-◌, ◌≤◌, List, length, take, drop, slice_range, ◌==◌, nat_lt, Bool, true}
-use Rattle.std.proofs.Common.{false, Option, None, Some, if◌then◌else◌, refl, sym, ap, subst, ◌∙◌, arith}
-use Rattle.im_types.specs.declared.refusals.Refusal.{Refusal}
-use Rattle.im_types.specs.declared.refusals.Refusal.TheVariants.{WrongLength}
-use Rattle.im_types.specs.Contents.{Contents}
-use Rattle.im_types.specs.Layout.{Layout, Sizes, area_at, area_bytes, area_of, image_length}
-use Rattle.im_types.specs.Header.{Header, header_of, header_fault, header_place, place_fault, or_else}
-use Rattle.im_types.specs.Pages.{Shows}
-use Rattle.im_types.specs.Meaning.{IsShown}
+use Rattle.std.proofs.Common.{◌≡◌, ℕ, ◌+◌, ◌-◌, ◌≤◌, Bool, true, false, List, length, take, drop, if◌then◌else◌, nat_lt}
+use Rattle.std.proofs.Common.{◌==◌, slice_range, Some, None, Option, sym, refl, ap, ◌∙◌, subst, arith, take-take}
+use Rattle.std.proofs.Common.{drop-drop}
+use Rattle.std.proofs.lemmas.List.{drop-take}
+use Rattle.im_types.specs.Types.{Refusal, WrongLength, Contents, Layout, Sizes, area_bytes, area_at, image_length}
+use Rattle.im_types.specs.Types.{area_of, Header, header_place, place_fault, header_of, or_else, header_fault, Shows}
+use Rattle.im_types.specs.Types.{IsShown}
 use Rattle.im_laws.proofs.Tests.{eq_by_test}
-use Rattle.std.proofs.lemmas.List.{take-take, drop-take, drop-drop}
 
 -- what a file shows, the area of its header in force shows
 pub shown-in : (l : Layout) (h : Header) (file area : List ℕ) (m : Contents) → h ≡ header_of file → area

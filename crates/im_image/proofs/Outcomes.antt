@@ -1,22 +1,12 @@
 -- What an image means, from the parts that are read of it.
-use Rattle.std.proofs.Common.{◌≡◌, ◌⊎◌, inl, inr, ⊎_elim, ℕ, ◌+◌, ◌*◌, ◌≤◌, Bool, true, false, List, [], ◌∷◌, length}
-use Rattle.std.proofs.Common.{Option, None, Some, Result, Ok, Err, MatchOption, if◌then◌else◌, ◌&&◌, refl, sym, ap}
-use Rattle.std.proofs.Common.{◌∙◌, subst, arith}
-use Rattle.std.specs.Prelude.{IfOk, IfErr, unwrap_or}
-use Rattle.im_types.specs.declared.commands.Command.{Command}
-use Rattle.im_types.specs.declared.refusals.Refusal.{Refusal}
-use Rattle.im_types.specs.declared.refusals.Refusal.TheVariants.{NoMemory, Device, BadPage, BadRecord}
-use Rattle.im_types.specs.Contents.{Contents}
-use Rattle.im_types.specs.Header.{Header, header_of, header_fault, layout_in}
-use Rattle.im_types.specs.Layout.{Layout, ring_of, image_length}
-use Rattle.im_types.specs.Journal.{Tail, tail}
-use Rattle.im_types.specs.Meaning.{Reached, IsShown, Reads, accept_in, can_stand, reached_by, reached_after}
-use Rattle.im_types.specs.Meaning.{read_journal}
-use Rattle.im_types.specs.Step.{step, is_accepted}
+use Rattle.std.proofs.Common.{◌≡◌, ℕ, ◌+◌, ◌*◌, ◌≤◌, Bool, true, false, ◌&&◌, ◌⊎◌, List, [], ◌∷◌, length, IfOk, IfErr}
+use Rattle.std.proofs.Common.{if◌then◌else◌, Some, None, Ok, Err, Option, Result, MatchOption, unwrap_or, sym, refl, ap}
+use Rattle.std.proofs.Common.{◌∙◌, subst, inl, inr, ⊎_elim, arith}
+use Rattle.im_types.specs.Types.{Command, Refusal, Device, NoMemory, BadPage, BadRecord, Contents, step, is_accepted}
+use Rattle.im_types.specs.Types.{Layout, image_length, ring_of, Header, header_of, header_fault, layout_in, Tail, tail}
+use Rattle.im_types.specs.Types.{Reached, can_stand, accept_in, reached_by, reached_after, read_journal, IsShown, Reads}
 use Rattle.im_laws.proofs.MemoryLemmas.{step-cell_count, step-window_count}
-use Rattle.im_disk.specs.declared.disk.Disk.{Ghosts}
-use Rattle.im_disk.specs.Moment.{Moment}
-use Rattle.im_disk.specs.Runs.{ReadsOrRefuses}
+use Rattle.im_disk.specs.{declared.Disk.Ghosts, Moment.Moment, Runs.ReadsOrRefuses}
 use Rattle.im_image.proofs.OpenArea.{length_of_image}
 
 -- the outcome of reading a file, by the fault of its headers

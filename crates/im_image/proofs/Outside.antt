@@ -1,12 +1,10 @@
 -- A page that shows no record that changed has the same bytes.
-use Rattle.std.proofs.Common.{◌≡◌, ℕ, ◌+◌, ◌*◌, ◌<◌, List, length, get_or, sym, ap, subst, ◌∙◌, arith}
-use Rattle.std.specs.Prelude.{Option, slice_get, slice_index_or, unwrap_or}
-use Rattle.std.proofs.lemmas.Option.{slice_get_within, slice_get-get_or, unwrap_or-slice_get}
-use Rattle.im_types.specs.Layout.{Sizes}
-use Rattle.im_types.specs.Pages.{Records}
-use Rattle.im_pages.specs.Places.{AgreeOnPage}
-use Rattle.im_records.specs.Paging.{bytes_or_zeros}
-use Rattle.im_image.specs.Encoding.{SpellsPage, IsAreaPage, SameOn}
+use Rattle.std.proofs.Common.{◌≡◌, ℕ, ◌+◌, ◌*◌, ◌<◌, List, length, get_or, slice_get, slice_index_or, Option, unwrap_or}
+use Rattle.std.proofs.Common.{sym, ap, ◌∙◌, subst, arith}
+use Rattle.std.proofs.lemmas.Option.{slice_get-get_or, slice_get_within, unwrap_or-slice_get}
+use Rattle.im_types.specs.Types.{Sizes, Records}
+use Rattle.{im_pages.specs.Places.AgreeOnPage, im_records.specs.Paging.bytes_or_zeros}
+use Rattle.im_image.specs.Encoding.{IsAreaPage, SameOn, SpellsPage}
 
 module _ {X : Type 0} (size per : ℕ) (spelled : X → List ℕ) (Fits : X → Type 0) (none : X) (row other : List X) (i : ℕ)
     (agree : (k : ℕ) → k < per → slice_get other (per * i + k) ≡ slice_get row (per * i + k)) where

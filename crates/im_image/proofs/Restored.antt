@@ -1,27 +1,13 @@
 -- A memory that is put together from the records of an area.
-use Rattle.std.proofs.Common.{◌≡◌, ⊎_elim, ℕ, ◌+◌, ◌*◌, ◌<◌, ◌≤◌, List, [], length, take, set, get_or, sym, ap, ◌∙◌}
-use Rattle.std.proofs.Common.{subst, arith, length-set}
-use Rattle.std.specs.List.{sum_by}
-use Rattle.std.proofs.lemmas.Bool.{cases_lt}
-use Rattle.std.proofs.lemmas.List.{get_or-set_same, get_or-set_other, ext_get_or}
-use Rattle.std.proofs.lemmas.List.Sums.{sum_by-set, sum_by_more}
-use Rattle.im_types.specs.declared.TheConstants.{WINDOW, NONE}
-use Rattle.im_types.specs.declared.operations.Waiter.{Waiter}
-use Rattle.im_types.specs.declared.records.CellRecord.{CellRecord}
-use Rattle.im_types.specs.declared.records.NodeRecord.{NodeRecord}
-use Rattle.im_types.specs.Chains.{ShowLists}
-use Rattle.im_types.specs.Contents.{Window, Contents}
-use Rattle.im_types.specs.declared.layout.Version.{Version}
-use Rattle.im_types.specs.declared.layout.Version.TheVariants.{One, Two}
-use Rattle.im_types.specs.Layout.{Sizes, layout_of}
-use Rattle.im_types.specs.Memory.{IsMemory}
-use Rattle.im_types.specs.Pages.{Records, SpellsArea, ShowsRecords, Shows, cells_shown}
-use Rattle.im_types.specs.Sizes.{AreLimits}
+use Rattle.std.proofs.Common.{◌≡◌, ℕ, ◌+◌, ◌*◌, ◌<◌, ◌≤◌, List, [], length, get_or, take, set, sum_by, sym, ap, ◌∙◌}
+use Rattle.std.proofs.Common.{subst, ⊎_elim, arith, length-set, get_or-set_other, get_or-set_same, ext_get_or}
+use Rattle.std.proofs.lemmas.{Bool.cases_lt, List.Sums.sum_by-set, List.Sums.sum_by_more}
+use Rattle.im_types.specs.Types.{Waiter, WINDOW, NONE, AreLimits, Window, Contents, IsMemory, Version, One, Two}
+use Rattle.im_types.specs.Types.{layout_of, Sizes, CellRecord, NodeRecord, ShowLists, Records, SpellsArea, cells_shown}
+use Rattle.im_types.specs.Types.{ShowsRecords, Shows}
+use Rattle.im_memory.{proofs.RestoreLemmas.lists-fit, specs.Restoring.AreComplete, specs.Restoring.Parts}
 use Rattle.im_records.proofs.Unique.{one_area}
-use Rattle.im_contents.proofs.BlockLemmas.{length-cells_shown}
-use Rattle.im_contents.proofs.ContentsLemmas.{memory_unique}
-use Rattle.im_memory.specs.Restoring.{Parts, AreComplete}
-use Rattle.im_memory.proofs.RestoreLemmas.{lists-fit}
+use Rattle.im_contents.proofs.{BlockLemmas.length-cells_shown, ContentsLemmas.memory_unique}
 
 -- the first of a list's elements stand in their places
 pub record Begun {X : Type 0} (none : X) (xs now : List X) (i : ℕ) : Type 0 where

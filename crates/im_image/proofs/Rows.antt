@@ -1,7 +1,6 @@
 -- Bytes that are repeated, and the records that they are.
-use Rattle.std.proofs.Common.{◌≡◌, ℕ, zero, suc, ◌+◌, ◌*◌, List, [], ◌∷◌, ◌++◌, length, refl, sym, ap, ◌∙◌, arith}
-use Rattle.std.proofs.Common.{add-one, mul-zero}
-use Rattle.std.proofs.lemmas.List.{length-append, append_assoc}
+use Rattle.std.proofs.Common.{◌≡◌, ℕ, zero, suc, ◌+◌, ◌*◌, List, [], ◌∷◌, ◌++◌, length, sym, refl, ap, ◌∙◌}
+use Rattle.std.proofs.Common.{append_assoc, mul-zero, add-one, arith, length-append}
 use Rattle.im_image.specs.Fresh.{repeated}
 
 append_nil : (xs : List ℕ) → xs ++ [] ≡ xs

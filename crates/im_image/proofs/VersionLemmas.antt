@@ -1,26 +1,17 @@
 -- What the versions that are taken come to: the first fault of a file, and the outcome of reading it.
-use Rattle.std.proofs.Common.{◌≡◌, ◌⊎◌, inl, inr, ℕ, ◌≤◌, nat_le, nat_lt, ◌==◌, Bool, true, false, not, ◌&&◌, ◌||◌}
-use Rattle.std.proofs.Common.{List, length, slice_range, Option, None, Some, is_none, Result, Ok, Err, refl, sym, ap}
-use Rattle.std.proofs.Common.{◌∙◌, subst, if◌then◌else◌}
-use Rattle.std.specs.Prelude.{IfOk, unwrap_or}
-use Rattle.im_types.specs.declared.TheConstants.{LAST}
-use Rattle.im_types.specs.declared.refusals.Refusal.{Refusal}
-use Rattle.im_types.specs.declared.refusals.Refusal.TheVariants.{WrongLength, NoHeader, BadHeader, OldVersion, Device}
-use Rattle.im_types.specs.Bytes.{same_bytes}
-use Rattle.im_types.specs.Layout.{Layout, layout_1, layout_2, layout_in_use, layout_named, are_sizes, image_length}
-use Rattle.im_types.specs.Header.{Header, header_in, header_body, header_of, header_place, header_fault, is_open_header}
-use Rattle.im_types.specs.Header.{are_ambiguous, spells_header, number_in_force, place_in_force, place_fault, layout_in}
-use Rattle.im_types.specs.Header.{is_old, or_else}
-use Rattle.im_types.specs.Meaning.{Reached, Reads, Opens, OpensBy}
-use Rattle.im_image.specs.declared.header.Header.{Header as CodeHeader}
-use Rattle.im_image.specs.declared.reading.ImageParts.{ImageParts}
-use Rattle.im_image.specs.declared.versions.Versions.{Versions}
-use Rattle.im_image.specs.declared.versions.Versions.TheVariants.{Any, InUse, First}
-use Rattle.im_image.specs.Headers.{IsHeaderFault, MayRefuseImage, MayRefuseHeader, MayRefuse, first_fault, layout_read}
+use Rattle.std.proofs.Common.{◌≡◌, ℕ, ◌≤◌, Bool, true, false, not, ◌&&◌, ◌||◌, ◌⊎◌, List, length, is_none, IfOk}
+use Rattle.std.proofs.Common.{if◌then◌else◌, nat_lt, nat_le, ◌==◌, slice_range, Some, None, Ok, Err, Option, Result}
+use Rattle.std.proofs.Common.{unwrap_or, sym, refl, ap, ◌∙◌, subst, inl, inr}
+use Rattle.im_types.specs.Types.{Refusal, Device, WrongLength, NoHeader, BadHeader, OldVersion, LAST, Layout, layout_1}
+use Rattle.im_types.specs.Types.{layout_2, layout_named, layout_in_use, are_sizes, image_length, same_bytes, Header}
+use Rattle.im_types.specs.Types.{header_body, header_in, spells_header, header_place, is_open_header, number_in_force}
+use Rattle.im_types.specs.Types.{place_in_force, are_ambiguous, place_fault, header_of, or_else, header_fault}
+use Rattle.im_types.specs.Types.{layout_in, is_old, Reached, Reads, OpensBy, Opens}
+use Rattle.im_image.{proofs.ImageStart.fault_of_long, proofs.Outcomes.reads-fault, specs.Reading.ReadsBy}
+use Rattle.im_image.specs.declared.{header.Header.Header as CodeHeader, reading.ImageParts.ImageParts}
+use Rattle.im_image.specs.declared.versions.Versions.{TheVariants.Any, TheVariants.First, TheVariants.InUse, Versions}
+use Rattle.im_image.specs.Headers.{first_fault, IsHeaderFault, layout_read, MayRefuse, MayRefuseHeader, MayRefuseImage}
 use Rattle.im_image.specs.Headers.{version_fault}
-use Rattle.im_image.specs.Reading.{ReadsBy}
-use Rattle.im_image.proofs.ImageStart.{fault_of_long}
-use Rattle.im_image.proofs.Outcomes.{reads-fault}
 
 -- ---- the reasons
 

@@ -1,14 +1,9 @@
 -- One page of an area, as it shows the records of a memory. (Own.)
 use Rattle.std.specs.Prelude.{◌≡◌, ℕ, ◌+◌, ◌*◌, ◌<◌, List, length, slice_index_or}
-use Rattle.im_types.specs.declared.TheConstants.{NONE}
-use Rattle.im_types.specs.Contents.{new_window}
-use Rattle.im_types.specs.Layout.{Sizes, layout_in_use, cell_record_bytes, node_record_bytes, session_record_bytes}
-use Rattle.im_types.specs.Layout.{on_a_page, cell_pages, node_pages, session_pages, area_pages, node_count, page_bytes}
-use Rattle.im_types.specs.Layout.{area_bytes, record_at}
-use Rattle.im_types.specs.declared.records.CellRecord.TheVariants.{Free as FreeCell}
-use Rattle.im_types.specs.declared.records.NodeRecord.TheVariants.{Free as FreeNode}
-use Rattle.im_types.specs.Records.{cell_bytes, node_bytes, session_bytes, FitsCell, FitsNode, FitsWindow}
-use Rattle.im_types.specs.Pages.{Records}
+use Rattle.im_types.specs.Types.{NONE, new_window, layout_in_use, Sizes, page_bytes, cell_record_bytes}
+use Rattle.im_types.specs.Types.{node_record_bytes, session_record_bytes, node_count, on_a_page, cell_pages, node_pages}
+use Rattle.im_types.specs.Types.{session_pages, area_pages, area_bytes, record_at, FreeCell, FreeNode, cell_bytes}
+use Rattle.im_types.specs.Types.{node_bytes, FitsCell, FitsNode, session_bytes, FitsWindow, Records}
 use Rattle.im_records.specs.Paging.{IsPageOf}
 
 -- page i of a row has its records, each within its bounds

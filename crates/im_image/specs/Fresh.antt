@@ -1,16 +1,9 @@
 -- A new image: its memory has no block and no entry. (Own.)
-use Rattle.std.specs.Prelude.{ℕ, zero, suc, ◌+◌, ◌*◌, ◌-◌, List, [], ◌∷◌, ◌++◌}
-use Rattle.im_types.specs.declared.TheConstants.{NONE}
-use Rattle.im_types.specs.Contents.{new_window}
-use Rattle.im_types.specs.Bytes.{zeros}
-use Rattle.im_types.specs.Layout.{Sizes, layout_in_use, page_bytes, cell_pages, node_pages, session_pages, area_bytes}
-use Rattle.im_types.specs.Layout.{node_count, cell_record_bytes, node_record_bytes, session_record_bytes}
-use Rattle.im_types.specs.Header.{Header, header_body}
-use Rattle.im_types.specs.declared.records.CellRecord.{CellRecord}
-use Rattle.im_types.specs.declared.records.CellRecord.TheVariants.{Free as FreeCell}
-use Rattle.im_types.specs.declared.records.NodeRecord.{NodeRecord}
-use Rattle.im_types.specs.declared.records.NodeRecord.TheVariants.{Free as FreeNode}
-use Rattle.im_types.specs.Records.{cell_bytes, node_bytes, session_bytes}
+use Rattle.std.specs.Prelude.{ℕ, zero, suc, ◌+◌, ◌-◌, ◌*◌, List, [], ◌∷◌, ◌++◌}
+use Rattle.im_types.specs.Types.{NONE, new_window, layout_in_use, Sizes, page_bytes, cell_record_bytes}
+use Rattle.im_types.specs.Types.{node_record_bytes, session_record_bytes, node_count, cell_pages, node_pages}
+use Rattle.im_types.specs.Types.{session_pages, area_bytes, zeros, Header, header_body, CellRecord, NodeRecord}
+use Rattle.im_types.specs.Types.{FreeCell, FreeNode, cell_bytes, node_bytes, session_bytes}
 
 -- these bytes, repeated
 abbrev pub repeated : ℕ → List ℕ → List ℕ

@@ -1,13 +1,11 @@
 -- A header of the code, as the definitions see it. (Own.)
-use Rattle.std.specs.Prelude.{◌≡◌, ◌⊎◌, ℕ, ◌+◌, nat_lt, List, length, Option, None, Some, ◌==◌, if◌then◌else◌}
-use Rattle.im_types.specs.declared.refusals.Refusal.{Refusal}
-use Rattle.im_types.specs.declared.refusals.Refusal.TheVariants.{WrongLength, NoHeader, BadHeader, BadPage, BadRecord}
-use Rattle.im_types.specs.declared.refusals.Refusal.TheVariants.{NoMemory, Device, OldVersion}
-use Rattle.im_types.specs.Header.{Header as Seen, header_in, header_place, place_in_force, place_fault, or_else}
-use Rattle.im_types.specs.Layout.{Layout, layout_1, layout_in_use, layout_named, sizes_of, image_length, page_bytes}
+use Rattle.std.specs.Prelude.{◌≡◌, ℕ, ◌+◌, ◌⊎◌, List, length, if◌then◌else◌, nat_lt, ◌==◌, Some, None, Option}
+use Rattle.im_types.specs.Types.{Refusal, Device, NoMemory, WrongLength, NoHeader, BadHeader, BadPage, BadRecord}
+use Rattle.im_types.specs.Types.{OldVersion, Layout, layout_1, layout_named, layout_in_use, sizes_of, page_bytes}
+use Rattle.im_types.specs.Types.{image_length, Header as Seen, header_in, header_place, place_in_force, place_fault}
+use Rattle.im_types.specs.Types.{or_else}
 use Rattle.im_image.specs.declared.header.Header.{Header}
-use Rattle.im_image.specs.declared.versions.Versions.{Versions}
-use Rattle.im_image.specs.declared.versions.Versions.TheVariants.{Any, InUse, First}
+use Rattle.im_image.specs.declared.versions.Versions.{TheVariants.Any, TheVariants.First, TheVariants.InUse, Versions}
 
 -- a header, as the definitions see it
 abbrev pub seen : Header → Seen

@@ -1,6 +1,6 @@
 -- The beginning of an image. (Own.)
-use Rattle.std.specs.Prelude.{◌≡◌, ◌≤◌, ℕ, List, length}
-use Rattle.im_types.specs.Header.{header_place}
+use Rattle.std.specs.Prelude.{◌≡◌, ℕ, ◌≤◌, List, length}
+use Rattle.im_types.specs.Types.{header_place}
 use Rattle.im_image.specs.declared.in_force.ImageStart.{ImageStart}
 
 -- this is the beginning of the file

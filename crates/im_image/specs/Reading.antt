@@ -1,21 +1,12 @@
 -- What is read of an image: its header in force, the memory that its area shows, its journal, and the memory after the
 -- journal. (Own.)
-use Rattle.std.specs.Prelude.{◌≡◌, ℕ, ◌≤◌, List, length, None, Result, Ok, Err}
-use Rattle.im_types.specs.declared.TheConstants.{LAST}
-use Rattle.im_types.specs.Contents.{Contents}
-use Rattle.im_types.specs.Header.{Header, header_of, header_fault, layout_in}
-use Rattle.im_types.specs.declared.records.CellRecord.{CellRecord}
-use Rattle.im_types.specs.declared.refusals.Refusal.{Refusal}
-use Rattle.im_types.specs.Layout.{Layout, Sizes, layout_1, layout_in_use, layout_named, sizes_of, ring_of, area_of}
-use Rattle.im_types.specs.Layout.{image_length}
-use Rattle.im_types.specs.Meaning.{Reached, IsShown, Opens, Reads}
-use Rattle.im_types.specs.Pages.{Records, SpellsArea}
-use Rattle.im_records.specs.Rows.{AreFirstCells}
-use Rattle.im_journal.specs.Holding.{JournalState, Holds}
-use Rattle.im_image.specs.Headers.{seen}
-use Rattle.im_image.specs.declared.reading.ImageParts.{ImageParts}
-use Rattle.im_image.specs.declared.versions.Versions.{Versions}
-use Rattle.im_image.specs.declared.versions.Versions.TheVariants.{Any, InUse, First}
+use Rattle.std.specs.Prelude.{◌≡◌, ℕ, ◌≤◌, List, length, None, Ok, Err, Result}
+use Rattle.im_types.specs.Types.{Refusal, LAST, Contents, Layout, layout_1, layout_named, layout_in_use, Sizes}
+use Rattle.im_types.specs.Types.{sizes_of, image_length, ring_of, area_of, Header, header_of, header_fault, layout_in}
+use Rattle.im_types.specs.Types.{CellRecord, Records, SpellsArea, Reached, IsShown, Reads, Opens}
+use Rattle.{im_journal.specs.Holding.Holds, im_journal.specs.Holding.JournalState, im_records.specs.Rows.AreFirstCells}
+use Rattle.im_image.specs.{declared.reading.ImageParts.ImageParts, Headers.seen}
+use Rattle.im_image.specs.declared.versions.Versions.{TheVariants.Any, TheVariants.First, TheVariants.InUse, Versions}
 
 -- the journal of this header: the header's version and sizes give its ring, and its run begins at the header's count
 pub record JournalOf (h : Header) (j : JournalState) : Type 0 where

@@ -1,16 +1,10 @@
 //! Reads the memory that the pages of an area show.
-ghost use Rattle.std.specs.Prelude.{◌≡◌, ◌⊎◌, ◌*◌, ◌≤◌, ℕ, List, [], length, replicate, slice_get, Some, IfOk, IfErr};
-ghost use Rattle.std.specs.Prelude.{IsErrOf};
-ghost use Rattle.std.specs.List.{sum_by};
-ghost use Rattle.im_types.specs.declared.TheConstants.{NONE, WINDOW};
-ghost use Rattle.im_types.specs.Chains.{ShowLists};
-ghost use Rattle.im_types.specs.Contents.{Window, Contents};
+ghost use Rattle.std.specs.Prelude.{◌≡◌, ℕ, ◌*◌, ◌≤◌, ◌⊎◌, List, [], length, replicate, IfOk, IfErr, slice_get, Some};
+ghost use Rattle.std.specs.Prelude.{sum_by, IsErrOf};
+ghost use Rattle.im_types.specs.Types.{WINDOW, NONE, AreLimits, Window, Contents, IsWindow, IsMemory, Version};
+ghost use Rattle.im_types.specs.Types.{layout_of, Sizes, sizes_of, ShowLists, Records, SpellsArea, cells_shown};
+ghost use Rattle.im_types.specs.Types.{ShowsRecords, Shows};
 ghost use Rattle.im_types.specs.Layout as layout;
-ghost use Rattle.im_types.specs.Layout.{Sizes, layout_of, sizes_of};
-ghost use Rattle.im_types.specs.Memory.{IsMemory, IsWindow};
-ghost use Rattle.im_types.specs.Pages.{Records, SpellsArea, Shows, ShowsRecords, cells_shown};
-ghost use Rattle.im_types.specs.Sizes.{AreLimits};
-ghost use Rattle.im_types.specs.declared.layout.Version.{Version};
 
 use im_contents::{Lists, read_contents};
 use im_memory::{Memory, Restoring};

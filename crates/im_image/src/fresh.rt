@@ -1,14 +1,9 @@
 //! The image of an empty memory.
-ghost use Rattle.std.specs.Prelude.{◌≡◌, ◌++◌, ◌∷◌, ◌≤◌, ◌*◌, ◌+◌, ◌-◌, ◌<◌, ◌^◌, length, IfOk, IfErr, OnOk};
-ghost use Rattle.im_types.specs.Bytes.{zeros};
-ghost use Rattle.im_types.specs.Contents.{new_window};
-ghost use Rattle.im_types.specs.Layout.{layout_in_use, area_bytes};
-ghost use Rattle.im_types.specs.Header.{header_body};
-ghost use Rattle.im_types.specs.Records.{cell_bytes, node_bytes, session_bytes};
-ghost use Rattle.im_types.specs.Layout.{sizes_of};
-ghost use Rattle.im_image.specs.Fresh.{repeated, new_cell_record, new_node_record, new_row, new_area, new_header};
-ghost use Rattle.im_image.specs.Fresh.{new_image};
-ghost use Rattle.im_types.specs.declared.refusals.Refusal.TheVariants.{NoMemory};
+ghost use Rattle.std.specs.Prelude.{◌≡◌, ◌+◌, ◌-◌, ◌*◌, ◌^◌, ◌<◌, ◌≤◌, ◌∷◌, ◌++◌, length, IfOk, IfErr, OnOk};
+ghost use Rattle.im_types.specs.Types.{NoMemory, new_window, layout_in_use, sizes_of, area_bytes, zeros, header_body};
+ghost use Rattle.im_types.specs.Types.{cell_bytes, node_bytes, session_bytes};
+ghost use Rattle.im_image.specs.Fresh.{new_area, new_cell_record, new_header, new_image, new_node_record, new_row};
+ghost use Rattle.im_image.specs.Fresh.{repeated};
 
 use crate::header::{Header, VERSION};
 use im_types::layout::{

@@ -1,9 +1,7 @@
 //! Headers, one for each area. The open header with the greater generation is in force.
-ghost use Rattle.std.specs.Prelude.{◌≡◌, ◌↔◌, ◌≤◌, ◌∷◌, ◌&&◌, ◌==◌, true, IfSome, IsSome, IsTrue, slice_range};
-ghost use Rattle.im_types.specs.Bytes.{same_bytes};
-ghost use Rattle.im_types.specs.Sizes.{AreLimits};
-ghost use Rattle.im_types.specs.Layout.{are_sizes, layout_named, layout_of, sizes_of};
-ghost use Rattle.im_types.specs.Header.{header_body, header_in, is_header, spells_header};
+ghost use Rattle.std.specs.Prelude.{◌≡◌, ◌≤◌, true, ◌&&◌, ◌↔◌, ◌∷◌, IfSome, IsSome, IsTrue, ◌==◌, slice_range};
+ghost use Rattle.im_types.specs.Types.{AreLimits, layout_of, layout_named, sizes_of, are_sizes, same_bytes};
+ghost use Rattle.im_types.specs.Types.{header_body, header_in, is_header, spells_header};
 
 use byteorder::{ByteOrder, LittleEndian};
 use im_types::layout::{OPEN, Version};

@@ -1,14 +1,13 @@
 //! Finds the header in force.
-ghost use Rattle.std.specs.Prelude.{◌≡◌, ◌⊎◌, ◌↔◌, ◌≤◌, ◌<◌, ◌||◌, not, true, Some, None, IfSome, IsSome};
-ghost use Rattle.std.specs.Prelude.{length, IfOk, IfErr, OnOk};
-ghost use Rattle.im_types.specs.declared.refusals.Refusal.TheVariants.{Device};
-ghost use Rattle.im_types.specs.Header.{header_in, header_of, is_open_header, generation_in, is_second};
-ghost use Rattle.im_types.specs.Header.{are_ambiguous, number_in_force, place_in_force, place_fault, spells_header};
+ghost use Rattle.std.specs.Prelude.{◌≡◌, ◌<◌, ◌≤◌, true, not, ◌||◌, ◌⊎◌, ◌↔◌, length, IfSome, IfOk, IfErr, OnOk};
+ghost use Rattle.std.specs.Prelude.{IsSome, Some, None};
+ghost use Rattle.im_types.specs.Types.{Device, LAST, header_in, spells_header, is_open_header, generation_in};
+ghost use Rattle.im_types.specs.Types.{is_second, number_in_force, place_in_force, are_ambiguous, place_fault};
+ghost use Rattle.im_types.specs.Types.{header_of};
 ghost use Rattle.im_disk.specs.Runs.{ReadsOrFails, ReadsOrRefuses};
-ghost use Rattle.im_image.specs.Headers.{seen, IsHeaderFault, MayRefuseHeader, layout_at};
-ghost use Rattle.im_image.specs.Headers.{beginning_fault, first_fault, version_fault};
+ghost use Rattle.im_image.specs.Headers.{beginning_fault, first_fault, IsHeaderFault, layout_at, MayRefuseHeader, seen};
+ghost use Rattle.im_image.specs.Headers.{version_fault};
 ghost use Rattle.im_image.specs.ImageStart.{IsImageStart};
-ghost use Rattle.im_types.specs.declared.TheConstants.{LAST};
 
 use crate::header::Header;
 use crate::versions::Versions;

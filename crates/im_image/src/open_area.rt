@@ -1,14 +1,10 @@
 //! Reads the area in force.
-ghost use Rattle.std.specs.Prelude.{◌≡◌, ◌⊎◌, ◌≤◌, ◌+◌, ◌*◌, ◌/◌, [], length, drop, take, IfOk, OnOk, IsErrOf};
-ghost use Rattle.im_types.specs.Contents.{Contents};
-ghost use Rattle.im_types.specs.Layout as layout;
-ghost use Rattle.im_types.specs.Layout.{layout_of, area_of, sizes_of};
-ghost use Rattle.im_types.specs.Header.{layout_in};
-ghost use Rattle.im_types.specs.Meaning.{IsShown};
-ghost use Rattle.im_types.specs.Pages.{Records};
+ghost use Rattle.std.specs.Prelude.{◌≡◌, ◌+◌, ◌*◌, ◌/◌, ◌≤◌, ◌⊎◌, [], length, take, drop, IfOk, OnOk, IsErrOf};
+ghost use Rattle.im_types.specs.Types.{Contents, layout_of, sizes_of, area_of, layout_in, Records, IsShown};
 ghost use Rattle.im_disk.specs.Runs.{ReadsOrFails, ReadsOrRefuses};
-ghost use Rattle.im_image.specs.Headers.{seen, MayRefuseArea};
-ghost use Rattle.im_image.specs.Reading.{HasHeader, HasSizes, HasFirstCells, HasRecords, IsAreaOf, StayFirstCells};
+ghost use Rattle.im_image.specs.Headers.{MayRefuseArea, seen};
+ghost use Rattle.im_image.specs.Reading.{HasFirstCells, HasHeader, HasRecords, HasSizes, IsAreaOf, StayFirstCells};
+ghost use Rattle.im_types.specs.Layout as layout;
 
 use crate::area::show;
 use crate::header::Header;

@@ -1,18 +1,13 @@
 //! Makes the pages of an area from the records of a memory.
-ghost use Rattle.std.specs.Prelude.{◌≡◌, ◌≢◌, ◌+◌, ◌*◌, ◌<◌, ◌≤◌, ℕ, List, length, slice_get, slice_index_or};
-ghost use Rattle.im_types.specs.declared.TheConstants.{NONE};
-ghost use Rattle.im_types.specs.Contents.{Contents, new_window};
-ghost use Rattle.im_types.specs.Layout as layout;
-ghost use Rattle.im_types.specs.Layout.{Sizes, layout_in_use, sizes_of, record_at, page_bytes};
-ghost use Rattle.im_types.specs.Pages.{Records, Shows, ShowsRecords};
-ghost use Rattle.im_types.specs.Records.{session_bytes, FitsCell, FitsNode, FitsWindow};
-ghost use Rattle.im_types.specs.declared.records.CellRecord.TheVariants.{Free as FreeCell};
-ghost use Rattle.im_types.specs.declared.records.NodeRecord.TheVariants.{Free as FreeNode};
-ghost use Rattle.im_records.specs.Paging.{joined, bytes_or_zeros};
-ghost use Rattle.im_records.specs.Placed.{placed};
-ghost use Rattle.im_image.specs.Encoding.{AreCounted, AreAreaPages, SpellsCells, SpellsNodes, SpellsSessions};
-ghost use Rattle.im_image.specs.Encoding.{HasAreaPages, IsAreaPage, SameOn};
+ghost use Rattle.std.specs.Prelude.{◌≡◌, ℕ, ◌+◌, ◌*◌, ◌<◌, ◌≤◌, ◌≢◌, List, length, slice_get, slice_index_or};
+ghost use Rattle.im_types.specs.Types.{NONE, Contents, new_window, layout_in_use, Sizes, sizes_of, page_bytes};
+ghost use Rattle.im_types.specs.Types.{record_at, FreeCell, FreeNode, FitsCell, FitsNode, session_bytes, FitsWindow};
+ghost use Rattle.im_types.specs.Types.{Records, ShowsRecords, Shows};
 ghost use Rattle.im_pages.specs.Places.{AgreeOnPage};
+ghost use Rattle.im_records.specs.{Paging.bytes_or_zeros, Paging.joined, Placed.placed};
+ghost use Rattle.im_image.specs.Encoding.{AreAreaPages, AreCounted, HasAreaPages, IsAreaPage, SameOn, SpellsCells};
+ghost use Rattle.im_image.specs.Encoding.{SpellsNodes, SpellsSessions};
+ghost use Rattle.im_types.specs.Layout as layout;
 
 use im_memory::{Memory, MemoryRecords};
 use im_records::{WindowRecord, put_cell, put_node, put_session};

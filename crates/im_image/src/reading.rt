@@ -1,18 +1,12 @@
 //! Reads what an image means: the memory of the area in force, after the run of commands in the journal.
-ghost use Rattle.std.specs.Prelude.{◌≡◌, ◌⊎◌, ◌+◌, ◌≤◌, false, None, Some, Ok, Err, IsTrue, IfOk, IfErr};
-ghost use Rattle.im_types.specs.declared.TheConstants.{LAST};
-ghost use Rattle.im_types.specs.declared.refusals.Refusal.TheVariants.{NoMemory, Device};
-ghost use Rattle.im_types.specs.Header.{header_of, layout_in};
+ghost use Rattle.std.specs.Prelude.{◌≡◌, ◌+◌, ◌≤◌, false, ◌⊎◌, IfOk, IfErr, IsTrue, Some, None, Ok, Err};
 ghost use Rattle.std.specs.List.{list_all};
-ghost use Rattle.im_types.specs.Layout.{layout_1, layout_named, layout_of};
-ghost use Rattle.im_types.specs.Records.{has_room_for};
-ghost use Rattle.im_types.specs.Meaning.{Reads, accept_in, can_stand};
-ghost use Rattle.im_types.specs.Step.{is_accepted};
-ghost use Rattle.im_disk.specs.Runs.{ReadsOrRefuses};
-ghost use Rattle.im_journal.specs.Holding.{Holds};
-ghost use Rattle.im_image.specs.Headers.{seen, MayRefuse, MayRefuseImage, layout_read};
-ghost use Rattle.im_image.specs.Reading.{JournalOf, HasHeader, HasArea, AreUnder, AreParts, IsImageOf};
-ghost use Rattle.im_image.specs.Reading.{ReadsBy, reached};
+ghost use Rattle.im_types.specs.Types.{Device, NoMemory, LAST, is_accepted, layout_1, layout_of, layout_named};
+ghost use Rattle.im_types.specs.Types.{header_of, layout_in, has_room_for, can_stand, accept_in, Reads};
+ghost use Rattle.{im_disk.specs.Runs.ReadsOrRefuses, im_journal.specs.Holding.Holds};
+ghost use Rattle.im_image.specs.Headers.{layout_read, MayRefuse, MayRefuseImage, seen};
+ghost use Rattle.im_image.specs.Reading.{AreParts, AreUnder, HasArea, HasHeader, IsImageOf, JournalOf, reached};
+ghost use Rattle.im_image.specs.Reading.{ReadsBy};
 
 use crate::header::Header;
 use crate::in_force::read_header;

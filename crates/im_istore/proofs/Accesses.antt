@@ -1,11 +1,7 @@
 -- The slot that an access finds.
-use Rattle.std.proofs.Common.{◌≡◌, Bool, true, false, Option, None, Some, Ok, Err, refl}
-use Rattle.std.specs.Prelude.{if◌then◌else◌}
-use Rattle.im_types.specs.declared.operations.Kind.{Kind}
-use Rattle.im_types.specs.declared.operations.Reply.TheVariants.{WrongKind}
-use Rattle.im_types.specs.Act.{same_kind}
-use Rattle.im_types.specs.declared.cells.Cell.{Cell}
-use Rattle.im_cell.specs.declared.slots.Slot.{Slot}
+use Rattle.std.proofs.Common.{◌≡◌, Bool, true, false, if◌then◌else◌, Some, None, Ok, Err, Option, refl}
+use Rattle.im_types.specs.Types.{Kind, WrongKind, Cell, same_kind}
+use Rattle.im_cell.specs.declared.Slot.{Slot}
 use Rattle.im_istore.specs.Access.{access_in}
 
 -- the slot of a cell that may be accessed

@@ -1,19 +1,13 @@
 -- Cells and lists agree at the start, and still do after a block is made or gone.
-use Rattle.std.proofs.Common.{◌≡◌, ℕ, zero, suc, List, [], ◌∷◌, Bool, true, false, Option, None, Some, length, take}
-use Rattle.std.proofs.Common.{drop, get_or, replicate, IsTrue, subst, refl, sym, ap, ◌∙◌}
-use Rattle.std.specs.Prelude.{◌||◌, not, if◌then◌else◌, ◌==◌, IsNone, IfSome}
-use Rattle.std.specs.List.{list_any}
-use Rattle.std.proofs.lemmas.List.{length-replicate}
-use Rattle.im_types.specs.declared.operations.Block.{Block}
-use Rattle.im_types.specs.declared.operations.Kind.{Kind}
-use Rattle.im_types.specs.declared.operations.Waiter.{Waiter}
-use Rattle.im_types.specs.Place.{begins_free, fill, change_each, IsLeastFree}
-use Rattle.im_types.specs.declared.cells.Cell.TheVariants.{Empty}
-use Rattle.im_cell.specs.declared.slots.Slot.{Slot}
-use Rattle.im_cell.specs.Slots.{slot_at, slot_block, is_waiting_slot, with_cell, empty_slot, block_from, is_quiet_block}
-use Rattle.im_cell.specs.Slots.{is_releasable, length_of, length_at}
-use Rattle.im_arena.specs.Lists.{Shown}
-use Rattle.im_istore.specs.Agreement.{has_some, Agree}
+use Rattle.std.proofs.Common.{◌≡◌, ℕ, zero, suc, Bool, true, false, not, ◌||◌, List, [], ◌∷◌, length, get_or, take}
+use Rattle.std.proofs.Common.{drop, replicate, IfSome, if◌then◌else◌, IsNone, IsTrue, ◌==◌, Some, None, Option, sym}
+use Rattle.std.proofs.Common.{refl, ap, ◌∙◌, subst}
+use Rattle.std.{proofs.lemmas.List.length-replicate, specs.List.list_any}
+use Rattle.im_types.specs.Types.{Kind, Waiter, Block, CellEmpty as Empty, begins_free, fill, change_each, IsLeastFree}
+use Rattle.{im_arena.specs.Lists.Shown, im_cell.specs.declared.Slot.Slot}
+use Rattle.im_cell.specs.Slots.{block_from, empty_slot, is_quiet_block, is_releasable, is_waiting_slot, length_at}
+use Rattle.im_cell.specs.Slots.{length_of, slot_at, slot_block, with_cell}
+use Rattle.im_istore.specs.Agreement.{Agree, has_some}
 
 get_or-same : {X : Type 0} (n a : ℕ) (x : X) → get_or (replicate n x) a x ≡ x
 get_or-same zero a x = refl

@@ -1,16 +1,14 @@
 -- The joined cells and their agreement, after a slot and a list at one address are written.
-use Rattle.std.proofs.Common.{◌≡◌, ◌≢◌, ℕ, zero, suc, ◌<◌, List, [], ◌∷◌, false, Option, None, Some, length, set}
-use Rattle.std.proofs.Common.{get_or, refl, sym, ap, ◌∙◌, inl, inr, arith, length-set}
-use Rattle.std.proofs.lemmas.Bool.{cases_eq}
-use Rattle.std.proofs.lemmas.List.{get_or-set_same, get_or-set_other, set-get_or}
-use Rattle.im_types.specs.declared.operations.Waiter.{Waiter}
-use Rattle.im_types.specs.Contents.{CellState, Held, held_at}
-use Rattle.im_cell.specs.declared.slots.Slot.{Slot}
-use Rattle.im_types.specs.declared.cells.Cell.TheVariants.{Full}
-use Rattle.im_cell.specs.Slots.{slot_at, cell_at, slot_cell, is_waiting_slot, cell_waits}
-use Rattle.im_arena.specs.Lists.{Lists, Shown, list_at, with_list}
-use Rattle.im_istore.specs.Joined.{state_of, held_of, joined_cells, cells_of}
-use Rattle.im_istore.specs.Agreement.{has_some, Agree, AgreeBut}
+use Rattle.std.proofs.Common.{◌≡◌, ℕ, zero, suc, ◌<◌, false, ◌≢◌, List, [], ◌∷◌, length, get_or, set, Some, None}
+use Rattle.std.proofs.Common.{Option, sym, refl, ap, ◌∙◌, inl, inr, arith, length-set, get_or-set_other}
+use Rattle.std.proofs.Common.{get_or-set_same}
+use Rattle.std.proofs.lemmas.{Bool.cases_eq, List.set-get_or}
+use Rattle.im_types.specs.Types.{Waiter, CellState, Held, held_at, CellFull as Full}
+use Rattle.im_arena.specs.Lists.{list_at, Lists, Shown, with_list}
+use Rattle.im_cell.specs.declared.Slot.{Slot}
+use Rattle.im_cell.specs.Slots.{cell_at, cell_waits, is_waiting_slot, slot_at, slot_cell}
+use Rattle.im_istore.specs.Agreement.{Agree, AgreeBut, has_some}
+use Rattle.im_istore.specs.Joined.{cells_of, held_of, joined_cells, state_of}
 
 abbrev pub list_of : List (List Waiter) → ℕ → List Waiter
 list_of lists a = get_or lists a []

@@ -1,13 +1,10 @@
 -- Readers taken off a list one by one.
-use Rattle.std.proofs.Common.{◌≡◌, ℕ, ◌<◌, List, [], ◌∷◌, ◌++◌, None, Some, length, drop, refl, sym, ap, ◌∙◌}
-use Rattle.std.proofs.Common.{length-set, append_assoc}
-use Rattle.std.specs.Prelude.{slice_get}
-use Rattle.std.proofs.lemmas.List.{set-set}
-use Rattle.im_types.specs.declared.operations.Reply.{Reply}
-use Rattle.im_types.specs.declared.operations.Waiter.{Waiter}
-use Rattle.im_arena.specs.Lists.{Lists, Shown, list_at, with_list}
-use Rattle.im_istore.specs.Access.{askers_of, replies_to}
+use Rattle.std.proofs.Common.{◌≡◌, ℕ, ◌<◌, List, [], ◌∷◌, ◌++◌, length, drop, slice_get, Some, None, sym, refl, ap, ◌∙◌}
+use Rattle.std.proofs.Common.{append_assoc, length-set, set-set}
+use Rattle.im_types.specs.Types.{Reply, Waiter}
+use Rattle.im_arena.specs.Lists.{list_at, Lists, Shown, with_list}
 use Rattle.im_istore.proofs.Cells.{list_at-same, with_list-same}
+use Rattle.im_istore.specs.Access.{askers_of, replies_to}
 
 abbrev with_lists : Lists → List (List Waiter) → Lists
 with_lists held lists = record { nodes = held.nodes; lists = lists }

@@ -1,15 +1,11 @@
 -- Who waits at a cell, by its list.
-use Rattle.std.proofs.Common.{◌≡◌, ℕ, List, [], ◌∷◌, Option, None, Some, refl, ap, ◌∙◌}
-use Rattle.im_types.specs.declared.operations.Waiter.{Waiter}
-use Rattle.im_types.specs.Contents.{waiters_of, waiters_in, waiters_at}
-use Rattle.im_types.specs.declared.cells.Cell.{Cell}
-use Rattle.im_types.specs.declared.cells.Cell.TheVariants.{Empty, Waiting, Full, Clashed}
-use Rattle.im_cell.specs.declared.slots.Slot.{Slot}
-use Rattle.im_cell.specs.Slots.{slot_at, is_waiting_slot, cell_waits}
-use Rattle.im_arena.specs.Lists.{Shown, list_at}
-use Rattle.im_istore.specs.Joined.{state_of, held_of, cells_of}
-use Rattle.im_istore.specs.Agreement.{has_some, Agree}
+use Rattle.std.proofs.Common.{◌≡◌, ℕ, List, [], ◌∷◌, Some, None, Option, refl, ap, ◌∙◌}
+use Rattle.im_types.specs.Types.{Waiter, waiters_of, waiters_in, waiters_at, Cell, CellEmpty as Empty}
+use Rattle.im_types.specs.Types.{CellWaiting as Waiting, CellFull as Full, CellClashed as Clashed}
+use Rattle.im_arena.specs.Lists.{list_at, Shown}
+use Rattle.im_cell.specs.{declared.Slot.Slot, Slots.cell_waits, Slots.is_waiting_slot, Slots.slot_at}
 use Rattle.im_istore.proofs.Cells.{held_at-cells}
+use Rattle.im_istore.specs.{Agreement.Agree, Agreement.has_some, Joined.cells_of, Joined.held_of, Joined.state_of}
 
 waiters_of-state : (cell : Cell) (waiters : List Waiter) → cell_waits cell ≡ has_some waiters
     → waiters_of (state_of cell waiters) ≡ waiters

@@ -1,12 +1,7 @@
 -- The checks before an access of one cell, and the replies to the requests that waited for it. (Own.)
-use Rattle.std.specs.Prelude.{ℕ, List, map, Option, None, Some, Result, Ok, Err, if◌then◌else◌}
-use Rattle.im_types.specs.declared.operations.Kind.{Kind}
-use Rattle.im_types.specs.declared.operations.Reply.{Reply}
-use Rattle.im_types.specs.declared.operations.Reply.TheVariants.{Value, NoCell, WrongKind}
-use Rattle.im_types.specs.declared.operations.Waiter.{Waiter}
-use Rattle.im_types.specs.Act.{same_kind}
-use Rattle.im_types.specs.declared.cells.Cell.{Cell}
-use Rattle.im_cell.specs.declared.slots.Slot.{Slot}
+use Rattle.std.specs.Prelude.{ℕ, List, map, if◌then◌else◌, Some, None, Ok, Err, Option, Result}
+use Rattle.im_types.specs.Types.{Kind, Reply, Waiter, Value, NoCell, WrongKind, Cell, same_kind}
+use Rattle.im_cell.specs.declared.Slot.{Slot}
 
 -- each of these requests gets the value
 abbrev pub replies_to : List Waiter → ℕ → List (Waiter × Reply)

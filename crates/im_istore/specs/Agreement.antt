@@ -1,10 +1,8 @@
 -- The agreement of a table of cells and an arena of waiters. (Own.)
-use Rattle.std.specs.Prelude.{◌≡◌, ◌≢◌, ℕ, List, [], ◌∷◌, length, Bool, true, false, Option, Some}
-use Rattle.im_types.specs.declared.operations.Waiter.{Waiter}
-use Rattle.im_types.specs.declared.cells.Cell.TheVariants.{Full}
-use Rattle.im_cell.specs.declared.slots.Slot.{Slot}
-use Rattle.im_cell.specs.Slots.{slot_at, cell_at, is_waiting_slot}
-use Rattle.im_arena.specs.Lists.{Shown, list_at}
+use Rattle.std.specs.Prelude.{◌≡◌, ℕ, Bool, true, false, ◌≢◌, List, [], ◌∷◌, length, Some, Option}
+use Rattle.im_types.specs.Types.{Waiter, CellFull as Full}
+use Rattle.im_arena.specs.Lists.{list_at, Shown}
+use Rattle.im_cell.specs.{declared.Slot.Slot, Slots.cell_at, Slots.is_waiting_slot, Slots.slot_at}
 
 -- whether a list has a waiter
 abbrev pub has_some : List Waiter → Bool

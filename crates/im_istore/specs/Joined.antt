@@ -1,13 +1,9 @@
 -- The cells that a table of cells and an arena of waiters stand for. The list of a cell's waiters has the cell's
 -- address as its number. (Own.)
-use Rattle.std.specs.Prelude.{List, [], ◌∷◌, Option, None, Some}
-use Rattle.im_types.specs.declared.operations.Waiter.{Waiter}
-use Rattle.im_types.specs.Contents.{CellState, Held}
-use Rattle.im_types.specs.Contents.{Empty as IsEmpty, Full as IsFull, Clashed as IsClashed}
-use Rattle.im_types.specs.declared.cells.Cell.{Cell}
-use Rattle.im_types.specs.declared.cells.Cell.TheVariants.{Empty, Waiting, Full, Clashed}
-use Rattle.im_cell.specs.declared.slots.Slot.{Slot}
-use Rattle.im_arena.specs.Lists.{Shown}
+use Rattle.std.specs.Prelude.{List, [], ◌∷◌, Some, None, Option}
+use Rattle.im_types.specs.Types.{Waiter, CellState, Empty as IsEmpty, Full as IsFull, Clashed as IsClashed, Held, Cell}
+use Rattle.im_types.specs.Types.{CellEmpty as Empty, CellWaiting as Waiting, CellFull as Full, CellClashed as Clashed}
+use Rattle.{im_arena.specs.Lists.Shown, im_cell.specs.declared.Slot.Slot}
 
 -- the state of a cell with these waiters
 abbrev pub state_of : Cell → List Waiter → CellState

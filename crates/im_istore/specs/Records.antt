@@ -1,12 +1,8 @@
 -- The records of cells and waiter nodes that an access of one cell leaves. (Own.)
-use Rattle.std.specs.Prelude.{◌≡◌, ◌≢◌, ℕ, List, Option, Err, slice_get}
-use Rattle.im_types.specs.declared.operations.Kind.{Kind}
-use Rattle.im_types.specs.declared.operations.Reply.{Reply}
-use Rattle.im_types.specs.declared.operations.Entry.{Entry}
-use Rattle.im_types.specs.declared.operations.Entry.TheVariants.{Waiting, Answered}
-use Rattle.im_cell.specs.declared.slots.Slot.{Slot}
-use Rattle.im_cell.specs.Slots.{slot_at}
-use Rattle.im_arena.specs.Lists.{Shown, IsPushed}
+use Rattle.std.specs.Prelude.{◌≡◌, ℕ, ◌≢◌, List, slice_get, Err, Option}
+use Rattle.im_types.specs.Types.{Entry, Kind, Reply, Waiting, Answered}
+use Rattle.im_arena.specs.Lists.{IsPushed, Shown}
+use Rattle.im_cell.specs.{declared.Slot.Slot, Slots.slot_at}
 use Rattle.im_istore.specs.Access.{access_in}
 
 -- the links that a request leaves: if it waits, all but those that put it at the end of its cell's list; else all

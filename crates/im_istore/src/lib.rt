@@ -5,22 +5,13 @@
 //! state the effect of a call on them by the definitions of `im_types`.
 #![tactic(auto)]
 
-ghost use Rattle.std.specs.Prelude.{◌≡◌, ◌≢◌, ◌<◌, ◌++◌, ◌∷◌, [], List, Option, length, drop, slice_get, slice_set};
-ghost use Rattle.std.specs.Prelude.{IsSome, IfNone, ◌+◌, ◌≤◌};
-ghost use Rattle.std.specs.Prelude.{ℕ, Err, IfSome, vec_len, vec_capacity};
-ghost use Rattle.im_types.specs.declared.operations.Kind.TheVariants.{I};
-ghost use Rattle.im_types.specs.declared.operations.Op.TheVariants.{Fetch, Store};
-ghost use Rattle.im_types.specs.declared.operations.Reply.{Reply};
-ghost use Rattle.im_types.specs.declared.operations.Reply.TheVariants.{Stored};
-ghost use Rattle.im_types.specs.declared.operations.Entry.TheVariants.{Answered, Waiting};
-ghost use Rattle.im_types.specs.Act.{act};
-ghost use Rattle.im_cell.specs.declared.slots.Slot.{Slot};
-ghost use Rattle.im_cell.specs.Slots.{slot_at, with_cell};
-ghost use Rattle.im_arena.specs.Lists.{list_at, with_list, free, IsPushed, IsPopped};
-ghost use Rattle.im_istore.specs.Joined.{cells_of};
-ghost use Rattle.im_istore.specs.Agreement.{Agree, AgreeBut};
-ghost use Rattle.im_istore.specs.Access.{access_in, askers_of, replies_to};
-ghost use Rattle.im_istore.specs.Records.{LeavesCells, LeavesRest};
+ghost use Rattle.std.specs.Prelude.{◌≡◌, ℕ, ◌+◌, ◌<◌, ◌≤◌, ◌≢◌, List, [], ◌∷◌, ◌++◌, length, drop, IfSome, IfNone};
+ghost use Rattle.std.specs.Prelude.{IsSome, slice_get, slice_set, Err, vec_len, vec_capacity, Option};
+ghost use Rattle.im_types.specs.Types.{Reply, Waiting, Answered, I, Fetch, Store, Stored, act};
+ghost use Rattle.im_arena.specs.Lists.{free, IsPopped, IsPushed, list_at, with_list};
+ghost use Rattle.im_cell.specs.{declared.Slot.Slot, Slots.slot_at, Slots.with_cell};
+ghost use Rattle.im_istore.specs.{Access.access_in, Access.askers_of, Access.replies_to, Agreement.Agree};
+ghost use Rattle.im_istore.specs.{Agreement.AgreeBut, Joined.cells_of, Records.LeavesCells, Records.LeavesRest};
 
 use im_arena::Arena;
 use im_cell::{CellTable, Slot};

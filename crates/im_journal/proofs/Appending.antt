@@ -1,28 +1,23 @@
 -- What the slots of a group that is written, or may be, do to the tail.
-use Rattle.std.proofs.Common.{◌≡◌, ◌≢◌, ◌⊎◌, inl, inr, ⊎_elim, ℕ, ◌+◌, ◌-◌, ◌*◌, ◌<◌, ◌≤◌, ◌==◌, ◌&&◌, nat_le, Result}
-use Rattle.std.proofs.Common.{Bool, true, false, List, [], ◌∷◌, ◌++◌, Some, option_map, length, get_or, drop, refl}
-use Rattle.std.proofs.Common.{sym, ◌∙◌, ap, subst, arith, length-append, get_or-take, get_or-drop, if◌then◌else◌}
-use Rattle.std.proofs.lemmas.Bool.{cases_eq, cases_lt, leb-true}
+use Rattle.std.proofs.Common.{◌≡◌, ℕ, ◌+◌, ◌-◌, ◌*◌, ◌<◌, ◌≤◌, Bool, true, false, ◌&&◌, ◌≢◌, ◌⊎◌, List, [], ◌∷◌, ◌++◌}
+use Rattle.std.proofs.Common.{length, get_or, drop, if◌then◌else◌, nat_le, ◌==◌, Some, Result, option_map, sym, refl}
+use Rattle.std.proofs.Common.{ap, ◌∙◌, subst, inl, inr, ⊎_elim, arith, length-append, get_or-drop, get_or-take}
+use Rattle.std.proofs.Common.{leb-true}
+use Rattle.std.proofs.lemmas.Bool.{cases_eq, cases_lt}
+use Rattle.im_types.specs.Types.{Command, Refusal, MAX_GROUP, LAST, open_gate, is_open, sequence_of, slot_offset, Tail}
+use Rattle.im_types.specs.Types.{slot, tail}
 use Rattle.im_types.proofs.Tests.{and_both}
-use Rattle.im_types.specs.declared.TheConstants.{LAST, MAX_GROUP}
-use Rattle.im_types.specs.declared.commands.Command.{Command}
-use Rattle.im_types.specs.declared.refusals.Refusal.{Refusal}
-use Rattle.im_types.specs.Bytes.{open_gate}
-use Rattle.im_types.specs.Slot.{is_open, sequence_of}
-use Rattle.im_types.specs.Journal.{slot_offset, slot, Tail, tail}
-use Rattle.im_disk.specs.Moment.{Moment, Left, written, synced}
-use Rattle.im_disk.specs.Since.{SameBut, LeavesOnly, LeavesNow}
-use Rattle.im_disk.specs.Gate.{HasThere, MayOpen}
-use Rattle.im_disk.proofs.GateLemmas.{done_same, done_there, done_kept, done_calm}
-use Rattle.im_disk.proofs.SinceLemmas.{left_now, leaves_then, only_weaker}
-use Rattle.im_journal.specs.Groups.{HasBodies, AllFit, SameButBodies, SameButGroup, MayWriteBodies, AreWritten}
-use Rattle.im_journal.specs.Holding.{JournalState, IsJournal, Holds, AllHold, room_after, longer, longer_tail}
-use Rattle.im_journal.specs.Holding.{KeepsBoundaries, Appended, MayAppend, Adds, IsFullBy}
-use Rattle.im_journal.proofs.Slots.{slot_inside, same_body, opened_gate, no_gate_behind, away_after}
-use Rattle.im_journal.proofs.Rings.{other_number}
-use Rattle.im_journal.proofs.Groups.{same_bodies, beside_group}
-use Rattle.im_journal.proofs.Tails.{Parts, parts_of, next_closed, tail_kept, tail_added, boundaries_kept}
-use Rattle.im_journal.proofs.Tails.{boundaries_added}
+use Rattle.im_disk.proofs.GateLemmas.{done_calm, done_kept, done_same, done_there}
+use Rattle.im_disk.proofs.SinceLemmas.{leaves_then, left_now, only_weaker}
+use Rattle.im_disk.specs.{Gate.HasThere, Gate.MayOpen, Moment.Left, Moment.Moment, Moment.synced, Moment.written}
+use Rattle.im_disk.specs.Since.{LeavesNow, LeavesOnly, SameBut}
+use Rattle.im_journal.proofs.{Groups.beside_group, Groups.same_bodies, Rings.other_number}
+use Rattle.im_journal.proofs.Slots.{away_after, no_gate_behind, opened_gate, same_body, slot_inside}
+use Rattle.im_journal.proofs.Tails.{boundaries_added, boundaries_kept, next_closed, Parts, parts_of, tail_added}
+use Rattle.im_journal.proofs.Tails.{tail_kept}
+use Rattle.im_journal.specs.Groups.{AllFit, AreWritten, HasBodies, MayWriteBodies, SameButBodies, SameButGroup}
+use Rattle.im_journal.specs.Holding.{Adds, AllHold, Appended, Holds, IsFullBy, IsJournal, JournalState, KeepsBoundaries}
+use Rattle.im_journal.specs.Holding.{longer, longer_tail, MayAppend, room_after}
 
 -- there is room for these commands
 pub record IsNext (j : JournalState) (commands : List Command) (m0 : Moment) : Type 0 where

@@ -1,12 +1,9 @@
 -- A journal whose run begins at a later command.
-use Rattle.std.proofs.Common.{◌≡◌, ⊎_elim, ℕ, ◌+◌, ◌-◌, ◌<◌, ◌≤◌, List, Some, drop, sym, subst, arith, length-drop}
+use Rattle.std.proofs.Common.{◌≡◌, ℕ, ◌+◌, ◌-◌, ◌<◌, ◌≤◌, List, drop, Some, sym, subst, ⊎_elim, arith, length-drop}
 use Rattle.std.proofs.lemmas.Bool.{cases_lt}
-use Rattle.im_types.specs.Slot.{sequence_of}
-use Rattle.im_types.specs.Journal.{slot, IsBoundary, tail}
-use Rattle.im_journal.specs.Holding.{JournalState, IsJournal, Holds}
-use Rattle.im_journal.proofs.Tails.{Parts, parts_of}
-use Rattle.im_journal.proofs.Rings.{slot_round, nth_sequence}
-use Rattle.im_journal.proofs.Later.{tail_later}
+use Rattle.im_types.specs.Types.{sequence_of, IsBoundary, slot, tail}
+use Rattle.im_journal.proofs.{Later.tail_later, Rings.nth_sequence, Rings.slot_round, Tails.Parts, Tails.parts_of}
+use Rattle.im_journal.specs.Holding.{Holds, IsJournal, JournalState}
 
 module _ (j : JournalState) (known : IsJournal j) (first : ℕ) (later : j.first ≤ first) (counted : first ≤ j.count)
     (file : List ℕ) (held : Holds j file) (boundary : IsBoundary j.ring j.first (first - j.first) file) where

@@ -1,14 +1,14 @@
 -- What each device call of the closing of gates may leave.
-use Rattle.std.proofs.Common.{◌≡◌, ◌≢◌, ◌⊎◌, inl, inr, ⊎_elim, ℕ, ◌+◌, ◌-◌, ◌*◌, ◌<◌, ◌≤◌, List, [], ◌∷◌, length}
-use Rattle.std.proofs.Common.{get_or, refl, sym, ◌∙◌, ap, subst, arith}
-use Rattle.std.proofs.lemmas.Bool.{cases_lt, cases_eq}
-use Rattle.im_types.specs.Journal.{Ring, slot_offset}
-use Rattle.im_disk.specs.Moment.{Moment, Left, Torn, Shaken, MayTick, overlaid, written, synced}
-use Rattle.im_disk.specs.Since.{SameBut, LeavesOnly, LeavesNow, Calls}
-use Rattle.im_disk.proofs.OverlayLemmas.{length-overlaid, overlaid_outside, overlaid_inside}
+use Rattle.std.proofs.Common.{◌≡◌, ℕ, ◌+◌, ◌-◌, ◌*◌, ◌<◌, ◌≤◌, ◌≢◌, ◌⊎◌, List, [], ◌∷◌, length, get_or, sym, refl, ap}
+use Rattle.std.proofs.Common.{◌∙◌, subst, inl, inr, ⊎_elim, arith}
+use Rattle.std.proofs.lemmas.Bool.{cases_eq, cases_lt}
+use Rattle.im_types.specs.Types.{Ring, slot_offset}
+use Rattle.im_disk.proofs.OverlayLemmas.{length-overlaid, overlaid_inside, overlaid_outside}
 use Rattle.im_disk.proofs.SinceLemmas.{leaves_start, leaves_step, left_sync, left_torn}
-use Rattle.im_journal.specs.Gates.{closed_gate, SameButGates, MayClose, HasClosed, AreShut}
+use Rattle.im_disk.specs.Moment.{Left, MayTick, Moment, overlaid, Shaken, synced, Torn, written}
+use Rattle.im_disk.specs.Since.{Calls, LeavesNow, LeavesOnly, SameBut}
 use Rattle.im_journal.proofs.Slots.{slot_inside}
+use Rattle.im_journal.specs.Gates.{AreShut, closed_gate, HasClosed, MayClose, SameButGates}
 
 pub beside : (i a : ℕ) → i ≢ a → (i < a) ⊎ (a + 1 ≤ i)
 beside i a other = ⊎_elim (λ low. inl low) (λ high. inr (omega arith)) (cases_lt i a)

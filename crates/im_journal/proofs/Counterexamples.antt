@@ -1,11 +1,9 @@
 -- A run begins anew behind a whole group alone: the law without that premise fails at a ring that is written out here.
-use Rattle.std.proofs.Common.{◌≡◌, ℕ, ◌+◌, ◌≤◌, List, [], ◌∷◌, ◌++◌, Option, None, Some, length, drop, refl, sym, ◌∙◌}
-use Rattle.std.proofs.Common.{ap, arith}
+use Rattle.std.proofs.Common.{◌≡◌, ℕ, ◌+◌, ◌≤◌, List, [], ◌∷◌, ◌++◌, length, drop, Some, None, Option, sym, refl, ap}
+use Rattle.std.proofs.Common.{◌∙◌, arith}
+use Rattle.im_types.specs.Types.{Command, Confirm, slot_body, sequence_of, command_in, read_in, Ring, Tail, slot}
+use Rattle.im_types.specs.Types.{continues, tail}
 use Rattle.im_types.proofs.Tests.{differ}
-use Rattle.im_types.specs.declared.commands.Command.{Command}
-use Rattle.im_types.specs.declared.commands.Command.TheVariants.{Confirm}
-use Rattle.im_types.specs.Slot.{slot_body, read_in, command_in, sequence_of}
-use Rattle.im_types.specs.Journal.{Ring, slot, continues, Tail, tail}
 
 abbrev small : Ring
 small = record { base = 0; slots = 2 }

@@ -1,16 +1,13 @@
 -- Slots that hold a group: what they spell, and how that depends on their bytes.
-use Rattle.std.proofs.Common.{◌≡◌, ◌⊎◌, ℕ, zero, suc, ◌+◌, ◌-◌, ◌^◌, ◌<◌, ◌≤◌, ◌&&◌, nat_lt, nat_le, Bool, true, List}
-use Rattle.std.proofs.Common.{[], ◌∷◌, ◌++◌, Option, Some, length, drop, refl, sym, ◌∙◌, ap, subst, arith}
-use Rattle.std.proofs.lemmas.Bool.{lt-ltb, le-leb, eq-eqb}
-use Rattle.im_types.specs.declared.TheConstants.{LAST, MAX_GROUP}
-use Rattle.im_types.specs.declared.commands.Command.{Command}
-use Rattle.im_types.specs.declared.commands.Command.TheVariants.{Request as Asks, Confirm}
-use Rattle.im_types.specs.Slot.{is_open, sequence_of, group_of, slot_body, read_in, FitsCommand}
-use Rattle.im_types.specs.Journal.{Ring, slot_offset, slot, continues, with_first, if_true, leads, commands_in}
-use Rattle.im_journal.specs.Groups.{HasBodies, AllFit, SameButGroup, count_at}
-use Rattle.im_journal.proofs.Spelling.{sequence_of-spelled, group_of-spelled, read_in-spelled}
-use Rattle.im_journal.proofs.Slots.{or_at, not_in, same_slot, goes_on}
-use Rattle.im_journal.proofs.Runs.{slots_at}
+use Rattle.std.proofs.Common.{◌≡◌, ℕ, zero, suc, ◌+◌, ◌-◌, ◌^◌, ◌<◌, ◌≤◌, Bool, true, ◌&&◌, ◌⊎◌, List, [], ◌∷◌, ◌++◌}
+use Rattle.std.proofs.Common.{length, drop, nat_lt, nat_le, Some, Option, sym, refl, ap, ◌∙◌, subst, arith, lt-ltb}
+use Rattle.std.proofs.Common.{eq-eqb, le-leb}
+use Rattle.im_types.specs.Types.{Command, Asks, Confirm, MAX_GROUP, LAST, slot_body, is_open, group_of, FitsCommand}
+use Rattle.im_types.specs.Types.{sequence_of, read_in, Ring, slot_offset, with_first, if_true, leads, commands_in, slot}
+use Rattle.im_types.specs.Types.{continues}
+use Rattle.im_journal.proofs.{Runs.slots_at, Slots.goes_on, Slots.not_in, Slots.or_at, Slots.same_slot}
+use Rattle.im_journal.proofs.Spelling.{group_of-spelled, read_in-spelled, sequence_of-spelled}
+use Rattle.im_journal.specs.Groups.{AllFit, count_at, HasBodies, SameButGroup}
 
 -- bytes behind which a body stands begin with some gate
 gate_and_body : (bytes : List ℕ) (g s : ℕ) (c : Command) → drop 1 bytes ≡ slot_body g s c → (gate : ℕ)

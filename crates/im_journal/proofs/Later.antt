@@ -1,15 +1,13 @@
 -- The tail of a journal from a later command on.
-use Rattle.std.proofs.Common.{◌≡◌, ℕ, zero, suc, ◌+◌, ◌-◌, ◌<◌, ◌≤◌, ◌==◌, Bool, true, false, List, Some, length}
-use Rattle.std.proofs.Common.{drop, sym, ◌∙◌, ap, subst, arith, if◌then◌else◌, length-drop}
-use Rattle.im_types.specs.declared.TheConstants.{LAST}
-use Rattle.im_types.specs.declared.commands.Command.{Command}
-use Rattle.im_types.specs.Slot.{is_open, sequence_of, group_of}
-use Rattle.im_types.specs.Journal.{Ring, slot, continues, next_if, run_from, run, commands_in, IsBoundary}
-use Rattle.im_types.specs.Journal.{closed_from, are_stale, ends_stale, room_of, tail}
-use Rattle.im_journal.proofs.Runs.{closed_at_most, whole-commands, boundary-low, behind_boundary}
+use Rattle.std.proofs.Common.{◌≡◌, ℕ, zero, suc, ◌+◌, ◌-◌, ◌<◌, ◌≤◌, Bool, true, false, List, length, drop}
+use Rattle.std.proofs.Common.{if◌then◌else◌, ◌==◌, Some, sym, ap, ◌∙◌, subst, arith, length-drop}
+use Rattle.im_types.specs.Types.{Command, LAST, is_open, group_of, sequence_of, Ring, next_if, run_from, run}
+use Rattle.im_types.specs.Types.{commands_in, IsBoundary, closed_from, are_stale, ends_stale, room_of, slot, continues}
+use Rattle.im_types.specs.Types.{tail}
+use Rattle.im_journal.proofs.Rings.{closed_more, continues_is, continues_not, first_continues, nth_sequence}
+use Rattle.im_journal.proofs.Rings.{run_dropped, run_more, slot_round, stale_at, stale_each, stale_joined}
+use Rattle.im_journal.proofs.Runs.{behind_boundary, boundary-low, closed_at_most, whole-commands}
 use Rattle.im_journal.proofs.Tails.{Parts, parts_of, tail_of}
-use Rattle.im_journal.proofs.Rings.{continues_is, continues_not, slot_round, first_continues, nth_sequence}
-use Rattle.im_journal.proofs.Rings.{run_dropped, run_more, closed_more, stale_joined, stale_each, stale_at}
 
 pub at_most : (r : Ring) (c : List ℕ) (fuel due s : ℕ) → length (run_from r fuel due s c) ≤ fuel
 at_most r c zero due s = omega arith

@@ -1,15 +1,12 @@
 -- What a journal's owner may rely on while other parts of the file are written.
-use Rattle.std.proofs.Common.{◌≡◌, ◌⊎◌, inl, inr, ⊎_elim, ℕ, ◌+◌, ◌*◌, ◌<◌, ◌≤◌, List, length, get_or, sym, ◌∙◌}
-use Rattle.std.proofs.Common.{subst, arith}
-use Rattle.im_types.specs.Bytes.{open_gate}
-use Rattle.im_types.specs.Slot.{sequence_of}
-use Rattle.im_types.specs.Journal.{Ring, slot}
-use Rattle.im_disk.specs.Moment.{Moment, Left, Torn, Shaken, MayTick, synced}
+use Rattle.std.proofs.Common.{◌≡◌, ℕ, ◌+◌, ◌*◌, ◌<◌, ◌≤◌, ◌⊎◌, List, length, get_or, sym, ◌∙◌, subst, inl, inr, ⊎_elim}
+use Rattle.std.proofs.Common.{arith}
+use Rattle.im_types.specs.Types.{open_gate, sequence_of, Ring, slot}
+use Rattle.im_disk.proofs.SinceLemmas.{left_sync, left_synced, left_torn}
+use Rattle.im_disk.specs.Moment.{Left, MayTick, Moment, Shaken, synced, Torn}
 use Rattle.im_disk.specs.Since.{SameBut}
-use Rattle.im_disk.proofs.SinceLemmas.{left_torn, left_sync, left_synced}
-use Rattle.im_journal.specs.Holding.{JournalState, IsJournal, Holds, AllHold, AreClosed}
-use Rattle.im_journal.proofs.Slots.{slot_inside, same_slot}
-use Rattle.im_journal.proofs.Tails.{tail_elsewhere}
+use Rattle.im_journal.proofs.{Slots.same_slot, Slots.slot_inside, Tails.tail_elsewhere}
+use Rattle.im_journal.specs.Holding.{AllHold, AreClosed, Holds, IsJournal, JournalState}
 
 -- a range before the ring, or behind it
 abbrev pub IsElsewhere : Ring → ℕ → ℕ → Type 0

@@ -1,17 +1,12 @@
 -- How the run and what is behind it are read slot by slot.
-use Rattle.std.proofs.Common.{◌≡◌, ℕ, zero, suc, ◌+◌, ◌-◌, ◌<◌, ◌≤◌, ◌==◌, ◌&&◌, Bool, true, false, List, [], ◌∷◌}
-use Rattle.std.proofs.Common.{◌++◌, Option, Some, None, option_map, option_and_then, length, nat_lt, nat_le, refl}
-use Rattle.std.proofs.Common.{sym, ◌∙◌, ap, arith, if◌then◌else◌}
-use Rattle.std.proofs.lemmas.Bool.{ltb-true, leb-true}
-use Rattle.std.proofs.lemmas.List.{append_assoc}
+use Rattle.std.proofs.Common.{◌≡◌, ℕ, zero, suc, ◌+◌, ◌-◌, ◌<◌, ◌≤◌, Bool, true, false, ◌&&◌, List, [], ◌∷◌, ◌++◌}
+use Rattle.std.proofs.Common.{length, if◌then◌else◌, nat_lt, nat_le, ◌==◌, Some, None, Option, option_map}
+use Rattle.std.proofs.Common.{option_and_then, sym, refl, ap, ◌∙◌, append_assoc, arith, ltb-true, leb-true}
+use Rattle.im_types.specs.Types.{Command, MAX_GROUP, LAST, is_open, group_of, sequence_of, read_in, Ring, run_from, run}
+use Rattle.im_types.specs.Types.{with_first, leads, member, due_after, commands_in, closed_from, are_stale, behind}
+use Rattle.im_types.specs.Types.{ends_stale, room_of, tail_if, slot, continues, tail}
 use Rattle.im_types.proofs.Tests.{and_both}
-use Rattle.im_types.specs.declared.TheConstants.{LAST, MAX_GROUP}
-use Rattle.im_types.specs.declared.commands.Command.{Command}
-use Rattle.im_types.specs.Slot.{is_open, sequence_of, group_of, read_in}
-use Rattle.im_types.specs.Journal.{Ring, slot, continues, run_from, run, with_first, leads, member, due_after}
-use Rattle.im_types.specs.Journal.{commands_in, closed_from, are_stale, behind, ends_stale, room_of, tail_if, tail}
-use Rattle.im_journal.proofs.Runs.{stops, goes, test_true, length-commands}
-use Rattle.im_journal.proofs.Tails.{tail_is}
+use Rattle.im_journal.proofs.{Runs.goes, Runs.length-commands, Runs.stops, Runs.test_true, Tails.tail_is}
 
 -- commands, and those behind them
 abbrev pub behind_these : List Command → Option (List Command) → Option (List Command)

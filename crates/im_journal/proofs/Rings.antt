@@ -1,17 +1,12 @@
 -- A run from a later command on, and what is behind it then.
-use Rattle.std.proofs.Common.{◌≡◌, inl, inr, ℕ, zero, suc, ◌+◌, ◌*◌, ◌-◌, ◌%◌, ◌<◌, ◌≤◌, ◌==◌, ◌&&◌, nat_lt, Bool}
-use Rattle.std.proofs.Common.{true, false, List, [], ◌∷◌, Some, length, take, drop, refl, sym, ◌∙◌, ap, subst, arith}
-use Rattle.std.proofs.Common.{if◌then◌else◌}
-use Rattle.std.proofs.Math.Nat.{add-mul-mod_self_right}
-use Rattle.std.proofs.lemmas.Bool.{ltb-true, lt-ltb}
-use Rattle.std.proofs.lemmas.Bool.Decides.{nat_tests}
+use Rattle.std.proofs.Common.{◌≡◌, ℕ, zero, suc, ◌+◌, ◌-◌, ◌*◌, ◌%◌, ◌<◌, ◌≤◌, Bool, true, false, ◌&&◌, List, [], ◌∷◌}
+use Rattle.std.proofs.Common.{length, take, drop, if◌then◌else◌, nat_lt, ◌==◌, Some, sym, refl, ap, ◌∙◌, subst, inl}
+use Rattle.std.proofs.Common.{inr, arith, ltb-true, lt-ltb}
+use Rattle.std.proofs.{lemmas.Bool.Decides.nat_tests, Math.Nat.add-mul-mod_self_right}
+use Rattle.im_types.specs.Types.{Command, LAST, is_open, group_of, sequence_of, read_in, Ring, run_from, if_true, leads}
+use Rattle.im_types.specs.Types.{commands_in, is_boundary, closed_from, are_stale, slot, continues}
 use Rattle.im_types.proofs.Tests.{and_both}
-use Rattle.im_types.specs.declared.TheConstants.{LAST}
-use Rattle.im_types.specs.declared.commands.Command.{Command}
-use Rattle.im_types.specs.Slot.{is_open, sequence_of, group_of, read_in}
-use Rattle.im_types.specs.Journal.{Ring, slot, continues, run_from, if_true, leads, commands_in, is_boundary}
-use Rattle.im_types.specs.Journal.{closed_from, are_stale}
-use Rattle.im_journal.proofs.Runs.{bool_cases, stops, goes, firsts, test_true}
+use Rattle.im_journal.proofs.Runs.{bool_cases, firsts, goes, stops, test_true}
 
 same_number : (m n : ℕ) → (m == n) ≡ true → m ≡ n
 same_number m n is = grind (arith, nat_tests)

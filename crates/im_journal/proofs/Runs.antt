@@ -1,13 +1,10 @@
 -- How a run, and what is behind it, depend on the slots.
-use Rattle.std.proofs.Common.{◌≡◌, ◌⊎◌, inl, inr, ℕ, zero, suc, ◌+◌, ◌-◌, ◌==◌, ◌<◌, ◌≤◌, ◌&&◌, Bool, true, false}
-use Rattle.std.proofs.Common.{List, [], ◌∷◌, ◌++◌, Option, None, Some, length, drop, nat_lt, refl, sym, ◌∙◌, ap}
-use Rattle.std.proofs.Common.{subst, arith, if◌then◌else◌}
-use Rattle.std.proofs.lemmas.Bool.{ltb-true}
+use Rattle.std.proofs.Common.{◌≡◌, ℕ, zero, suc, ◌+◌, ◌-◌, ◌<◌, ◌≤◌, Bool, true, false, ◌&&◌, ◌⊎◌, List, [], ◌∷◌, ◌++◌}
+use Rattle.std.proofs.Common.{length, drop, if◌then◌else◌, nat_lt, ◌==◌, Some, None, Option, sym, refl, ap, ◌∙◌, subst}
+use Rattle.std.proofs.Common.{inl, inr, arith, ltb-true}
+use Rattle.im_types.specs.Types.{Command, is_open, group_of, sequence_of, read_in, Ring, next_if, run_from, with_first}
+use Rattle.im_types.specs.Types.{if_true, leads, commands_in, is_boundary, closed_from, are_stale, slot, continues}
 use Rattle.im_types.proofs.Tests.{and_both}
-use Rattle.im_types.specs.declared.commands.Command.{Command}
-use Rattle.im_types.specs.Slot.{is_open, sequence_of, group_of, read_in}
-use Rattle.im_types.specs.Journal.{Ring, slot, continues, next_if, run_from, with_first, if_true, leads, commands_in}
-use Rattle.im_types.specs.Journal.{is_boundary, closed_from, are_stale}
 
 pub bool_cases : (b : Bool) → (b ≡ true) ⊎ (b ≡ false)
 bool_cases true = inl refl

@@ -1,14 +1,9 @@
 -- Where the slots of a ring stand, and on which bytes they depend.
-use Rattle.std.proofs.Common.{◌≡◌, ◌≢◌, ◌⊎◌, inl, inr, ⊎_elim, ℕ, ◌+◌, ◌*◌, ◌/◌, ◌%◌, ◌<◌, ◌≤◌, ◌==◌, ◌&&◌, Bool}
-use Rattle.std.proofs.Common.{true, false, List, length, get_or, take, drop, refl, sym, ◌∙◌, ap, arith, length-take}
-use Rattle.std.proofs.Common.{length-drop, get_or-take, get_or-drop, nat_lt, eq-eqb}
-use Rattle.std.proofs.Math.Nat.{mul-le-mul_left, mod-lt}
-use Rattle.std.proofs.lemmas.Bool.{cases_lt, ne_eqb}
-use Rattle.std.proofs.lemmas.List.{ext_get_or, drop-take, drop-drop}
-use Rattle.im_types.specs.declared.TheConstants.{LAST}
-use Rattle.im_types.specs.Bytes.{open_gate}
-use Rattle.im_types.specs.Slot.{is_open, sequence_of}
-use Rattle.im_types.specs.Journal.{Ring, slot_offset, slot, continues}
+use Rattle.std.proofs.Common.{◌≡◌, ℕ, ◌+◌, ◌*◌, ◌/◌, ◌%◌, ◌<◌, ◌≤◌, Bool, true, false, ◌&&◌, ◌≢◌, ◌⊎◌, List, length}
+use Rattle.std.proofs.Common.{get_or, take, drop, nat_lt, ◌==◌, sym, refl, ap, ◌∙◌, inl, inr, ⊎_elim, arith}
+use Rattle.std.proofs.Common.{length-drop, length-take, get_or-drop, get_or-take, drop-drop, ext_get_or, eq-eqb, ne_eqb}
+use Rattle.std.proofs.{lemmas.Bool.cases_lt, lemmas.List.drop-take, Math.Nat.mod-lt, Math.Nat.mul-le-mul_left}
+use Rattle.im_types.specs.Types.{LAST, open_gate, is_open, sequence_of, Ring, slot_offset, slot, continues}
 
 -- numbers less than k apart have different remainders
 apart : (k a b : ℕ) → 0 < k → a < b → b < a + k → a % k ≡ b % k → ⊥

@@ -1,20 +1,13 @@
 -- A slot reads back the command that it spells, and no other bytes read so.
-use Rattle.std.proofs.Common.{◌≡◌, ℕ, ◌<◌, ◌^◌, ◌∷◌, ◌++◌, Bool, true, false, List, [], Option, None, Some, take}
-use Rattle.std.proofs.Common.{drop, length, length-drop, refl, sym, ap, ◌∙◌, arith, if◌then◌else◌, option_and_then}
-use Rattle.std.proofs.lemmas.List.{take_all}
+use Rattle.std.proofs.Common.{◌≡◌, ℕ, ◌^◌, ◌<◌, Bool, true, false, List, [], ◌∷◌, ◌++◌, length, take, drop}
+use Rattle.std.proofs.Common.{if◌then◌else◌, Some, None, Option, option_and_then, sym, refl, ap, ◌∙◌, arith}
+use Rattle.std.proofs.Common.{length-drop, take_all}
+use Rattle.byteorder.specs.{Endian.little_bytes, Endian.little_number, Numbers.little_number-reads_back}
 use Rattle.std.proofs.lemmas.Slice.Eq.{bytes_eq-Decides}
+use Rattle.im_types.specs.Types.{Op, I, M, Alloc, Release, Reset, Fetch, Store, Take, Put, Command, Asks, Confirm}
+use Rattle.im_types.specs.Types.{address_of, open_gate, same_bytes, op_code, op_value, slot_fields, slot_body, op_of}
+use Rattle.im_types.specs.Types.{command_of, group_of, if_spelled_in, FitsCommand, sequence_of, command_in, read_in}
 use Rattle.im_types.proofs.Tests.{false_true}
-use Rattle.byteorder.specs.Endian.{little_number, little_bytes}
-use Rattle.byteorder.specs.Numbers.{little_number-reads_back}
-use Rattle.im_types.specs.declared.operations.Op.{Op}
-use Rattle.im_types.specs.declared.operations.Op.TheVariants.{Alloc, Release, Reset, Fetch, Store, Take, Put}
-use Rattle.im_types.specs.declared.operations.Kind.TheVariants.{I, M}
-use Rattle.im_types.specs.declared.commands.Command.{Command}
-use Rattle.im_types.specs.declared.commands.Command.TheVariants.{Request as Asks, Confirm}
-use Rattle.im_types.specs.Agreement.{address_of}
-use Rattle.im_types.specs.Bytes.{open_gate, same_bytes, op_code, op_value}
-use Rattle.im_types.specs.Slot.{slot_fields, slot_body, op_of, command_of, sequence_of, command_in, group_of}
-use Rattle.im_types.specs.Slot.{if_spelled_in, read_in, FitsCommand}
 
 op_of-spelled : (op : Op) → op_of (op_code op) (address_of op) (op_value op) ≡ Some op
 op_of-spelled (Alloc I n) = refl

@@ -1,25 +1,19 @@
 -- A journal some of whose gates behind the known room were written.
-use Rattle.std.proofs.Common.{◌≡◌, ◌≢◌, ⊎_elim, ℕ, ◌+◌, ◌-◌, ◌*◌, ◌<◌, ◌≤◌, ◌==◌, min, false, if◌then◌else◌, List}
-use Rattle.std.proofs.Common.{Some, length, get_or, take, drop, sym, ◌∙◌, ap, subst, arith, length-take, length-drop}
-use Rattle.std.proofs.Common.{get_or-take, get_or-drop, eq-eqb}
-use Rattle.std.proofs.lemmas.Bool.{cases_lt, cases_eq}
-use Rattle.std.proofs.lemmas.List.{ext_get_or}
+use Rattle.std.proofs.Common.{◌≡◌, ℕ, ◌+◌, ◌-◌, ◌*◌, ◌<◌, ◌≤◌, min, false, ◌≢◌, List, length, get_or, take, drop}
+use Rattle.std.proofs.Common.{if◌then◌else◌, ◌==◌, Some, sym, ap, ◌∙◌, subst, ⊎_elim, arith, length-drop, length-take}
+use Rattle.std.proofs.Common.{get_or-drop, get_or-take, ext_get_or, eq-eqb}
 use Rattle.byteorder.specs.Endian.{little_number}
-use Rattle.im_types.specs.declared.TheConstants.{LAST}
-use Rattle.im_types.specs.declared.commands.Command.{Command}
-use Rattle.im_types.specs.Bytes.{open_gate}
-use Rattle.im_types.specs.Slot.{is_open, sequence_of}
-use Rattle.im_types.specs.Journal.{Ring, slot_offset, slot, closed_from, room_of, tail}
-use Rattle.im_disk.specs.Moment.{Moment}
-use Rattle.im_disk.specs.Since.{SameBut, LeavesOnly}
+use Rattle.std.proofs.lemmas.Bool.{cases_eq, cases_lt}
+use Rattle.im_types.specs.Types.{Command, LAST, open_gate, is_open, sequence_of, Ring, slot_offset, closed_from}
+use Rattle.im_types.specs.Types.{room_of, slot, tail}
 use Rattle.im_disk.proofs.SinceLemmas.{left_now, left_settled, only_weaker}
-use Rattle.im_journal.specs.Holding.{JournalState, IsJournal, Holds, AllHold, to_sweep, with_room, KeepsBoundaries}
-use Rattle.im_journal.specs.Holding.{SameRun, MaySweep, Sweeps}
-use Rattle.im_journal.specs.Gates.{closed_gate as shut_gate, SameButGates, MayClose, HasClosed, AreShut}
-use Rattle.im_journal.proofs.Slots.{slot_inside, away, same_slot, closed_gate}
-use Rattle.im_journal.proofs.Tails.{Parts, parts_of}
-use Rattle.im_journal.proofs.Rings.{other_number, closed_at}
-use Rattle.im_journal.proofs.Sweeps.{tail_swept, boundaries_swept, no_less}
+use Rattle.im_disk.specs.{Moment.Moment, Since.LeavesOnly, Since.SameBut}
+use Rattle.im_journal.proofs.{Rings.closed_at, Rings.other_number, Tails.Parts, Tails.parts_of}
+use Rattle.im_journal.proofs.Slots.{away, closed_gate, same_slot, slot_inside}
+use Rattle.im_journal.proofs.Sweeps.{boundaries_swept, no_less, tail_swept}
+use Rattle.im_journal.specs.Gates.{AreShut, closed_gate as shut_gate, HasClosed, MayClose, SameButGates}
+use Rattle.im_journal.specs.Holding.{AllHold, Holds, IsJournal, JournalState, KeepsBoundaries, MaySweep, SameRun}
+use Rattle.im_journal.specs.Holding.{Sweeps, to_sweep, with_room}
 
 -- a slot's sequence number doesn't depend on its gate
 sequence_bytes : (r : Ring) (s : ℕ) (c : List ℕ) (i : ℕ) → i < 8 → get_or (take 8 (drop 8 (slot r s c))) i 0

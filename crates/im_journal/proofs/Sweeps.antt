@@ -1,16 +1,11 @@
 -- The tail of a journal some of whose stale slots had their gates written.
-use Rattle.std.proofs.Common.{◌≡◌, ℕ, zero, suc, ◌+◌, ◌-◌, ◌<◌, ◌≤◌, Bool, true, false, if◌then◌else◌, List, Some}
-use Rattle.std.proofs.Common.{length, refl, sym, ◌∙◌, ap, subst, arith}
-use Rattle.im_types.specs.declared.TheConstants.{LAST}
-use Rattle.im_types.specs.declared.commands.Command.{Command}
-use Rattle.im_types.specs.Slot.{is_open, sequence_of}
-use Rattle.im_types.specs.Journal.{Ring, slot, continues, run_from, run, commands_in, is_boundary, closed_from}
-use Rattle.im_types.specs.Journal.{ends_stale, room_of, tail}
-use Rattle.im_journal.specs.Holding.{KeepsBoundaries}
-use Rattle.im_journal.proofs.Runs.{same_run}
-use Rattle.im_journal.proofs.Tails.{Parts, parts_of, tail_of}
-use Rattle.im_journal.proofs.Rings.{continues_not, continues_closed, other_number, stale_at, stale_each, stale_at}
-use Rattle.im_journal.proofs.Rings.{closed_at_least}
+use Rattle.std.proofs.Common.{◌≡◌, ℕ, zero, suc, ◌+◌, ◌-◌, ◌<◌, ◌≤◌, Bool, true, false, List, length, if◌then◌else◌}
+use Rattle.std.proofs.Common.{Some, sym, refl, ap, ◌∙◌, subst, arith}
+use Rattle.im_types.specs.Types.{Command, LAST, is_open, sequence_of, Ring, run_from, run, commands_in, is_boundary}
+use Rattle.im_types.specs.Types.{closed_from, ends_stale, room_of, slot, continues, tail}
+use Rattle.im_journal.{proofs.Rings.closed_at_least, proofs.Rings.continues_closed, proofs.Rings.continues_not}
+use Rattle.im_journal.{proofs.Rings.other_number, proofs.Rings.stale_at, proofs.Rings.stale_each, proofs.Runs.same_run}
+use Rattle.im_journal.{proofs.Tails.Parts, proofs.Tails.parts_of, proofs.Tails.tail_of, specs.Holding.KeepsBoundaries}
 
 module _ (r : Ring) (first : ℕ) (c d : List ℕ) (commands : List Command) (room : ℕ)
     (e : tail r first c ≡ Some (record { commands = commands; room = room })) where

@@ -1,28 +1,23 @@
 -- How a tail depends on the file's bytes.
-use Rattle.std.proofs.Common.{◌≡◌, ◌≢◌, ◌⊎◌, inl, inr, ⊎_elim, ℕ, zero, suc, ◌+◌, ◌-◌, ◌*◌, ◌%◌, ◌<◌, ◌≤◌, ◌==◌, Bool}
-use Rattle.std.proofs.Common.{true, false, List, [], ◌++◌, Option, None, Some, option_and_then, length, get_or, take}
-use Rattle.std.proofs.Common.{drop, refl, sym, ◌∙◌, ap, subst, arith, length-append, if◌then◌else◌}
-use Rattle.std.proofs.Math.Nat.{mod-lt, mod-eq_of_lt}
-use Rattle.std.proofs.lemmas.Bool.{cases_eq, cases_lt}
-use Rattle.std.proofs.lemmas.List.{drop-take, take-take, drop-drop}
-use Rattle.im_types.specs.declared.TheConstants.{LAST, MAX_GROUP}
-use Rattle.im_types.specs.declared.commands.Command.{Command}
-use Rattle.im_types.specs.Bytes.{open_gate}
-use Rattle.im_types.specs.Slot.{is_open}
-use Rattle.im_types.specs.Journal.{Ring, slot_offset, slot, continues, run_from, run, commands_in, is_boundary}
-use Rattle.im_types.specs.Journal.{IsBoundary, closed_from, are_stale, behind, ends_stale, room_of, Tail, tail_if}
-use Rattle.im_types.specs.Journal.{tail}
+use Rattle.std.proofs.Common.{◌≡◌, ℕ, zero, suc, ◌+◌, ◌-◌, ◌*◌, ◌%◌, ◌<◌, ◌≤◌, Bool, true, false, ◌≢◌, ◌⊎◌, List, []}
+use Rattle.std.proofs.Common.{◌++◌, length, get_or, take, drop, if◌then◌else◌, ◌==◌, Some, None, Option}
+use Rattle.std.proofs.Common.{option_and_then, sym, refl, ap, ◌∙◌, subst, inl, inr, ⊎_elim, arith, length-append}
+use Rattle.std.proofs.Common.{take-take, drop-drop}
+use Rattle.std.proofs.lemmas.{Bool.cases_eq, Bool.cases_lt, List.drop-take}
+use Rattle.std.proofs.Math.Nat.{mod-eq_of_lt, mod-lt}
+use Rattle.im_types.specs.Types.{Command, MAX_GROUP, LAST, open_gate, is_open, Ring, slot_offset, run_from, run}
+use Rattle.im_types.specs.Types.{commands_in, is_boundary, IsBoundary, closed_from, are_stale, behind, ends_stale}
+use Rattle.im_types.specs.Types.{room_of, Tail, tail_if, slot, continues, tail}
 use Rattle.im_disk.specs.Since.{SameBut}
-use Rattle.im_journal.specs.Groups.{HasBodies, AllFit, SameButGroup}
-use Rattle.im_journal.specs.Holding.{room_after, longer_tail, AreClosed, KeepsBoundaries}
-use Rattle.im_journal.proofs.Slots.{slot_inside, away, away_after, not_in, same_slot, same_gate, no_gate_behind}
-use Rattle.im_journal.proofs.Slots.{closed_gate, gate_closed, stops_closed, stops_other}
-use Rattle.im_journal.proofs.Rings.{closed_at}
-use Rattle.im_journal.proofs.Groups.{LedBy, led_by, beside_group}
-use Rattle.im_journal.proofs.Runs.{stops, same_run, slots_at, length-slots_at, added_group, same_closed, all_closed}
-use Rattle.im_journal.proofs.Runs.{closed_at_most, closed_first, closed_behind, same_stale, stale_first, run_moved}
-use Rattle.im_journal.proofs.Runs.{closed_moved, stale_moved, length-commands, whole-commands, boundary-append}
-use Rattle.im_journal.proofs.Runs.{boundary-low, commands_joined}
+use Rattle.im_journal.proofs.{Groups.beside_group, Groups.led_by, Groups.LedBy, Rings.closed_at}
+use Rattle.im_journal.proofs.Runs.{added_group, all_closed, boundary-append, boundary-low, closed_at_most}
+use Rattle.im_journal.proofs.Runs.{closed_behind, closed_first, closed_moved, commands_joined, length-commands}
+use Rattle.im_journal.proofs.Runs.{length-slots_at, run_moved, same_closed, same_run, same_stale, slots_at, stale_first}
+use Rattle.im_journal.proofs.Runs.{stale_moved, stops, whole-commands}
+use Rattle.im_journal.proofs.Slots.{away, away_after, closed_gate, gate_closed, no_gate_behind, not_in, same_gate}
+use Rattle.im_journal.proofs.Slots.{same_slot, slot_inside, stops_closed, stops_other}
+use Rattle.im_journal.specs.Groups.{AllFit, HasBodies, SameButGroup}
+use Rattle.im_journal.specs.Holding.{AreClosed, KeepsBoundaries, longer_tail, room_after}
 
 -- the tail, by the run and by what is behind it
 abbrev finished : ℕ → List (List ℕ) → (ℕ → Bool) → (ℕ → ℕ) → Option Tail

@@ -1,16 +1,14 @@
 -- What each device call that writes the bodies of a group may leave.
-use Rattle.std.proofs.Common.{◌≡◌, ◌⊎◌, inl, inr, ℕ, ◌+◌, ◌*◌, ◌<◌, ◌≤◌, List, [], ◌∷◌, ◌++◌, length, get_or, take}
-use Rattle.std.proofs.Common.{drop, refl, sym, ◌∙◌, ap, subst, arith, length-append}
-use Rattle.im_types.specs.declared.commands.Command.{Command}
-use Rattle.im_types.specs.Slot.{slot_body, FitsCommand}
-use Rattle.im_types.specs.Journal.{Ring, slot_offset, slot}
-use Rattle.im_disk.specs.Moment.{Moment, Left, Torn, MayTick, overlaid, written}
-use Rattle.im_disk.specs.Since.{SameBut, LeavesOnly, LeavesNow, Calls}
+use Rattle.std.proofs.Common.{◌≡◌, ℕ, ◌+◌, ◌*◌, ◌<◌, ◌≤◌, ◌⊎◌, List, [], ◌∷◌, ◌++◌, length, get_or, take, drop, sym}
+use Rattle.std.proofs.Common.{refl, ap, ◌∙◌, subst, inl, inr, arith, length-append}
+use Rattle.im_types.specs.Types.{Command, slot_body, FitsCommand, Ring, slot_offset, slot}
 use Rattle.im_disk.proofs.OverlayLemmas.{length-overlaid, overlaid_outside, overlaid_part}
 use Rattle.im_disk.proofs.SinceLemmas.{leaves_start, leaves_step, left_torn}
-use Rattle.im_journal.specs.Groups.{HasBodies, AllFit, count_at, SameButBodies, MayWriteBodies, AreWritten}
-use Rattle.im_journal.proofs.Slots.{slot_inside, same_slot, body_is, away}
-use Rattle.im_journal.proofs.Groups.{same_bodies, bodies_push, fits_push}
+use Rattle.im_disk.specs.Moment.{Left, MayTick, Moment, overlaid, Torn, written}
+use Rattle.im_disk.specs.Since.{Calls, LeavesNow, LeavesOnly, SameBut}
+use Rattle.im_journal.proofs.Groups.{bodies_push, fits_push, same_bodies}
+use Rattle.im_journal.proofs.Slots.{away, body_is, same_slot, slot_inside}
+use Rattle.im_journal.specs.Groups.{AllFit, AreWritten, count_at, HasBodies, MayWriteBodies, SameButBodies}
 
 -- The bodies of the commands so far are written, of a group of n.
 pub record IsWriting {D : Type 0} (now : D → Moment) (past : D → List Moment) (r : Ring) (s n : ℕ)

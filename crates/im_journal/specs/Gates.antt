@@ -1,7 +1,7 @@
 -- Closing the gates of a ring's slots.
 use Rattle.std.specs.Prelude.{◌≡◌, ℕ, ◌+◌, ◌*◌, ◌^◌, ◌<◌, List, [], length, slice_index}
-use Rattle.im_types.specs.Journal.{Ring, slot_offset}
-use Rattle.im_disk.specs.Moment.{Moment, Left}
+use Rattle.im_types.specs.Types.{Ring, slot_offset}
+use Rattle.im_disk.specs.Moment.{Left, Moment}
 
 -- the byte that closes a gate; any byte but that of an open gate would do
 abbrev pub closed_gate : ℕ

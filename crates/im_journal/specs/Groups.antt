@@ -1,10 +1,7 @@
 -- A group of commands in the slots of a ring: what stands there, and how it is written.
-use Rattle.std.specs.Prelude.{◌≡◌, ◌≢◌, ◌⊎◌, ℕ, zero, suc, ◌+◌, ◌<◌, ◌≤◌, List, [], ◌∷◌, length, drop, slice_index}
-use Rattle.im_types.specs.declared.TheConstants.{LAST, MAX_GROUP}
-use Rattle.im_types.specs.declared.commands.Command.{Command}
-use Rattle.im_types.specs.Slot.{slot_body, FitsCommand}
-use Rattle.im_types.specs.Journal.{Ring, slot_offset, slot}
-use Rattle.im_disk.specs.Moment.{Moment, Left}
+use Rattle.std.specs.Prelude.{◌≡◌, ℕ, zero, suc, ◌+◌, ◌<◌, ◌≤◌, ◌≢◌, ◌⊎◌, List, [], ◌∷◌, length, drop, slice_index}
+use Rattle.im_types.specs.Types.{Command, MAX_GROUP, LAST, slot_body, FitsCommand, Ring, slot_offset, slot}
+use Rattle.im_disk.specs.Moment.{Left, Moment}
 use Rattle.im_journal.specs.Gates.{IsRing}
 
 -- the group count of the slot behind k others, in a group of `many` commands

@@ -1,18 +1,10 @@
 -- A journal over a disk: what its file holds, and what an append leaves.
-use Rattle.std.specs.Prelude.{◌≡◌, ◌≢◌, ◌⊎◌, ℕ, ◌+◌, ◌-◌, ◌*◌, ◌^◌, ◌<◌, ◌≤◌, ◌==◌, min, List, [], ◌++◌, length, drop}
-use Rattle.std.specs.Prelude.{slice_index, true, Some, option_map, if◌then◌else◌, ◌↔◌, Result, IsErrOf}
-use Rattle.im_types.specs.declared.TheConstants.{LAST, MIN_SLOTS, MAX_SLOTS}
-use Rattle.im_types.specs.declared.commands.Command.{Command}
-use Rattle.im_types.specs.declared.refusals.Refusal.{Refusal}
-use Rattle.im_types.specs.declared.refusals.Refusal.TheVariants.{JournalFull}
-use Rattle.im_types.specs.declared.sizes.Limits.{Limits}
-use Rattle.im_types.specs.Bytes.{open_gate}
-use Rattle.im_types.specs.Slot.{is_open, sequence_of}
-use Rattle.im_types.specs.Journal.{Ring, slot, IsBoundary, Tail, tail}
-use Rattle.im_types.specs.declared.layout.Version.{Version}
-use Rattle.im_types.specs.Layout.{layout_in_use, layout_of, ring_of}
-use Rattle.im_disk.specs.Moment.{Moment, Left}
-use Rattle.im_disk.specs.Since.{SameBut, LeavesNow}
+use Rattle.std.specs.Prelude.{◌≡◌, ℕ, ◌+◌, ◌-◌, ◌*◌, ◌^◌, ◌<◌, ◌≤◌, min, true, ◌≢◌, ◌⊎◌, ◌↔◌, List, [], ◌++◌, length}
+use Rattle.std.specs.Prelude.{drop, if◌then◌else◌, ◌==◌, slice_index, Some, Result, option_map, IsErrOf}
+use Rattle.im_types.specs.Types.{Command, Refusal, JournalFull, MIN_SLOTS, MAX_SLOTS, LAST, Limits, Version, layout_of}
+use Rattle.im_types.specs.Types.{layout_in_use, ring_of, open_gate, is_open, sequence_of, Ring, IsBoundary, Tail, slot}
+use Rattle.im_types.specs.Types.{tail}
+use Rattle.im_disk.specs.{Moment.Left, Moment.Moment, Since.LeavesNow, Since.SameBut}
 use Rattle.im_journal.specs.Groups.{HasBodies, SameButGroup}
 
 -- the ring of an image of a version with these limits

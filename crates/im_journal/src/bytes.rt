@@ -1,7 +1,6 @@
 // Reads a part of a disk.
-ghost use Rattle.std.specs.Prelude.{◌≡◌, ◌⊎◌, ◌+◌, ◌≤◌, length, take, drop, IfOk, IfErr, OnOk, IsErrOf};
-ghost use Rattle.im_disk.specs.Runs.{ReadsOrRefuses};
-ghost use Rattle.im_disk.specs.Since.{Calls};
+ghost use Rattle.std.specs.Prelude.{◌≡◌, ◌+◌, ◌≤◌, ◌⊎◌, length, take, drop, IfOk, IfErr, OnOk, IsErrOf};
+ghost use Rattle.im_disk.specs.{Runs.ReadsOrRefuses, Since.Calls};
 
 use im_disk::Disk;
 use im_types::Refusal;

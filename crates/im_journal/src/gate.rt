@@ -1,8 +1,7 @@
 // Closes the gates of slots.
-ghost use Rattle.std.specs.Prelude.{◌≡◌, ◌+◌, ◌*◌, ◌≤◌, ◌<◌, ◌^◌, length, OnOk};
+ghost use Rattle.std.specs.Prelude.{◌≡◌, ◌+◌, ◌*◌, ◌^◌, ◌<◌, ◌≤◌, length, OnOk};
 ghost use Rattle.im_disk.specs.Runs.{Runs};
-ghost use Rattle.im_journal.specs.Gates.{IsRing, MayClose, AreShut};
-ghost use Rattle.im_journal.specs.Holding.{ring_at};
+ghost use Rattle.im_journal.specs.{Gates.AreShut, Gates.IsRing, Gates.MayClose, Holding.ring_at};
 
 use im_disk::{DeviceFault, Disk};
 use im_types::layout::CLOSED;

@@ -1,7 +1,7 @@
 // Writes the bodies of a group of commands.
 ghost use Rattle.std.specs.Prelude.{◌≡◌, ◌+◌, ◌*◌, ◌≤◌, length, OnOk};
 ghost use Rattle.im_disk.specs.Runs.{Runs};
-ghost use Rattle.im_journal.specs.Groups.{count_at, FitsRing, MayWriteBodies, AreWritten};
+ghost use Rattle.im_journal.specs.Groups.{AreWritten, count_at, FitsRing, MayWriteBodies};
 ghost use Rattle.im_journal.specs.Holding.{ring_at};
 
 use crate::slot::spell_in;

@@ -1,13 +1,12 @@
 //! The journal as its owner sees it: how far its run of commands has come, how a command is added, and how the slots of
 //! commands before the run become room again.
-ghost use Rattle.std.specs.Prelude.{◌≡◌, ◌⊎◌, ◌+◌, ◌*◌, ◌-◌, ◌≤◌, ◌<◌, List, [], ◌∷◌, ℕ, length, drop, min, Some, None};
-ghost use Rattle.std.specs.Prelude.{◌&&◌, nat_le, OnOk, IfOk, IfErr, MatchResult};
-ghost use Rattle.im_types.specs.Journal.{tail};
-ghost use Rattle.im_disk.specs.Runs.{RunsOrRefuses, ReadsOrRefuses};
-ghost use Rattle.im_disk.specs.Since.{Calls};
-ghost use Rattle.im_journal.specs.Holding.{ring_in, ring_under, IsJournal, Holds, AllHold, AreClosed, IsTail};
-ghost use Rattle.im_journal.specs.Holding.{room_after, longer, MayBeginAt, rest_behind, MayAppend, Adds, IsFullBy};
-ghost use Rattle.im_journal.specs.Holding.{to_sweep, MaySweep, IsSwept, IsSweptBy, Sweeps};
+ghost use Rattle.std.specs.Prelude.{◌≡◌, ℕ, ◌+◌, ◌-◌, ◌*◌, ◌<◌, ◌≤◌, min, ◌&&◌, ◌⊎◌, List, [], ◌∷◌, length, drop, IfOk};
+ghost use Rattle.std.specs.Prelude.{IfErr, OnOk, nat_le, MatchResult, Some, None};
+ghost use Rattle.im_types.specs.Types.{tail};
+ghost use Rattle.im_disk.specs.{Runs.ReadsOrRefuses, Runs.RunsOrRefuses, Since.Calls};
+ghost use Rattle.im_journal.specs.Holding.{Adds, AllHold, AreClosed, Holds, IsFullBy, IsJournal, IsSwept, IsSweptBy};
+ghost use Rattle.im_journal.specs.Holding.{IsTail, longer, MayAppend, MayBeginAt, MaySweep, rest_behind, ring_in};
+ghost use Rattle.im_journal.specs.Holding.{ring_under, room_after, Sweeps, to_sweep};
 
 use crate::bytes::read_bytes;
 use crate::gate::close_gates;
@@ -32,7 +31,7 @@ pub struct Journal {
 }
 
 impl Model for Journal {
-    ghost use Rattle.im_journal.specs.Holding.{JournalState, IsJournal, journal_state};
+    ghost use Rattle.im_journal.specs.Holding.{IsJournal, journal_state, JournalState};
 
     ghost Value = { JournalState };
 

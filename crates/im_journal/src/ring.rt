@@ -1,10 +1,9 @@
 // The slots of a ring in memory: the run of commands, and what is behind it.
-ghost use Rattle.std.specs.Prelude.{◌≡◌, ◌⊎◌, ◌+◌, ◌*◌, ◌-◌, ◌<◌, ◌≤◌, ◌^◌, ◌==◌, true, length, if◌then◌else◌};
-ghost use Rattle.std.specs.Prelude.{Some, None, IfOk, IfErr, IsErrOf};
-ghost use Rattle.im_types.specs.Bytes.{open_gate};
-ghost use Rattle.im_types.specs.Slot.{is_open};
-ghost use Rattle.im_types.specs.Journal.{slot, continues, run_from, commands_in, closed_from, are_stale, tail};
-ghost use Rattle.im_journal.specs.Holding.{ring_alone, AreSlots};
+ghost use Rattle.std.specs.Prelude.{◌≡◌, ◌+◌, ◌-◌, ◌*◌, ◌^◌, ◌<◌, ◌≤◌, true, ◌⊎◌, length, IfOk, IfErr, if◌then◌else◌};
+ghost use Rattle.std.specs.Prelude.{◌==◌, Some, None, IsErrOf};
+ghost use Rattle.im_types.specs.Types.{open_gate, is_open, run_from, commands_in, closed_from, are_stale, slot};
+ghost use Rattle.im_types.specs.Types.{continues, tail};
+ghost use Rattle.im_journal.specs.Holding.{AreSlots, ring_alone};
 
 use crate::slot::{due_after, member, sequence_in};
 use im_types::layout::OPEN;

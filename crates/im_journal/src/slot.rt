@@ -1,9 +1,7 @@
 // A command as the 64 bytes of a slot.
-ghost use Rattle.std.specs.Prelude.{◌≡◌, ◌<◌, ◌≤◌, ◌^◌, ◌∷◌, drop, Some, IfSome};
-ghost use Rattle.im_types.specs.Bytes.{open_gate};
-ghost use Rattle.im_types.specs.Slot.{slot_fields, slot_body, sequence_of, FitsCommand};
-ghost use Rattle.im_types.specs.Slot.{command_of, command_in, read_in, read_slot};
-ghost use Rattle.im_types.specs.Journal.{leads, member, due_after};
+ghost use Rattle.std.specs.Prelude.{◌≡◌, ◌^◌, ◌<◌, ◌≤◌, ◌∷◌, drop, IfSome, Some};
+ghost use Rattle.im_types.specs.Types.{open_gate, slot_fields, slot_body, command_of, read_slot, FitsCommand};
+ghost use Rattle.im_types.specs.Types.{sequence_of, command_in, read_in, leads, member, due_after};
 
 use byteorder::{ByteOrder, LittleEndian};
 use im_types::codes::{address_of, op_code, op_of, op_value};

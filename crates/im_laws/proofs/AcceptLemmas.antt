@@ -1,27 +1,15 @@
 -- A command is accepted exactly where it changes the memory.
-use Rattle.std.proofs.Common.{◌≡◌, ⊎_elim, ℕ, ◌+◌, ◌-◌, ◌<◌, ◌≤◌, max, get_or, set, drop, Some, None, Ok, Err, Bool}
-use Rattle.std.proofs.Common.{true, false, refl, sym, ap, ◌∙◌, arith}
-use Rattle.std.specs.Prelude.{Option, Result, slice_get, nat_lt, is_ok, IsOk}
-use Rattle.std.proofs.lemmas.List.{set-get_or}
-use Rattle.std.proofs.lemmas.Bool.Decides.{nat_tests}
-use Rattle.im_types.specs.declared.commands.Request.{Request}
-use Rattle.im_types.specs.declared.commands.Command.{Command}
-use Rattle.im_types.specs.declared.commands.Command.TheVariants.{Request as Asks, Confirm}
-use Rattle.im_types.specs.declared.commands.Outcome.{Outcome}
-use Rattle.im_types.specs.declared.commands.Judged.{Judged}
-use Rattle.im_types.specs.declared.commands.Judged.TheVariants.{Fresh, Repeat}
-use Rattle.im_types.specs.declared.refusals.Refusal.{Refusal}
-use Rattle.im_types.specs.Contents.{Window, Contents, new_window}
-use Rattle.im_types.specs.Window.{judge, confirm_window, bounds_of, bounds}
-use Rattle.im_types.specs.Step.{step, step_request, step_confirm, is_fresh, moves_base, is_accepted, unless_refused}
-use Rattle.im_types.specs.Step.{acceptance}
-use Rattle.im_laws.specs.Windows.{TakesNextNumber, MovesBase}
-use Rattle.im_laws.proofs.Tests.{true_or_false, true_false}
-use Rattle.im_laws.proofs.WindowLemmas.{window_at}
-use Rattle.im_laws.proofs.StepLemmas.{judge-fresh}
-use Rattle.im_laws.proofs.RunAgrees.{IsConfirmed, confirm-ok}
-use Rattle.im_laws.proofs.BoundsLemmas.{bounds-next, bounds-serve_here, bounds-serve_other, bounds-confirm_here}
-use Rattle.im_laws.proofs.BoundsLemmas.{bounds-confirm_other}
+use Rattle.std.proofs.Common.{◌≡◌, ℕ, ◌+◌, ◌-◌, ◌<◌, ◌≤◌, max, Bool, true, false, get_or, drop, set, is_ok, IsOk}
+use Rattle.std.proofs.Common.{nat_lt, slice_get, Some, None, Ok, Err, Option, Result, sym, refl, ap, ◌∙◌, ⊎_elim, arith}
+use Rattle.std.proofs.lemmas.{Bool.Decides.nat_tests, List.set-get_or}
+use Rattle.im_types.specs.Types.{Request, Command, Outcome, Judged, Asks, Confirm, Fresh, Repeat, Refusal, Window}
+use Rattle.im_types.specs.Types.{Contents, new_window, judge, confirm_window, bounds_of, bounds, step_request}
+use Rattle.im_types.specs.Types.{step_confirm, step, is_fresh, moves_base, is_accepted, unless_refused, acceptance}
+use Rattle.im_laws.proofs.BoundsLemmas.{bounds-confirm_here, bounds-confirm_other, bounds-next, bounds-serve_here}
+use Rattle.im_laws.proofs.BoundsLemmas.{bounds-serve_other}
+use Rattle.im_laws.proofs.{RunAgrees.confirm-ok, RunAgrees.IsConfirmed, StepLemmas.judge-fresh, WindowLemmas.window_at}
+use Rattle.im_laws.proofs.Tests.{true_false, true_or_false}
+use Rattle.im_laws.specs.Windows.{MovesBase, TakesNextNumber}
 
 pub same_bounds : (a b c d : ℕ) → ◌≡◌ {A = Result (ℕ × ℕ) Refusal} (Ok (a, b)) (Ok (c, d)) → (a ≡ c) × (b ≡ d)
 same_bounds a b c d e = let pair : ◌≡◌ {A = ℕ × ℕ} (a, b) (c, d) = cc in

@@ -1,25 +1,14 @@
 -- The waiting agreement, after one cell is written, entries are answered, and a block is made or released.
-use Rattle.std.proofs.Common.{◌≡◌, ◌≢◌, ◌⊎◌, inl, inr, ⊎_elim, ℕ, zero, suc, ◌+◌, ◌<◌, ◌≤◌, List, [], ◌∷◌, ◌++◌}
-use Rattle.std.proofs.Common.{length, set, Some, None, Bool, true, false, cond, refl, sym, ap, ◌∙◌, subst, arith}
-use Rattle.std.specs.Prelude.{Option, ◌==◌, ◌&&◌}
-use Rattle.std.proofs.lemmas.List.{get_or-set_same, get_or-set_other}
-use Rattle.std.proofs.lemmas.Bool.{cases_eq}
-use Rattle.std.proofs.lemmas.Bool.Decides.{nat_tests}
-use Rattle.im_types.specs.declared.operations.Op.{Op}
-use Rattle.im_types.specs.declared.operations.Kind.{Kind}
-use Rattle.im_types.specs.declared.operations.Kind.TheVariants.{I, M}
-use Rattle.im_types.specs.declared.operations.Block.{Block}
-use Rattle.im_types.specs.declared.operations.Waiter.{Waiter}
-use Rattle.im_types.specs.declared.operations.Kept.{Kept}
-use Rattle.im_types.specs.declared.operations.Entry.TheVariants.{Waiting}
-use Rattle.im_types.specs.Contents.{CellState, Empty, Held, held_at, waiters_of, waiters_in, waiters_at}
-use Rattle.im_types.specs.Window.{same_op, is_waiting}
-use Rattle.im_types.specs.Place.{fill, change_each}
-use Rattle.im_types.specs.Act.{emptied}
-use Rattle.im_laws.proofs.OpLemmas.{same_op-self, same_op-equal}
-use Rattle.im_laws.proofs.Tests.{and_both, and_false, eq_by_test, test-self, true_or_false, true_false}
-use Rattle.im_laws.proofs.PlaceLemmas.{get_or-fill, get_or-change_each}
-use Rattle.im_types.specs.Agreement.{same_waiter, times, awaiting, waits_for, waits_in, address_of, WaitersAgree}
+use Rattle.std.proofs.Common.{◌≡◌, ℕ, zero, suc, ◌+◌, ◌<◌, ◌≤◌, Bool, true, false, cond, ◌&&◌, ◌≢◌, ◌⊎◌, List, [], ◌∷◌}
+use Rattle.std.proofs.Common.{◌++◌, length, set, ◌==◌, Some, None, Option, sym, refl, ap, ◌∙◌, subst, inl, inr, ⊎_elim}
+use Rattle.std.proofs.Common.{arith, get_or-set_other, get_or-set_same}
+use Rattle.std.proofs.lemmas.Bool.{cases_eq, Decides.nat_tests}
+use Rattle.im_types.specs.Types.{Kind, Op, Waiter, Block, Kept, Waiting, I, M, CellState, Empty, Held, held_at}
+use Rattle.im_types.specs.Types.{waiters_of, waiters_in, waiters_at, same_waiter, times, awaiting, waits_for, waits_in}
+use Rattle.im_types.specs.Types.{address_of, WaitersAgree, fill, change_each, emptied, same_op, is_waiting}
+use Rattle.im_laws.proofs.OpLemmas.{same_op-equal, same_op-self}
+use Rattle.im_laws.proofs.PlaceLemmas.{get_or-change_each, get_or-fill}
+use Rattle.im_laws.proofs.Tests.{and_both, and_false, eq_by_test, test-self, true_false, true_or_false}
 
 -- one, if the test is passed
 abbrev pub one_if : Bool → ℕ

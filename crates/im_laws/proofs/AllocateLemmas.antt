@@ -1,29 +1,16 @@
 -- What an allocation, a release and a reset come to.
-use Rattle.std.proofs.Common.{◌≡◌, ℕ, ◌+◌, ◌<◌, ◌≤◌, List, [], length, take, drop, Some, None, Bool, true, false}
-use Rattle.std.proofs.Common.{cond, refl, sym, ap, ◌∙◌, arith}
-use Rattle.std.specs.Prelude.{Option, ◌==◌, option_map}
-use Rattle.std.specs.List.{list_any}
-use Rattle.std.proofs.lemmas.Bool.Decides.{nat_tests}
-use Rattle.im_types.specs.declared.operations.Op.TheVariants.{Alloc, Release, Reset}
-use Rattle.im_types.specs.declared.operations.Kind.{Kind}
-use Rattle.im_types.specs.declared.operations.Reply.{Reply}
-use Rattle.im_types.specs.declared.operations.Reply.TheVariants.{Base, NoSpace, BadLength, Released, NoBlock}
-use Rattle.im_types.specs.declared.operations.Reply.TheVariants.{StillWaiting, Cleared}
-use Rattle.im_types.specs.declared.operations.Entry.TheVariants.{Answered}
-use Rattle.im_types.specs.declared.operations.Block.{Block}
-use Rattle.im_types.specs.declared.commands.Request.{Request}
-use Rattle.im_types.specs.Contents.{Held, Contents, held_at, waiters_at, block_at, HasBlocks}
-use Rattle.im_types.specs.Place.{is_free, place, fill, change_each, IsLeastFree}
-use Rattle.im_types.specs.Act.{only_tells, new_cell, allocate, allocate_at, unless_waited_for, emptied}
-use Rattle.im_types.specs.Act.{block_with_base, is_waiting_cell}
-use Rattle.im_types.specs.Step.{Stepped}
-use Rattle.im_laws.specs.Cells.{empty_cell}
-use Rattle.im_laws.specs.Requests.{after_request, IsServed}
-use Rattle.im_laws.proofs.Tests.{some_none, some_same}
+use Rattle.std.proofs.Common.{◌≡◌, ℕ, ◌+◌, ◌<◌, ◌≤◌, Bool, true, false, cond, List, [], length, take, drop, ◌==◌, Some}
+use Rattle.std.proofs.Common.{None, Option, option_map, sym, refl, ap, ◌∙◌, arith}
+use Rattle.std.{proofs.lemmas.Bool.Decides.nat_tests, specs.List.list_any}
+use Rattle.im_types.specs.Types.{Kind, Reply, Block, Answered, Alloc, Release, Reset, Base, NoSpace, BadLength}
+use Rattle.im_types.specs.Types.{Released, NoBlock, StillWaiting, Cleared, Request, Held, Contents, held_at, waiters_at}
+use Rattle.im_types.specs.Types.{block_at, HasBlocks, is_free, place, fill, change_each, IsLeastFree, only_tells}
+use Rattle.im_types.specs.Types.{new_cell, allocate_at, allocate, block_with_base, is_waiting_cell, unless_waited_for}
+use Rattle.im_types.specs.Types.{emptied, Stepped}
+use Rattle.im_laws.proofs.{BlockLemmas.get_or-fill_in, BlockLemmas.place-fits, ResumeLemmas.new-served}
+use Rattle.im_laws.proofs.{ResumeLemmas.served-entry, StepAgrees.nobody_waits, Tests.some_none, Tests.some_same}
 use Rattle.im_laws.proofs.PlaceLemmas.{get_or-change_each_in, place-least, place-none}
-use Rattle.im_laws.proofs.BlockLemmas.{get_or-fill_in, place-fits}
-use Rattle.im_laws.proofs.StepAgrees.{nobody_waits}
-use Rattle.im_laws.proofs.ResumeLemmas.{new-served, served-entry}
+use Rattle.im_laws.specs.{Cells.empty_cell, Requests.after_request, Requests.IsServed}
 
 same_reply : (a b : Reply) → Answered a ≡ Answered b → a ≡ b
 same_reply a b e = cc

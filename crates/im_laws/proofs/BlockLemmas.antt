@@ -1,30 +1,17 @@
 -- Each operation keeps that blocks lie below the cell count and don't overlap.
-use Rattle.std.proofs.Common.{take, drop}
-use Rattle.std.specs.Prelude.{◌==◌}
-use Rattle.std.specs.List.{list_any}
-use Rattle.std.proofs.lemmas.Bool.Decides.{nat_tests}
-use Rattle.im_types.specs.declared.operations.Op.{Op}
-use Rattle.im_types.specs.declared.operations.Op.TheVariants.{Alloc, Release, Reset, Fetch, Store, Take, Put}
-use Rattle.im_types.specs.declared.operations.Kind.{Kind}
-use Rattle.im_types.specs.declared.operations.Kind.TheVariants.{I, M}
-use Rattle.im_types.specs.declared.operations.Waiter.{Waiter}
-use Rattle.im_types.specs.declared.operations.Entry.TheVariants.{Answered}
-use Rattle.im_types.specs.declared.operations.Reply.{Reply}
-use Rattle.im_types.specs.declared.operations.Reply.TheVariants.{BadLength, WrongKind, StillWaiting, Released, Cleared}
-use Rattle.im_types.specs.Contents.{Empty}
-use Rattle.im_types.specs.Act.{Served, only_tells, fetch, store, take_from, put, same_kind, serve_cell, at_cell}
-use Rattle.im_types.specs.Act.{allocate, allocate_at, unless_waited_for, release_block, emptied, reset_block}
-use Rattle.im_types.specs.Act.{block_with_base, is_waiting_cell, act}
-use Rattle.std.proofs.Common.{◌≡◌, ⊎_elim, ℕ, zero, suc, ◌+◌, ◌<◌, ◌≤◌, List, [], ◌∷◌, length, get_or, set, Some}
-use Rattle.std.proofs.Common.{None, Bool, true, false, cond, refl, sym, ap, ◌∙◌, subst, arith, length-set}
-use Rattle.std.specs.Prelude.{Option, option_map}
-use Rattle.im_types.specs.declared.operations.Block.{Block}
-use Rattle.im_types.specs.Contents.{CellState, Held, held_at, block_at, HasBlocks}
-use Rattle.im_types.specs.Place.{begins_free, place, fill, change_each}
-use Rattle.im_laws.proofs.Tests.{some_none, some_same}
+use Rattle.std.proofs.Common.{◌≡◌, ℕ, zero, suc, ◌+◌, ◌<◌, ◌≤◌, Bool, true, false, cond, List, [], ◌∷◌, length, get_or}
+use Rattle.std.proofs.Common.{take, drop, set, ◌==◌, Some, None, Option, option_map, sym, refl, ap, ◌∙◌, subst, ⊎_elim}
+use Rattle.std.proofs.Common.{arith, length-set}
+use Rattle.std.{proofs.lemmas.Bool.Decides.nat_tests, specs.List.list_any}
+use Rattle.im_types.specs.Types.{Kind, Op, Reply, Waiter, Block, Answered, I, M, Alloc, Release, Reset, Fetch, Store}
+use Rattle.im_types.specs.Types.{Take, Put, BadLength, WrongKind, Released, StillWaiting, Cleared, CellState, Empty}
+use Rattle.im_types.specs.Types.{Held, held_at, block_at, HasBlocks, begins_free, place, fill, change_each}
+use Rattle.im_types.specs.Types.{ServedCell as Served, fetch, store, take_from, put, only_tells, same_kind, serve_cell}
+use Rattle.im_types.specs.Types.{at_cell, allocate_at, allocate, block_with_base, is_waiting_cell, unless_waited_for}
+use Rattle.im_types.specs.Types.{release_block, emptied, reset_block, act}
+use Rattle.im_laws.proofs.{AgreementLemmas.held_at-set, AgreementLemmas.held_at-within, PlaceLemmas.get_or-change_each}
+use Rattle.im_laws.proofs.{PlaceLemmas.get_or-fill, PlaceLemmas.place-free, Tests.some_none, Tests.some_same}
 use Rattle.im_laws.specs.Blocks.{LiesIn}
-use Rattle.im_laws.proofs.PlaceLemmas.{get_or-fill, get_or-change_each, place-free}
-use Rattle.im_laws.proofs.AgreementLemmas.{held_at-set, held_at-within}
 
 -- the same blocks at the same addresses
 pub HasBlocks-same : (cells now : List (Option Held)) → ((b : ℕ) → block_at now b ≡ block_at cells b) → length now

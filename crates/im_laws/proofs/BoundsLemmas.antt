@@ -1,30 +1,14 @@
 -- The bounds of a window, after each step.
-use Rattle.std.proofs.Common.{◌≡◌, ◌≢◌, ⊎_elim, ℕ, zero, suc, ◌+◌, ◌-◌, ◌<◌, ◌≤◌, max, List, [], ◌∷◌, length, set}
-use Rattle.std.proofs.Common.{Some, None, Ok, Err, Bool, true, false, cond, refl, sym, ap, ◌∙◌, arith, length-append}
-use Rattle.std.proofs.Common.{length-drop}
-use Rattle.std.specs.Prelude.{Option, Result, ◌==◌, slice_get, option_map}
-use Rattle.std.proofs.lemmas.Bool.{cases_eq}
-use Rattle.std.proofs.lemmas.Bool.Decides.{nat_tests}
-use Rattle.im_types.specs.declared.TheConstants.{WINDOW, LAST}
-use Rattle.im_types.specs.declared.operations.Reply.{Reply}
-use Rattle.im_types.specs.declared.operations.Entry.{Entry}
-use Rattle.im_types.specs.declared.operations.Waiter.{Waiter}
-use Rattle.im_types.specs.declared.operations.Kept.{Kept}
-use Rattle.im_types.specs.declared.commands.Request.{Request}
-use Rattle.im_types.specs.declared.commands.Command.{Command}
-use Rattle.im_types.specs.declared.commands.Command.TheVariants.{Request as Asks, Confirm}
-use Rattle.im_types.specs.declared.commands.Judged.{Judged}
-use Rattle.im_types.specs.declared.commands.Judged.TheVariants.{Fresh, Repeat}
-use Rattle.im_types.specs.declared.refusals.Refusal.{Refusal}
-use Rattle.im_types.specs.Contents.{Window, Contents}
-use Rattle.im_types.specs.Window.{judge, with_window, note_in, note, answer_at, answer_in, answer, answer_each}
-use Rattle.im_types.specs.Window.{confirm_window, bounds_of, bounds}
-use Rattle.im_types.specs.Act.{act}
-use Rattle.im_types.specs.Step.{asker, step, step_request, step_confirm}
-use Rattle.im_laws.proofs.Tests.{cond_same, test-self}
-use Rattle.im_laws.proofs.WindowLemmas.{slice_get-set}
-use Rattle.im_laws.proofs.StepLemmas.{IsNext, judge-fresh}
-use Rattle.im_laws.proofs.RunAgrees.{IsConfirmed, confirm-ok}
+use Rattle.std.proofs.Common.{◌≡◌, ℕ, zero, suc, ◌+◌, ◌-◌, ◌<◌, ◌≤◌, max, Bool, true, false, cond, ◌≢◌, List, [], ◌∷◌}
+use Rattle.std.proofs.Common.{length, set, ◌==◌, slice_get, Some, None, Ok, Err, Option, Result, option_map, sym, refl}
+use Rattle.std.proofs.Common.{ap, ◌∙◌, ⊎_elim, arith, length-append, length-drop}
+use Rattle.std.proofs.lemmas.Bool.{cases_eq, Decides.nat_tests}
+use Rattle.im_types.specs.Types.{Entry, Reply, Waiter, Kept, Request, Command, Judged, Asks, Confirm, Fresh, Repeat}
+use Rattle.im_types.specs.Types.{Refusal, WINDOW, LAST, Window, Contents, act, judge, with_window, note_in, note}
+use Rattle.im_types.specs.Types.{answer_at, answer_in, answer, answer_each, confirm_window, bounds_of, bounds, asker}
+use Rattle.im_types.specs.Types.{step_request, step_confirm, step}
+use Rattle.im_laws.proofs.{RunAgrees.confirm-ok, RunAgrees.IsConfirmed, StepLemmas.IsNext, StepLemmas.judge-fresh}
+use Rattle.im_laws.proofs.{Tests.cond_same, Tests.test-self, WindowLemmas.slice_get-set}
 
 -- one window changes, if it is there
 pub slice_get-with_window : (windows : List Window) (e f : ℕ) (change : Window → Window)

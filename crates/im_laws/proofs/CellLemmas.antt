@@ -1,33 +1,16 @@
 -- Which cells an operation leaves.
-use Rattle.std.proofs.Common.{◌≡◌, ◌≢◌, ◌⊎◌, inl, inr, ◌+◌, ◌<◌, ◌≤◌, ⊎_elim, ℕ, List, [], take, drop, Some, None, Ok}
-use Rattle.std.proofs.Common.{Err, Bool, true, false, cond, refl, ap, arith}
-use Rattle.std.specs.Prelude.{Option, Result, ◌==◌, option_map}
-use Rattle.std.specs.List.{list_any}
-use Rattle.std.proofs.lemmas.Bool.Decides.{nat_tests}
-use Rattle.im_types.specs.declared.operations.Op.{Op}
-use Rattle.im_types.specs.declared.operations.Op.TheVariants.{Alloc, Release, Reset, Fetch, Store, Take, Put}
-use Rattle.im_types.specs.declared.operations.Kind.{Kind}
-use Rattle.im_types.specs.declared.operations.Kind.TheVariants.{I, M}
-use Rattle.im_types.specs.declared.operations.Reply.{Reply}
-use Rattle.im_types.specs.declared.operations.Reply.TheVariants.{BadLength, WrongKind, Released, StillWaiting, Cleared}
-use Rattle.im_types.specs.declared.operations.Entry.TheVariants.{Answered}
-use Rattle.im_types.specs.declared.operations.Waiter.{Waiter}
-use Rattle.im_types.specs.declared.operations.Block.{Block}
-use Rattle.im_types.specs.declared.commands.Request.{Request}
-use Rattle.im_types.specs.declared.commands.Command.TheVariants.{Request as Asks}
-use Rattle.im_types.specs.declared.commands.Judged.{Judged}
-use Rattle.im_types.specs.declared.commands.Judged.TheVariants.{Fresh, Repeat}
-use Rattle.im_types.specs.declared.refusals.Refusal.{Refusal}
-use Rattle.im_types.specs.Contents.{CellState, Held, Contents, held_at, block_at, HasBlocks}
-use Rattle.im_types.specs.Place.{place, fill, change_each}
-use Rattle.im_types.specs.Act.{Served, only_tells, fetch, store, take_from, put, same_kind, serve_cell, at_cell}
-use Rattle.im_types.specs.Act.{new_cell, allocate, allocate_at, unless_waited_for, release_block, emptied}
-use Rattle.im_types.specs.Act.{reset_block, block_with_base, is_waiting_cell, act}
-use Rattle.im_types.specs.Window.{judge}
-use Rattle.im_types.specs.Step.{asker, step, step_request}
-use Rattle.im_laws.specs.Cells.{MayChange}
-use Rattle.im_laws.proofs.PlaceLemmas.{get_or-fill, get_or-change_each, place-free}
-use Rattle.im_laws.proofs.AgreementLemmas.{held_at-set, held_at-within}
+use Rattle.std.proofs.Common.{◌≡◌, ℕ, ◌+◌, ◌<◌, ◌≤◌, Bool, true, false, cond, ◌≢◌, ◌⊎◌, List, [], take, drop, ◌==◌}
+use Rattle.std.proofs.Common.{Some, None, Ok, Err, Option, Result, option_map, refl, ap, inl, inr, ⊎_elim, arith}
+use Rattle.std.{proofs.lemmas.Bool.Decides.nat_tests, specs.List.list_any}
+use Rattle.im_types.specs.Types.{Kind, Op, Reply, Waiter, Block, Answered, I, M, Alloc, Release, Reset, Fetch, Store}
+use Rattle.im_types.specs.Types.{Take, Put, BadLength, WrongKind, Released, StillWaiting, Cleared, Request, Judged}
+use Rattle.im_types.specs.Types.{Asks, Fresh, Repeat, Refusal, CellState, Held, Contents, held_at, block_at, HasBlocks}
+use Rattle.im_types.specs.Types.{place, fill, change_each, ServedCell as Served, fetch, store, take_from, put}
+use Rattle.im_types.specs.Types.{only_tells, same_kind, serve_cell, at_cell, new_cell, allocate_at, allocate}
+use Rattle.im_types.specs.Types.{block_with_base, is_waiting_cell, unless_waited_for, release_block, emptied}
+use Rattle.im_types.specs.Types.{reset_block, act, judge, asker, step_request, step}
+use Rattle.im_laws.{proofs.AgreementLemmas.held_at-set, proofs.AgreementLemmas.held_at-within, specs.Cells.MayChange}
+use Rattle.im_laws.proofs.PlaceLemmas.{get_or-change_each, get_or-fill, place-free}
 
 module _ (cells : List (Option Held)) (b : ℕ) where
   at_cell-other : (kind : Kind) (f : CellState → Served) (a : ℕ) → b ≢ a

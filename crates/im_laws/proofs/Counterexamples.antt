@@ -1,52 +1,23 @@
 -- No law says more than it does: each one with a premise less, or with another answer, fails at a memory and at commands
 -- that are written out here. The definitions compute what these come to.
-use Rattle.std.proofs.Common.{◌≡◌, ◌≢◌, ◌↔◌, ℕ, zero, suc, ◌+◌, ◌-◌, ◌<◌, ◌≤◌, List, [], ◌∷◌, ◌++◌, length, take}
-use Rattle.std.proofs.Common.{Option, None, Some, Result, Ok, Err, Bool, true, false, refl, sym, ap, subst, arith}
-use Rattle.std.specs.Prelude.{IsTrue, IsOk, ◌==◌, nat_le, if◌then◌else◌}
+use Rattle.std.proofs.Common.{◌≡◌, ℕ, zero, suc, ◌+◌, ◌-◌, ◌<◌, ◌≤◌, Bool, true, false, ◌≢◌, ◌↔◌, List, [], ◌∷◌, ◌++◌}
+use Rattle.std.proofs.Common.{length, take, if◌then◌else◌, IsOk, IsTrue, IsFalse, nat_le, ◌==◌, Some, None, Ok, Err}
+use Rattle.std.proofs.Common.{Option, Result, sym, refl, ap, subst, arith}
 use Rattle.std.proofs.lemmas.Bool.Decides.{nat_tests}
-use Rattle.std.specs.Bool.{IsFalse}
+use Rattle.im_types.specs.Types.{Entry, Kind, Op, Waiter, Block, Kept, Waiting, Answered, I, M, Alloc, Release, Fetch}
+use Rattle.im_types.specs.Types.{Store, Take, Put, Base, NoSpace, Value, Request, Command, Outcome, Line, Asks, Confirm}
+use Rattle.im_types.specs.Types.{Tells, Confirmed, Refusal, Gap, Forgotten, NotAnswered, number_of, WINDOW, LAST, Empty}
+use Rattle.im_types.specs.Types.{Held, Window, Contents, held_at, waiters_at, kept_for, block_at, HasBlocks}
+use Rattle.im_types.specs.Types.{empty_contents, IsMemory, times, address_of, WaitingAgrees, drops, is_free, place}
+use Rattle.im_types.specs.Types.{is_waiting, ask, bounds, Stepped, asker, step, is_accepted, acceptance, after}
+use Rattle.im_types.specs.Types.{accepted, answers, reached_by_all, puts_of, answer_to, IsLegal, end_of, Reached}
 use Rattle.im_types.proofs.Tests.{differ}
-use Rattle.im_types.specs.declared.TheConstants.{WINDOW, LAST}
-use Rattle.im_types.specs.declared.operations.Op.{Op}
-use Rattle.im_types.specs.declared.operations.Op.TheVariants.{Alloc, Release, Fetch, Store, Take, Put}
-use Rattle.im_types.specs.declared.operations.Kind.{Kind}
-use Rattle.im_types.specs.declared.operations.Kind.TheVariants.{I, M}
-use Rattle.im_types.specs.declared.operations.Reply.TheVariants.{Base, NoSpace, Value}
-use Rattle.im_types.specs.declared.operations.Entry.{Entry}
-use Rattle.im_types.specs.declared.operations.Entry.TheVariants.{Waiting, Answered}
-use Rattle.im_types.specs.declared.operations.Block.{Block}
-use Rattle.im_types.specs.declared.operations.Waiter.{Waiter}
-use Rattle.im_types.specs.declared.operations.Kept.{Kept}
-use Rattle.im_types.specs.declared.commands.Request.{Request}
-use Rattle.im_types.specs.declared.commands.Command.{Command}
-use Rattle.im_types.specs.declared.commands.Command.TheVariants.{Request as Asks, Confirm}
-use Rattle.im_types.specs.declared.commands.Outcome.{Outcome}
-use Rattle.im_types.specs.declared.commands.Outcome.TheVariants.{Entry as Tells, Confirmed}
-use Rattle.im_types.specs.declared.commands.Line.{Line}
-use Rattle.im_types.specs.declared.refusals.Refusal.{Refusal}
-use Rattle.im_types.specs.declared.refusals.Refusal.TheVariants.{Gap, NotAnswered, Forgotten}
-use Rattle.im_types.specs.Contents.{Empty, Held, Window, Contents, empty_contents, held_at, waiters_at, block_at}
-use Rattle.im_types.specs.Contents.{kept_for, HasBlocks}
-use Rattle.im_types.specs.Place.{place, is_free}
-use Rattle.im_types.specs.Window.{bounds, ask, is_waiting}
-use Rattle.im_types.specs.Step.{Stepped, asker, step, is_accepted, acceptance}
-use Rattle.im_types.specs.Run.{after, accepted, answers}
-use Rattle.im_types.specs.Memory.{IsMemory}
-use Rattle.im_types.specs.Meaning.{Reached}
-use Rattle.im_types.specs.Groups.{reached_by_all, puts_of}
-use Rattle.im_types.specs.Trace.{IsLegal, answer_to, end_of}
-use Rattle.im_types.specs.Agreement.{WaitingAgrees, times, address_of, drops}
-use Rattle.im_types.specs.Refusals.{number_of}
-use Rattle.im_laws.specs.Blocks.{LiesIn}
+use Rattle.im_laws.proofs.{Instances.end_of-memory, Tests.some_none, Tests.true_false}
+use Rattle.im_laws.specs.{Blocks.LiesIn, Entries.IsTold, Traces.command_answers, Traces.commands_of}
+use Rattle.im_laws.specs.Examples.{asks, edges, full_window, one_store, sixteen_cells, three_readers, three_takers}
+use Rattle.im_laws.specs.Examples.{told_reply, told_waits, waiter}
 use Rattle.im_laws.specs.Requests.{after_request, IsAnswered, IsNew, IsServed}
-use Rattle.im_laws.specs.Entries.{IsTold}
-use Rattle.im_laws.specs.Windows.{IsForgotten, TakesNextNumber, MovesBase}
-use Rattle.im_laws.specs.Traces.{commands_of, command_answers}
-use Rattle.im_laws.specs.Examples.{sixteen_cells, waiter, asks, told_reply, told_waits, three_readers, one_store}
-use Rattle.im_laws.specs.Examples.{three_takers}
-use Rattle.im_laws.specs.Examples.{edges, full_window}
-use Rattle.im_laws.proofs.Tests.{true_false, some_none}
-use Rattle.im_laws.proofs.Instances.{end_of-memory}
+use Rattle.im_laws.specs.Windows.{IsForgotten, MovesBase, TakesNextNumber}
 
 -- Three readers wait at cell 0; a store answered them; two takers wait at cell 0.
 abbrev waiting : Contents

@@ -1,43 +1,21 @@
 -- A kept entry stays, save for its answer, until it is confirmed; and a request that is sent again is told it.
-use Rattle.std.proofs.Common.{◌≡◌, ◌⊎◌, inl, inr, ⊎_elim, ℕ, ◌-◌, ◌<◌, ◌≤◌, max, List, [], ◌∷◌, set, length, Some}
-use Rattle.std.proofs.Common.{None, Ok, Err, Bool, true, false, cond, refl, sym, ap, ◌∙◌, subst, arith}
-use Rattle.std.specs.Prelude.{Option, Result, ◌==◌, ◌||◌, slice_get, nat_lt}
-use Rattle.std.specs.List.{list_any}
-use Rattle.std.proofs.lemmas.Bool.Decides.{nat_tests}
-use Rattle.im_types.specs.declared.TheConstants.{WINDOW, LAST}
-use Rattle.im_types.specs.declared.operations.Reply.{Reply}
-use Rattle.im_types.specs.declared.operations.Entry.{Entry}
-use Rattle.im_types.specs.declared.operations.Entry.TheVariants.{Answered}
-use Rattle.im_types.specs.declared.operations.Waiter.{Waiter}
-use Rattle.im_types.specs.declared.operations.Kept.{Kept}
-use Rattle.im_types.specs.declared.commands.Request.{Request}
-use Rattle.im_types.specs.declared.commands.Command.{Command}
-use Rattle.im_types.specs.declared.commands.Command.TheVariants.{Request as Asks, Confirm}
-use Rattle.im_types.specs.declared.commands.Outcome.{Outcome}
-use Rattle.im_types.specs.declared.commands.Outcome.TheVariants.{Entry as Tells}
-use Rattle.im_types.specs.declared.commands.Judged.{Judged}
-use Rattle.im_types.specs.declared.commands.Judged.TheVariants.{Fresh, Repeat}
-use Rattle.im_types.specs.declared.refusals.Refusal.{Refusal}
-use Rattle.im_types.specs.declared.refusals.Refusal.TheVariants.{Gap, Forgotten, WindowFull, Mismatch}
-use Rattle.im_types.specs.Contents.{Window, Contents, kept_for}
-use Rattle.im_types.specs.Act.{act}
-use Rattle.im_types.specs.Window.{next_number, same_op, judge, judge_window, judge_number, confirm_window, is_waiting}
-use Rattle.im_types.specs.Window.{ask, ask_window, ask_number}
-use Rattle.im_types.specs.Step.{asker, step, step_request, step_confirm, is_fresh, is_accepted}
-use Rattle.im_types.specs.Run.{after, accepted}
-use Rattle.im_types.specs.Agreement.{StaysOrIsAnswered, drops, WaitingAgrees}
+use Rattle.std.proofs.Common.{◌≡◌, ℕ, ◌-◌, ◌<◌, ◌≤◌, max, Bool, true, false, cond, ◌||◌, ◌⊎◌, List, [], ◌∷◌, length}
+use Rattle.std.proofs.Common.{set, nat_lt, ◌==◌, slice_get, Some, None, Ok, Err, Option, Result, sym, refl, ap, ◌∙◌}
+use Rattle.std.proofs.Common.{subst, inl, inr, ⊎_elim, arith}
+use Rattle.std.{proofs.lemmas.Bool.Decides.nat_tests, specs.List.list_any}
+use Rattle.im_types.specs.Types.{Entry, Reply, Waiter, Kept, Answered, Request, Command, Outcome, Judged, Asks, Confirm}
+use Rattle.im_types.specs.Types.{Tells, Fresh, Repeat, Refusal, Gap, Forgotten, WindowFull, Mismatch, WINDOW, LAST}
+use Rattle.im_types.specs.Types.{Window, Contents, kept_for, WaitingAgrees, StaysOrIsAnswered, drops, act, next_number}
+use Rattle.im_types.specs.Types.{same_op, judge_number, judge_window, judge, is_waiting, confirm_window, ask_number}
+use Rattle.im_types.specs.Types.{ask_window, ask, asker, step_request, step_confirm, step, is_fresh, is_accepted, after}
+use Rattle.im_types.specs.Types.{accepted}
+use Rattle.im_laws.proofs.{AcceptLemmas.confirm-confirms, ForgetLemmas.after-forgotten, OpLemmas.same_op-equal}
+use Rattle.im_laws.proofs.{OpLemmas.same_op-self, RunAgrees.step-agrees, RunAgrees.step-keeps, RunLemmas.after-accepted}
+use Rattle.im_laws.proofs.{StepAgrees.act-agrees, StepLemmas.judge-fresh, WaiterLemmas.waiting_only}
+use Rattle.im_laws.proofs.Tests.{and_both, eq_by_test, or_left, or_right, true_false, true_or_false}
+use Rattle.im_laws.proofs.WindowLemmas.{kept_for-here, kept_for-window, kept_under-from, slice_get-set}
+use Rattle.im_laws.specs.Entries.{IsRefused, IsTold, IsToldAgain, IsToldAgainOrForgotten, LastsOrIsForgotten}
 use Rattle.im_laws.specs.Windows.{IsForgotten}
-use Rattle.im_laws.specs.Entries.{LastsOrIsForgotten, IsTold, IsRefused, IsToldAgain, IsToldAgainOrForgotten}
-use Rattle.im_laws.proofs.Tests.{true_or_false, true_false, and_both, or_left, or_right, eq_by_test}
-use Rattle.im_laws.proofs.OpLemmas.{same_op-self, same_op-equal}
-use Rattle.im_laws.proofs.WindowLemmas.{slice_get-set, kept_under-from, kept_for-here, kept_for-window}
-use Rattle.im_laws.proofs.StepLemmas.{judge-fresh}
-use Rattle.im_laws.proofs.StepAgrees.{act-agrees}
-use Rattle.im_laws.proofs.RunAgrees.{step-agrees, step-keeps}
-use Rattle.im_laws.proofs.WaiterLemmas.{waiting_only}
-use Rattle.im_laws.proofs.RunLemmas.{after-accepted}
-use Rattle.im_laws.proofs.AcceptLemmas.{confirm-confirms}
-use Rattle.im_laws.proofs.ForgetLemmas.{after-forgotten}
 
 -- what a confirmation drops is forgotten
 confirm-forgets : (m : Contents) (element upto : ℕ) (who : Waiter) (now : Window)

@@ -1,8 +1,7 @@
 -- A fill, cell by cell.
-use Rattle.std.proofs.Common.{◌≡◌, ℕ, zero, suc, ◌+◌, List, [], ◌∷◌, set, refl, sym, ap, ◌∙◌, add-one, zero-add}
-use Rattle.std.proofs.Common.{suc-add}
-use Rattle.std.specs.Prelude.{Option}
-use Rattle.im_types.specs.Place.{fill}
+use Rattle.std.proofs.Common.{◌≡◌, ℕ, zero, suc, ◌+◌, List, [], ◌∷◌, set, Option, sym, refl, ap, ◌∙◌, suc-add, zero-add}
+use Rattle.std.proofs.Common.{add-one}
+use Rattle.im_types.specs.Types.{fill}
 
 module _ {X : Type 0} where
   pub fill-none : (xs : List (Option X)) (base : ℕ) (x : Option X) → xs ≡ fill xs base 0 x

@@ -1,26 +1,14 @@
 -- Bounds never go back, so a dropped number stays dropped and a number acts once.
-use Rattle.std.proofs.Common.{◌≡◌, ⊎_elim, ℕ, ◌+◌, ◌-◌, ◌<◌, max, List, [], ◌∷◌, length, Some, None, Ok, Err, Bool}
-use Rattle.std.proofs.Common.{true, false, cond, refl, sym, ap, ◌∙◌, arith}
-use Rattle.std.specs.Prelude.{Option, Result, slice_get, nat_lt}
+use Rattle.std.proofs.Common.{◌≡◌, ℕ, ◌+◌, ◌-◌, ◌<◌, max, Bool, true, false, cond, List, [], ◌∷◌, length, nat_lt}
+use Rattle.std.proofs.Common.{slice_get, Some, None, Ok, Err, Option, Result, sym, refl, ap, ◌∙◌, ⊎_elim, arith}
 use Rattle.std.proofs.lemmas.Bool.Decides.{nat_tests}
-use Rattle.im_types.specs.declared.operations.Entry.{Entry}
-use Rattle.im_types.specs.declared.operations.Waiter.{Waiter}
-use Rattle.im_types.specs.declared.operations.Kept.{Kept}
-use Rattle.im_types.specs.declared.commands.Request.{Request}
-use Rattle.im_types.specs.declared.commands.Command.{Command}
-use Rattle.im_types.specs.declared.commands.Command.TheVariants.{Request as Asks}
-use Rattle.im_types.specs.declared.refusals.Refusal.{Refusal}
-use Rattle.im_types.specs.declared.refusals.Refusal.TheVariants.{Forgotten}
-use Rattle.im_types.specs.Contents.{Window, Contents}
-use Rattle.im_types.specs.Window.{judge, judge_window, judge_number, ask, ask_window, ask_number, bounds_of, bounds}
-use Rattle.im_types.specs.Step.{asker, step, step_request, is_accepted}
-use Rattle.im_types.specs.Run.{after}
-use Rattle.im_laws.specs.Windows.{IsForgotten, AreNoLess}
-use Rattle.im_laws.specs.Entries.{IsRefused}
-use Rattle.im_laws.proofs.Tests.{true_or_false}
-use Rattle.im_laws.proofs.BoundsLemmas.{BoundsMove, Stays, Grows, Rises, step-moves}
-use Rattle.im_laws.proofs.AcceptLemmas.{same_bounds, accepted-takes_next}
-use Rattle.im_laws.proofs.MemoryLemmas.{bounds-window}
+use Rattle.im_types.specs.Types.{Entry, Waiter, Kept, Request, Command, Asks, Refusal, Forgotten, Window, Contents}
+use Rattle.im_types.specs.Types.{judge_number, judge_window, judge, ask_number, ask_window, ask, bounds_of, bounds}
+use Rattle.im_types.specs.Types.{asker, step_request, step, is_accepted, after}
+use Rattle.im_laws.proofs.AcceptLemmas.{accepted-takes_next, same_bounds}
+use Rattle.im_laws.proofs.BoundsLemmas.{BoundsMove, Grows, Rises, Stays, step-moves}
+use Rattle.im_laws.proofs.{MemoryLemmas.bounds-window, Tests.true_or_false}
+use Rattle.im_laws.specs.{Entries.IsRefused, Windows.AreNoLess, Windows.IsForgotten}
 
 move-no_less : (base next : ℕ) (before after : Result (ℕ × ℕ) Refusal) → before ≡ Ok (base, next)
     → BoundsMove before after

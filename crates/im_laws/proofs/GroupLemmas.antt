@@ -1,24 +1,13 @@
 -- Requests of other elements, and groups of them.
-use Rattle.std.proofs.Common.{◌≡◌, ◌≢◌, ⊎_elim, ℕ, suc, ◌+◌, ◌-◌, ◌<◌, ◌≤◌, List, [], ◌∷◌, ◌++◌, length, Bool, true}
-use Rattle.std.proofs.Common.{false, None, Some, refl, sym, ap, ◌∙◌, arith, if◌then◌else◌}
-use Rattle.std.specs.Prelude.{◌==◌, nat_lt}
-use Rattle.std.proofs.lemmas.Bool.{cases_lt}
-use Rattle.std.proofs.lemmas.Bool.Decides.{nat_tests}
-use Rattle.im_types.specs.declared.TheConstants.{LAST}
-use Rattle.im_types.specs.declared.commands.Request.{Request}
-use Rattle.im_types.specs.declared.commands.Command.{Command}
-use Rattle.im_types.specs.declared.commands.Command.TheVariants.{Request as Asks}
-use Rattle.im_types.specs.Contents.{Contents}
-use Rattle.im_types.specs.Window.{bounds}
-use Rattle.im_types.specs.Step.{step, is_accepted}
-use Rattle.im_types.specs.Run.{after}
-use Rattle.im_types.specs.Meaning.{Reached, accept_each}
-use Rattle.im_types.specs.Groups.{AreOthers, is_new, is_put, with_request, reached_by_one, reached_by_all, puts_of}
-use Rattle.im_laws.specs.Windows.{IsNextRequest}
-use Rattle.im_laws.specs.Groups.{IsCounted}
-use Rattle.im_laws.proofs.Tests.{and_both}
+use Rattle.std.proofs.Common.{◌≡◌, ℕ, suc, ◌+◌, ◌-◌, ◌<◌, ◌≤◌, Bool, true, false, ◌≢◌, List, [], ◌∷◌, ◌++◌, length}
+use Rattle.std.proofs.Common.{if◌then◌else◌, nat_lt, ◌==◌, Some, None, sym, refl, ap, ◌∙◌, ⊎_elim, arith}
+use Rattle.std.proofs.lemmas.Bool.{cases_lt, Decides.nat_tests}
+use Rattle.im_types.specs.Types.{Request, Command, Asks, LAST, Contents, bounds, step, is_accepted, after, AreOthers}
+use Rattle.im_types.specs.Types.{is_new, is_put, with_request, reached_by_one, reached_by_all, puts_of, Reached}
+use Rattle.im_types.specs.Types.{accept_each}
 use Rattle.im_laws.proofs.AcceptLemmas.{accepted-takes_next, unaccepted-leaves}
-use Rattle.im_laws.proofs.JudgeLemmas.{next-accepted, accepted-next}
+use Rattle.im_laws.proofs.{JudgeLemmas.accepted-next, JudgeLemmas.next-accepted, Tests.and_both}
+use Rattle.im_laws.specs.{Groups.IsCounted, Windows.IsNextRequest}
 
 pub same_test : (a b : Bool) → (a ≡ true → b ≡ true) → (b ≡ true → a ≡ true) → a ≡ b
 same_test true b f g = sym (f refl)

@@ -1,36 +1,15 @@
 -- Each law says something: memories, commands and traces that meet its premises, computed.
-use Rattle.std.proofs.Common.{◌≡◌, ℕ, ◌+◌, ◌<◌, ◌≤◌, List, [], ◌∷◌, take, Some, None, Ok, Err, true, false, refl, sym}
+use Rattle.std.proofs.Common.{◌≡◌, ℕ, ◌+◌, ◌<◌, ◌≤◌, true, false, List, [], ◌∷◌, take, Some, None, Ok, Err, sym, refl}
 use Rattle.std.proofs.Common.{ap, subst, arith}
-use Rattle.im_types.specs.declared.TheConstants.{WINDOW, LAST}
-use Rattle.im_types.specs.declared.operations.Op.{Op}
-use Rattle.im_types.specs.declared.operations.Op.TheVariants.{Alloc, Release, Fetch, Store, Take, Put}
-use Rattle.im_types.specs.declared.operations.Kind.TheVariants.{I, M}
-use Rattle.im_types.specs.declared.operations.Reply.TheVariants.{Base, NoSpace, Value, Released}
-use Rattle.im_types.specs.declared.operations.Entry.TheVariants.{Waiting, Answered}
-use Rattle.im_types.specs.declared.operations.Block.{Block}
-use Rattle.im_types.specs.declared.commands.Request.{Request}
-use Rattle.im_types.specs.declared.commands.Command.TheVariants.{Request as Asks, Confirm}
-use Rattle.im_types.specs.declared.commands.Outcome.TheVariants.{Entry as Tells}
-use Rattle.im_types.specs.declared.commands.Line.{Line}
-use Rattle.im_types.specs.declared.refusals.Refusal.TheVariants.{Gap, Mismatch, NotAnswered}
-use Rattle.im_types.specs.Contents.{Contents, empty_contents, waiters_at, block_at, kept_for}
-use Rattle.im_types.specs.Place.{place, IsLeastFree}
-use Rattle.im_types.specs.Window.{bounds}
-use Rattle.im_types.specs.Step.{step, acceptance}
-use Rattle.im_types.specs.Run.{accepted}
-use Rattle.im_types.specs.Memory.{IsMemory}
-use Rattle.im_types.specs.Trace.{end_of}
-use Rattle.im_laws.specs.Agreement.{WaitsAt}
-use Rattle.im_laws.specs.Cells.{MayChange}
-use Rattle.im_laws.specs.Requests.{IsNew, IsServed}
-use Rattle.im_laws.specs.Windows.{IsForgotten, IsNextRequest, IsConfirmable}
-use Rattle.im_laws.specs.Traces.{commands_of}
-use Rattle.im_laws.specs.Examples.{sixteen_cells, waiter, three_readers, one_store, three_takers, edges, full_window}
-use Rattle.im_laws.proofs.Tests.{some_same}
-use Rattle.im_laws.proofs.PlaceLemmas.{place-least}
-use Rattle.im_laws.proofs.MemoryLemmas.{empty-memory, after-memory}
-use Rattle.im_laws.proofs.TraceLemmas.{end_of-commands}
-use Rattle.im_laws.proofs.JudgeLemmas.{confirmed-confirmable}
+use Rattle.im_types.specs.Types.{Op, Block, Waiting, Answered, I, M, Alloc, Release, Fetch, Store, Take, Put, Base}
+use Rattle.im_types.specs.Types.{NoSpace, Value, Released, Request, Line, Asks, Confirm, Tells, Gap, Mismatch}
+use Rattle.im_types.specs.Types.{NotAnswered, WINDOW, LAST, Contents, waiters_at, kept_for, block_at, empty_contents}
+use Rattle.im_types.specs.Types.{IsMemory, place, IsLeastFree, bounds, step, acceptance, accepted, end_of}
+use Rattle.im_laws.proofs.{JudgeLemmas.confirmed-confirmable, MemoryLemmas.after-memory, MemoryLemmas.empty-memory}
+use Rattle.im_laws.proofs.{PlaceLemmas.place-least, Tests.some_same, TraceLemmas.end_of-commands}
+use Rattle.im_laws.specs.{Agreement.WaitsAt, Cells.MayChange, Requests.IsNew, Requests.IsServed, Traces.commands_of}
+use Rattle.im_laws.specs.Examples.{edges, full_window, one_store, sixteen_cells, three_readers, three_takers, waiter}
+use Rattle.im_laws.specs.Windows.{IsConfirmable, IsForgotten, IsNextRequest}
 
 -- after three readers wait; after a store answered them; and a request on the one cell
 waiting : Contents

@@ -1,33 +1,19 @@
 -- Requests, confirmations and questions, by the bounds of a window.
-use Rattle.std.proofs.Common.{◌≡◌, ◌⊎◌, ⊎_elim, ℕ, zero, suc, ◌+◌, ◌-◌, ◌<◌, ◌≤◌, max, List, [], ◌∷◌, length, take}
-use Rattle.std.proofs.Common.{drop, Some, None, Ok, Err, Bool, true, false, cond, refl, sym, ap, ◌∙◌, subst, arith}
-use Rattle.std.specs.Prelude.{Option, Result, ◌==◌, ◌&&◌, ◌||◌, slice_get, nat_lt, IsErr}
-use Rattle.std.specs.List.{list_any}
-use Rattle.std.proofs.lemmas.Bool.Decides.{nat_tests}
-use Rattle.im_types.specs.declared.TheConstants.{WINDOW, LAST}
-use Rattle.im_types.specs.declared.operations.Waiter.{Waiter}
-use Rattle.im_types.specs.declared.operations.Kept.{Kept}
-use Rattle.im_types.specs.declared.commands.Request.{Request}
-use Rattle.im_types.specs.declared.commands.Command.TheVariants.{Request as Asks, Confirm}
-use Rattle.im_types.specs.declared.commands.Outcome.{Outcome}
-use Rattle.im_types.specs.declared.commands.Outcome.TheVariants.{Confirmed}
-use Rattle.im_types.specs.declared.commands.Judged.TheVariants.{Fresh}
-use Rattle.im_types.specs.declared.refusals.Refusal.{Refusal}
-use Rattle.im_types.specs.declared.refusals.Refusal.TheVariants.{Gap, Forgotten, WindowFull, NoElement, NotAnswered}
-use Rattle.im_types.specs.Contents.{Window, Contents, kept_under, kept_for}
-use Rattle.im_types.specs.Window.{next_number, judge, judge_window, judge_number, confirm_window, is_waiting, ask}
-use Rattle.im_types.specs.Window.{ask_window, ask_number, bounds_of, bounds}
-use Rattle.im_types.specs.Step.{step, step_request, step_confirm, is_fresh, is_accepted}
-use Rattle.im_types.specs.Agreement.{drops}
-use Rattle.im_laws.specs.Windows.{IsNextRequest, IsConfirmable}
-use Rattle.im_laws.specs.Entries.{IsRefused}
-use Rattle.im_laws.proofs.Tests.{true_or_false, true_false, eq_by_test, some_same}
-use Rattle.im_laws.proofs.WindowLemmas.{kept_under-below, kept_under-from, kept_for-set, kept_for-here, kept_for-window}
-use Rattle.im_laws.proofs.StepLemmas.{slice_get-end, judge-fresh}
-use Rattle.im_laws.proofs.RunAgrees.{quiet_front, confirmed_stays}
-use Rattle.im_laws.proofs.BoundsLemmas.{bounds-next}
-use Rattle.im_laws.proofs.AcceptLemmas.{accepted-fresh, Confirms, confirm-confirms}
-use Rattle.im_laws.proofs.MemoryLemmas.{bounds-window}
+use Rattle.std.proofs.Common.{◌≡◌, ℕ, zero, suc, ◌+◌, ◌-◌, ◌<◌, ◌≤◌, max, Bool, true, false, cond, ◌&&◌, ◌||◌, ◌⊎◌}
+use Rattle.std.proofs.Common.{List, [], ◌∷◌, length, take, drop, IsErr, nat_lt, ◌==◌, slice_get, Some, None, Ok, Err}
+use Rattle.std.proofs.Common.{Option, Result, sym, refl, ap, ◌∙◌, subst, ⊎_elim, arith}
+use Rattle.std.{proofs.lemmas.Bool.Decides.nat_tests, specs.List.list_any}
+use Rattle.im_types.specs.Types.{Waiter, Kept, Request, Outcome, Asks, Confirm, Confirmed, Fresh, Refusal, Gap}
+use Rattle.im_types.specs.Types.{Forgotten, WindowFull, NoElement, NotAnswered, WINDOW, LAST, Window, Contents}
+use Rattle.im_types.specs.Types.{kept_under, kept_for, drops, next_number, judge_number, judge_window, judge}
+use Rattle.im_types.specs.Types.{is_waiting, confirm_window, ask_number, ask_window, ask, bounds_of, bounds}
+use Rattle.im_types.specs.Types.{step_request, step_confirm, step, is_fresh, is_accepted}
+use Rattle.im_laws.proofs.AcceptLemmas.{accepted-fresh, confirm-confirms, Confirms}
+use Rattle.im_laws.proofs.{BoundsLemmas.bounds-next, MemoryLemmas.bounds-window, RunAgrees.confirmed_stays}
+use Rattle.im_laws.proofs.{RunAgrees.quiet_front, StepLemmas.judge-fresh, StepLemmas.slice_get-end}
+use Rattle.im_laws.proofs.Tests.{eq_by_test, some_same, true_false, true_or_false}
+use Rattle.im_laws.proofs.WindowLemmas.{kept_for-here, kept_for-set, kept_for-window, kept_under-below, kept_under-from}
+use Rattle.im_laws.specs.{Entries.IsRefused, Windows.IsConfirmable, Windows.IsNextRequest}
 
 bounds-none : (windows : List Window) (element : ℕ) → IsErr (bounds windows element) → slice_get windows element ≡ None
 bounds-none windows element e = by_window (slice_get windows element) e

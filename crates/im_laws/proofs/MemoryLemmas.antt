@@ -1,28 +1,15 @@
 -- A step keeps a memory a memory.
-use Rattle.std.proofs.Common.{◌≡◌, ℕ, zero, suc, ◌+◌, ◌≤◌, max, List, [], ◌∷◌, length, replicate, Some, None, Ok, Err}
-use Rattle.std.proofs.Common.{refl, sym, ap, ◌∙◌, subst, arith, length-set}
+use Rattle.std.proofs.Common.{◌≡◌, ℕ, zero, suc, ◌+◌, ◌≤◌, max, List, [], ◌∷◌, length, replicate, slice_get, Some, None}
+use Rattle.std.proofs.Common.{Ok, Err, Option, Result, option_map, sym, refl, ap, ◌∙◌, subst, arith, length-set}
 use Rattle.std.proofs.lemmas.List.{length-replicate}
-use Rattle.std.specs.Prelude.{Option, Result, slice_get, option_map}
-use Rattle.im_types.specs.declared.TheConstants.{WINDOW, LAST}
-use Rattle.im_types.specs.declared.operations.Block.{Block}
-use Rattle.im_types.specs.declared.operations.Reply.{Reply}
-use Rattle.im_types.specs.declared.operations.Waiter.{Waiter}
-use Rattle.im_types.specs.declared.commands.Command.{Command}
-use Rattle.im_types.specs.declared.commands.Command.TheVariants.{Request as Asks, Confirm}
-use Rattle.im_types.specs.declared.commands.Judged.{Judged}
-use Rattle.im_types.specs.declared.commands.Judged.TheVariants.{Fresh, Repeat}
-use Rattle.im_types.specs.declared.refusals.Refusal.{Refusal}
-use Rattle.im_types.specs.Contents.{Held, Window, Contents, new_window, empty_contents, block_at, HasBlocks}
-use Rattle.im_types.specs.Act.{act}
-use Rattle.im_types.specs.Window.{judge, confirm_window, note, answer, answer_each, bounds_of, bounds}
-use Rattle.im_types.specs.Step.{asker, step, step_request, step_confirm}
-use Rattle.im_types.specs.Run.{after}
-use Rattle.im_types.specs.Memory.{IsWindow, IsMemory}
-use Rattle.im_laws.proofs.Tests.{some_same, some_none}
+use Rattle.im_types.specs.Types.{Reply, Waiter, Block, Command, Judged, Asks, Confirm, Fresh, Repeat, Refusal, WINDOW}
+use Rattle.im_types.specs.Types.{LAST, Held, Window, Contents, new_window, block_at, HasBlocks, empty_contents}
+use Rattle.im_types.specs.Types.{IsWindow, IsMemory, act, judge, note, answer, answer_each, confirm_window, bounds_of}
+use Rattle.im_types.specs.Types.{bounds, asker, step_request, step_confirm, step, after}
+use Rattle.im_laws.proofs.{AcceptLemmas.same_bounds, Tests.some_none, Tests.some_same}
 use Rattle.im_laws.proofs.BlockLemmas.{act-blocks, length-act}
-use Rattle.im_laws.proofs.RunAgrees.{step-agrees, empty-agrees, no_cell}
-use Rattle.im_laws.proofs.BoundsLemmas.{BoundsMove, Stays, Grows, Rises, step-moves}
-use Rattle.im_laws.proofs.AcceptLemmas.{same_bounds}
+use Rattle.im_laws.proofs.BoundsLemmas.{BoundsMove, Grows, Rises, Stays, step-moves}
+use Rattle.im_laws.proofs.RunAgrees.{empty-agrees, no_cell, step-agrees}
 
 -- cells
 pub step-blocks : (m : Contents) (command : Command) → HasBlocks m.cells → HasBlocks (step m command).contents.cells

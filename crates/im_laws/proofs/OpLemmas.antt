@@ -1,12 +1,6 @@
 -- The test of two operations is passed exactly where they are one.
-use Rattle.std.proofs.Common.{◌≡◌, Bool, true, refl, ap, ◌∙◌}
-use Rattle.std.specs.Prelude.{◌==◌, ◌&&◌}
-use Rattle.im_types.specs.declared.operations.Op.{Op}
-use Rattle.im_types.specs.declared.operations.Op.TheVariants.{Alloc, Release, Reset, Fetch, Store, Take, Put}
-use Rattle.im_types.specs.declared.operations.Kind.{Kind}
-use Rattle.im_types.specs.declared.operations.Kind.TheVariants.{I, M}
-use Rattle.im_types.specs.Act.{same_kind}
-use Rattle.im_types.specs.Window.{same_op}
+use Rattle.std.proofs.Common.{◌≡◌, Bool, true, ◌&&◌, ◌==◌, refl, ap, ◌∙◌}
+use Rattle.im_types.specs.Types.{Kind, Op, I, M, Alloc, Release, Reset, Fetch, Store, Take, Put, same_kind, same_op}
 use Rattle.im_laws.proofs.Tests.{and_both, eq_by_test, test-self}
 
 pub same_kind-equal : (kind other : Kind) → same_kind kind other ≡ true → kind ≡ other

@@ -1,9 +1,9 @@
 -- Where a block may stand, and what a fill leaves.
-use Rattle.std.proofs.Common.{◌≡◌, ◌⊎◌, inl, inr, ⊎_elim, ℕ, zero, suc, ◌+◌, ◌<◌, ◌≤◌, List, [], ◌∷◌, length, get_or}
-use Rattle.std.proofs.Common.{Some, None, Bool, true, false, cond, refl, sym, ap, ◌∙◌, subst, arith}
-use Rattle.std.specs.Prelude.{Option, option_map}
-use Rattle.im_types.specs.Place.{begins_free, is_free, place, fill, change_each, IsLeastFree}
-use Rattle.im_laws.proofs.Tests.{true_false, below_or_from, some_none, some_same}
+use Rattle.std.proofs.Common.{◌≡◌, ℕ, zero, suc, ◌+◌, ◌<◌, ◌≤◌, Bool, true, false, cond, ◌⊎◌, List, [], ◌∷◌, length}
+use Rattle.std.proofs.Common.{get_or, Some, None, Option, option_map, sym, refl, ap, ◌∙◌, subst, inl, inr, ⊎_elim}
+use Rattle.std.proofs.Common.{arith}
+use Rattle.im_types.specs.Types.{begins_free, is_free, place, fill, change_each, IsLeastFree}
+use Rattle.im_laws.proofs.Tests.{below_or_from, some_none, some_same, true_false}
 
 -- a slot after a fill is the new one, within the range, or the old one
 pub get_or-fill : {X : Type 0} (xs : List (Option X)) (base n : ℕ) (x : Option X) (a : ℕ)

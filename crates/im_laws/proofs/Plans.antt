@@ -1,20 +1,9 @@
 -- Planned runs, worked: what the definitions say that each request of a plan comes to is what the memory tells it, in whichever
 -- order the requests come.
-use Rattle.std.proofs.Common.{◌≡◌, ℕ, ◌≤◌, List, [], ◌∷◌, map, None, Some, Result, Ok, refl, arith}
-use Rattle.im_types.specs.declared.operations.Op.{Op}
-use Rattle.im_types.specs.declared.operations.Op.TheVariants.{Alloc, Fetch, Store}
-use Rattle.im_types.specs.declared.operations.Kind.TheVariants.{I, M}
-use Rattle.im_types.specs.declared.operations.Reply.TheVariants.{Value, Stored, NoCell, WrongKind}
-use Rattle.im_types.specs.declared.operations.Entry.{Entry}
-use Rattle.im_types.specs.declared.operations.Entry.TheVariants.{Waiting, Answered}
-use Rattle.im_types.specs.declared.commands.Request.{Request}
-use Rattle.im_types.specs.declared.commands.Command.TheVariants.{Request as Asks}
-use Rattle.im_types.specs.declared.refusals.Refusal.{Refusal}
-use Rattle.im_types.specs.Contents.{Contents, empty_contents, full_at}
-use Rattle.im_types.specs.Window.{ask}
-use Rattle.im_types.specs.Step.{asker}
-use Rattle.im_types.specs.Run.{after}
-use Rattle.im_types.specs.Plan.{result_of, FitsPlan}
+use Rattle.std.proofs.Common.{◌≡◌, ℕ, ◌≤◌, List, [], ◌∷◌, map, Some, None, Ok, Result, refl, arith}
+use Rattle.im_types.specs.Types.{Entry, Op, Waiting, Answered, I, M, Alloc, Fetch, Store, Value, Stored, NoCell}
+use Rattle.im_types.specs.Types.{WrongKind, Request, Asks, Refusal, Contents, full_at, empty_contents, ask, asker}
+use Rattle.im_types.specs.Types.{after, result_of, FitsPlan}
 
 abbrev request : ℕ → ℕ → Op → Request
 request element number op = record { element = element; number = number; op = op }

@@ -1,25 +1,11 @@
 -- With which refusals a command is met.
-use Rattle.std.proofs.Common.{◌≡◌, ℕ, ◌-◌, ◌≤◌, List, length, take, drop, max, Some, None, Ok, Err, Bool, true, false}
-use Rattle.std.proofs.Common.{cond, subst, arith}
-use Rattle.std.specs.Prelude.{Option, Result, ◌||◌, slice_get, nat_lt}
+use Rattle.std.proofs.Common.{◌≡◌, ℕ, ◌-◌, ◌≤◌, max, Bool, true, false, cond, ◌||◌, List, length, take, drop, nat_lt}
+use Rattle.std.proofs.Common.{slice_get, Some, None, Ok, Err, Option, Result, subst, arith}
 use Rattle.std.specs.List.{list_any}
-use Rattle.im_types.specs.declared.TheConstants.{WINDOW, LAST}
-use Rattle.im_types.specs.declared.operations.Entry.{Entry}
-use Rattle.im_types.specs.declared.operations.Waiter.{Waiter}
-use Rattle.im_types.specs.declared.operations.Kept.{Kept}
-use Rattle.im_types.specs.declared.commands.Request.{Request}
-use Rattle.im_types.specs.declared.commands.Command.{Command}
-use Rattle.im_types.specs.declared.commands.Command.TheVariants.{Request as Asks, Confirm}
-use Rattle.im_types.specs.declared.commands.Outcome.{Outcome}
-use Rattle.im_types.specs.declared.commands.Judged.{Judged}
-use Rattle.im_types.specs.declared.commands.Judged.TheVariants.{Fresh, Repeat}
-use Rattle.im_types.specs.declared.refusals.Refusal.{Refusal}
-use Rattle.im_types.specs.declared.refusals.Refusal.TheVariants.{Gap, Forgotten, WindowFull, Mismatch, NotAnswered}
-use Rattle.im_types.specs.Contents.{Window, Contents}
-use Rattle.im_types.specs.Window.{next_number, same_op, judge, judge_window, judge_number, confirm_window, is_waiting}
-use Rattle.im_types.specs.Window.{ask, ask_window, ask_number}
-use Rattle.im_types.specs.Step.{step, step_request, step_confirm}
-use Rattle.im_types.specs.Refusals.{number_of}
+use Rattle.im_types.specs.Types.{Entry, Waiter, Kept, Request, Command, Outcome, Judged, Asks, Confirm, Fresh, Repeat}
+use Rattle.im_types.specs.Types.{Refusal, Gap, Forgotten, WindowFull, Mismatch, NotAnswered, number_of, WINDOW, LAST}
+use Rattle.im_types.specs.Types.{Window, Contents, next_number, same_op, judge_number, judge_window, judge, is_waiting}
+use Rattle.im_types.specs.Types.{confirm_window, ask_number, ask_window, ask, step_request, step_confirm, step}
 
 -- a refusal, if it is one, is one of the first six
 abbrev RefusesFew : {X : Type 0} → Result X Refusal → Type 0

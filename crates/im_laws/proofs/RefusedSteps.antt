@@ -1,15 +1,7 @@
 -- A refused step changes nothing.
-use Rattle.std.proofs.Common.{◌≡◌, Ok, Err, refl, sym, ◌∙◌, subst}
-use Rattle.std.specs.Prelude.{Result, OnErr, slice_get}
-use Rattle.im_types.specs.declared.commands.Command.{Command}
-use Rattle.im_types.specs.declared.commands.Command.TheVariants.{Request as Asks, Confirm}
-use Rattle.im_types.specs.declared.commands.Judged.{Judged}
-use Rattle.im_types.specs.declared.commands.Judged.TheVariants.{Fresh, Repeat}
-use Rattle.im_types.specs.declared.commands.Outcome.{Outcome}
-use Rattle.im_types.specs.declared.refusals.Refusal.{Refusal}
-use Rattle.im_types.specs.Contents.{Window, Contents}
-use Rattle.im_types.specs.Window.{judge, confirm_window}
-use Rattle.im_types.specs.Step.{step, step_request, step_confirm}
+use Rattle.std.proofs.Common.{◌≡◌, OnErr, slice_get, Ok, Err, Result, sym, refl, ◌∙◌, subst}
+use Rattle.im_types.specs.Types.{Command, Outcome, Judged, Asks, Confirm, Fresh, Repeat, Refusal, Window, Contents}
+use Rattle.im_types.specs.Types.{judge, confirm_window, step_request, step_confirm, step}
 
 stays_refused : (m : Contents) (command : Command) → OnErr (step m command).answer ((step m command).contents ≡ m)
 stays_refused m (Asks r) = by_judged (judge m.windows r)

@@ -1,44 +1,21 @@
 -- Who waits behind whom, and who is answered.
-use Rattle.std.proofs.Common.{◌≡◌, ℕ, ◌≤◌, List, [], ◌∷◌, ◌++◌, set, Some, None, Ok, Bool, true, false, cond, refl}
-use Rattle.std.proofs.Common.{sym, ap, ◌∙◌, subst, arith}
-use Rattle.std.proofs.Common.{take, drop}
-use Rattle.std.specs.Prelude.{Option, Result, ◌==◌}
+use Rattle.std.proofs.Common.{◌≡◌, ℕ, ◌≤◌, Bool, true, false, cond, List, [], ◌∷◌, ◌++◌, take, drop, set, ◌==◌, Some}
+use Rattle.std.proofs.Common.{None, Ok, Option, Result, sym, refl, ap, ◌∙◌, subst, arith, get_or-set_same}
 use Rattle.std.specs.List.{list_any}
-use Rattle.std.proofs.lemmas.List.{get_or-set_same}
-use Rattle.im_types.specs.declared.operations.Op.{Op}
-use Rattle.im_types.specs.declared.operations.Op.TheVariants.{Alloc, Release, Reset, Fetch, Store, Take, Put}
-use Rattle.im_types.specs.declared.operations.Kind.{Kind}
-use Rattle.im_types.specs.declared.operations.Kind.TheVariants.{I, M}
-use Rattle.im_types.specs.declared.operations.Reply.{Reply}
-use Rattle.im_types.specs.declared.operations.Reply.TheVariants.{Base, NoSpace, BadLength, Value, Stored, Clash}
-use Rattle.im_types.specs.declared.operations.Reply.TheVariants.{NoCell, WrongKind, Released, NoBlock, StillWaiting}
-use Rattle.im_types.specs.declared.operations.Reply.TheVariants.{Cleared}
-use Rattle.im_types.specs.declared.operations.Entry.{Entry}
-use Rattle.im_types.specs.declared.operations.Entry.TheVariants.{Waiting, Answered}
-use Rattle.im_types.specs.declared.operations.Waiter.{Waiter}
-use Rattle.im_types.specs.declared.operations.Kept.{Kept}
-use Rattle.im_types.specs.declared.operations.Block.{Block}
-use Rattle.im_types.specs.declared.commands.Request.{Request}
-use Rattle.im_types.specs.declared.commands.Command.TheVariants.{Request as Asks}
-use Rattle.im_types.specs.declared.commands.Outcome.{Outcome}
-use Rattle.im_types.specs.declared.commands.Outcome.TheVariants.{Entry as Tells}
-use Rattle.im_types.specs.declared.refusals.Refusal.{Refusal}
-use Rattle.im_types.specs.Contents.{CellState, Empty, Full, Clashed, Held, Contents, held_at, waiters_of, waiters_in}
-use Rattle.im_types.specs.Contents.{waiters_at, kept_for}
-use Rattle.im_types.specs.Place.{place, fill, change_each}
-use Rattle.im_types.specs.Act.{Served, only_tells, fetch, store, take_from, put, same_kind, serve_cell, at_cell}
-use Rattle.im_types.specs.Act.{allocate, allocate_at, unless_waited_for, emptied, block_with_base, is_waiting_cell}
-use Rattle.im_types.specs.Act.{act}
-use Rattle.im_types.specs.Step.{Stepped, asker, serve, step, step_request}
-use Rattle.im_types.specs.Agreement.{times, awaiting, address_of, WaitingAgrees}
-use Rattle.im_laws.specs.Requests.{after_request, IsNew, IsServed}
-use Rattle.im_laws.proofs.Tests.{some_same}
-use Rattle.im_laws.proofs.OpLemmas.{same_kind-self}
-use Rattle.im_laws.proofs.AgreementLemmas.{same_waiter-self, held_at-within}
-use Rattle.im_laws.proofs.StepLemmas.{IsNext, judge-fresh}
-use Rattle.im_laws.proofs.StepAgrees.{times-first, resumed-given}
+use Rattle.im_types.specs.Types.{Entry, Kind, Op, Reply, Waiter, Block, Kept, Waiting, Answered, I, M, Alloc, Release}
+use Rattle.im_types.specs.Types.{Reset, Fetch, Store, Take, Put, Base, NoSpace, BadLength, Value, Stored, Clash, NoCell}
+use Rattle.im_types.specs.Types.{WrongKind, Released, NoBlock, StillWaiting, Cleared, Request, Outcome, Asks, Tells}
+use Rattle.im_types.specs.Types.{Refusal, CellState, Empty, Full, Clashed, Held, Contents, held_at, waiters_of}
+use Rattle.im_types.specs.Types.{waiters_in, waiters_at, kept_for, times, awaiting, address_of, WaitingAgrees, place}
+use Rattle.im_types.specs.Types.{fill, change_each, ServedCell as Served, fetch, store, take_from, put, only_tells}
+use Rattle.im_types.specs.Types.{same_kind, serve_cell, at_cell, allocate_at, allocate, block_with_base}
+use Rattle.im_types.specs.Types.{is_waiting_cell, unless_waited_for, emptied, act, Stepped, asker, serve, step_request}
+use Rattle.im_types.specs.Types.{step}
+use Rattle.im_laws.proofs.{AcceptLemmas.accepted-fresh, OpLemmas.same_kind-self, StepAgrees.resumed-given}
+use Rattle.im_laws.proofs.{StepAgrees.times-first, StepLemmas.IsNext, StepLemmas.judge-fresh, Tests.some_same}
+use Rattle.im_laws.proofs.AgreementLemmas.{held_at-within, same_waiter-self}
 use Rattle.im_laws.proofs.WaiterLemmas.{waiting-WaitsAt, WaitsAt-listed}
-use Rattle.im_laws.proofs.AcceptLemmas.{accepted-fresh}
+use Rattle.im_laws.specs.Requests.{after_request, IsNew, IsServed}
 
 -- a new request is served
 pub new-served : (m : Contents) (r : Request) (op : Op) → IsNew m r op → step m (Asks r)

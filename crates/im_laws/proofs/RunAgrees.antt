@@ -1,30 +1,18 @@
 -- Each command keeps that who waits at a cell is who has a waiting entry, and so does each run.
-use Rattle.std.proofs.lemmas.Bool.Decides.{nat_tests}
-use Rattle.std.specs.Prelude.{◌≤◌}
-use Rattle.std.proofs.Common.{◌≡◌, ◌⊎◌, inl, inr, ⊎_elim, ℕ, zero, suc, ◌+◌, ◌-◌, ◌<◌, List, [], ◌∷◌, set, take, drop}
-use Rattle.std.proofs.Common.{Some, None, Ok, Err, Bool, true, false, cond, refl, sym, ap, ◌∙◌, subst, arith, max}
-use Rattle.std.proofs.Common.{replicate, zero-add, suc-add}
-use Rattle.std.specs.Prelude.{Option, Result, ◌==◌, ◌&&◌, slice_get, nat_lt, option_and_then}
-use Rattle.std.specs.List.{list_any}
-use Rattle.im_types.specs.declared.operations.Waiter.{Waiter}
-use Rattle.im_types.specs.declared.operations.Kept.{Kept}
-use Rattle.im_types.specs.declared.commands.Command.{Command}
-use Rattle.im_types.specs.declared.commands.Command.TheVariants.{Request as Asks, Confirm}
-use Rattle.im_types.specs.declared.commands.Judged.{Judged}
-use Rattle.im_types.specs.declared.commands.Judged.TheVariants.{Fresh, Repeat}
-use Rattle.im_types.specs.declared.refusals.Refusal.{Refusal}
-use Rattle.im_types.specs.declared.refusals.Refusal.TheVariants.{Gap, NotAnswered}
-use Rattle.im_types.specs.Contents.{Window, Contents, new_window, empty_contents, held_at, waiters_in, kept_under}
-use Rattle.im_types.specs.Contents.{kept_for}
-use Rattle.im_types.specs.Window.{next_number, judge, confirm_window, is_waiting}
-use Rattle.im_types.specs.Step.{step, step_request, step_confirm}
-use Rattle.im_types.specs.Run.{after}
-use Rattle.im_types.specs.Agreement.{StaysOrIsAnswered, KeepsEntries, times, waits_in, WaitersAgree, WaitingAgrees}
-use Rattle.im_laws.proofs.Tests.{or_left, or_right, below_or_from, eq_by_test}
-use Rattle.im_laws.proofs.WindowLemmas.{kept_under-below, kept_under-from, kept_for-here, kept_for-set}
-use Rattle.im_laws.proofs.AgreementLemmas.{IsQuiet, no_quiet, answer-agrees}
-use Rattle.im_laws.proofs.StepLemmas.{judge-fresh}
-use Rattle.im_laws.proofs.StepAgrees.{act-agrees}
+use Rattle.std.proofs.Common.{◌≡◌, ℕ, zero, suc, ◌+◌, ◌-◌, ◌<◌, ◌≤◌, max, Bool, true, false, cond, ◌&&◌, ◌⊎◌, List, []}
+use Rattle.std.proofs.Common.{◌∷◌, take, drop, set, replicate, nat_lt, ◌==◌, slice_get, Some, None, Ok, Err, Option}
+use Rattle.std.proofs.Common.{Result, option_and_then, sym, refl, ap, ◌∙◌, subst, inl, inr, ⊎_elim, suc-add, zero-add}
+use Rattle.std.proofs.Common.{arith}
+use Rattle.std.{proofs.lemmas.Bool.Decides.nat_tests, specs.List.list_any}
+use Rattle.im_types.specs.Types.{Waiter, Kept, Command, Judged, Asks, Confirm, Fresh, Repeat, Refusal, Gap, NotAnswered}
+use Rattle.im_types.specs.Types.{Window, Contents, new_window, held_at, waiters_in, kept_under, kept_for}
+use Rattle.im_types.specs.Types.{empty_contents, times, waits_in, WaitersAgree, WaitingAgrees, StaysOrIsAnswered}
+use Rattle.im_types.specs.Types.{KeepsEntries, next_number, judge, is_waiting, confirm_window, step_request}
+use Rattle.im_types.specs.Types.{step_confirm, step, after}
+use Rattle.im_laws.proofs.AgreementLemmas.{answer-agrees, IsQuiet, no_quiet}
+use Rattle.im_laws.proofs.{StepAgrees.act-agrees, StepLemmas.judge-fresh}
+use Rattle.im_laws.proofs.Tests.{below_or_from, eq_by_test, or_left, or_right}
+use Rattle.im_laws.proofs.WindowLemmas.{kept_for-here, kept_for-set, kept_under-below, kept_under-from}
 
 slice_get-drop : (xs : List Kept) (k i : ℕ) → slice_get (drop k xs) i ≡ slice_get xs (k + i)
 slice_get-drop xs zero i = ap (slice_get xs) (sym (zero-add i))

@@ -1,9 +1,6 @@
 -- Lists of commands, joined and accepted.
-use Rattle.std.proofs.Common.{◌≡◌, List, [], ◌∷◌, ◌++◌, Bool, true, false, cond, refl, sym, ap, ◌∙◌}
-use Rattle.im_types.specs.declared.commands.Command.{Command}
-use Rattle.im_types.specs.Contents.{Contents}
-use Rattle.im_types.specs.Step.{step, is_accepted}
-use Rattle.im_types.specs.Run.{after, accepted, answers}
+use Rattle.std.proofs.Common.{◌≡◌, Bool, true, false, cond, List, [], ◌∷◌, ◌++◌, sym, refl, ap, ◌∙◌}
+use Rattle.im_types.specs.Types.{Command, Contents, step, is_accepted, after, accepted, answers}
 use Rattle.im_laws.proofs.AcceptLemmas.{unaccepted-leaves}
 
 pub after-append : (m : Contents) (earlier later : List Command) → after m (earlier ++ later)

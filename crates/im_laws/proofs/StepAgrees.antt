@@ -1,42 +1,25 @@
 -- Each operation keeps that who waits at a cell is who has a waiting entry.
-use Rattle.std.specs.Prelude.{option_map}
-use Rattle.std.proofs.Common.{◌≡◌, ◌⊎◌, inl, inr, ⊎_elim, ℕ, zero, suc, ◌+◌, ◌<◌, ◌≤◌, List, [], ◌∷◌, ◌++◌, set, take}
-use Rattle.std.proofs.Common.{drop, Some, None, Bool, true, false, cond, refl, sym, ap, ◌∙◌, subst, arith}
-use Rattle.std.specs.Prelude.{Option, ◌==◌, map}
+use Rattle.std.proofs.Common.{◌≡◌, ℕ, zero, suc, ◌+◌, ◌<◌, ◌≤◌, Bool, true, false, cond, ◌⊎◌, List, [], ◌∷◌, ◌++◌, map}
+use Rattle.std.proofs.Common.{take, drop, set, ◌==◌, Some, None, Option, option_map, sym, refl, ap, ◌∙◌, subst, inl}
+use Rattle.std.proofs.Common.{inr, ⊎_elim, arith}
 use Rattle.std.specs.List.{list_any}
-use Rattle.im_types.specs.declared.operations.Op.{Op}
-use Rattle.im_types.specs.declared.operations.Op.TheVariants.{Alloc, Release, Reset, Fetch, Store, Take, Put}
-use Rattle.im_types.specs.declared.operations.Kind.{Kind}
-use Rattle.im_types.specs.declared.operations.Kind.TheVariants.{I, M}
-use Rattle.im_types.specs.declared.operations.Block.{Block}
-use Rattle.im_types.specs.declared.operations.Reply.{Reply}
-use Rattle.im_types.specs.declared.operations.Reply.TheVariants.{Base, NoSpace, BadLength, Value, Stored, Clash}
-use Rattle.im_types.specs.declared.operations.Reply.TheVariants.{NoCell, WrongKind, Released, NoBlock, StillWaiting}
-use Rattle.im_types.specs.declared.operations.Reply.TheVariants.{Cleared}
-use Rattle.im_types.specs.declared.operations.Entry.{Entry}
-use Rattle.im_types.specs.declared.operations.Entry.TheVariants.{Waiting, Answered}
-use Rattle.im_types.specs.declared.operations.Waiter.{Waiter}
-use Rattle.im_types.specs.declared.operations.Kept.{Kept}
-use Rattle.im_types.specs.declared.commands.Request.{Request}
-use Rattle.im_types.specs.Contents.{CellState, Empty, Full, Clashed, Held, Window, held_at, waiters_of, waiters_in}
-use Rattle.im_types.specs.Contents.{waiters_at, kept_for}
-use Rattle.im_types.specs.Place.{place, fill, change_each}
-use Rattle.im_types.specs.Window.{note, answer_each, is_waiting}
-use Rattle.im_types.specs.Act.{Served, Acted, defers, only_tells, fetch, store, take_from, put, same_kind, serve_cell}
-use Rattle.im_types.specs.Act.{at_cell, allocate, allocate_at, unless_waited_for, emptied, block_with_base}
-use Rattle.im_types.specs.Act.{has_waiter, is_waiting_cell, act}
-use Rattle.im_types.specs.Step.{asker}
-use Rattle.im_types.specs.Agreement.{StaysOrIsAnswered, same_waiter, times, awaiting, waits_for, waits_in, WaitersAgree}
-use Rattle.im_laws.proofs.OpLemmas.{same_kind-equal}
-use Rattle.im_laws.proofs.Tests.{true_or_false, zero_or_more, or_left, or_right, some_same, some_none}
-use Rattle.im_laws.proofs.PlaceLemmas.{place-free}
+use Rattle.im_types.specs.Types.{Entry, Kind, Op, Reply, Waiter, Block, Kept, Waiting, Answered, I, M, Alloc, Release}
+use Rattle.im_types.specs.Types.{Reset, Fetch, Store, Take, Put, Base, NoSpace, BadLength, Value, Stored, Clash, NoCell}
+use Rattle.im_types.specs.Types.{WrongKind, Released, NoBlock, StillWaiting, Cleared, Request, CellState, Empty, Full}
+use Rattle.im_types.specs.Types.{Clashed, Held, Window, held_at, waiters_of, waiters_in, waiters_at, kept_for}
+use Rattle.im_types.specs.Types.{same_waiter, times, awaiting, waits_for, waits_in, WaitersAgree, StaysOrIsAnswered}
+use Rattle.im_types.specs.Types.{place, fill, change_each, ServedCell as Served, defers, fetch, store, take_from, put}
+use Rattle.im_types.specs.Types.{Acted, only_tells, same_kind, serve_cell, at_cell, allocate_at, allocate}
+use Rattle.im_types.specs.Types.{block_with_base, has_waiter, is_waiting_cell, unless_waited_for, emptied, act, note}
+use Rattle.im_types.specs.Types.{answer_each, is_waiting, asker}
+use Rattle.im_laws.proofs.AgreementLemmas.{allocate-agrees, answer-agrees, defer-agrees, IsQuiet, listed_at, no_quiet}
+use Rattle.im_laws.proofs.AgreementLemmas.{one_if, release-agrees, reset-agrees, same_waiter-equal, same_waiter-self}
+use Rattle.im_laws.proofs.AgreementLemmas.{serve-agrees, waits_for-kept, waits_in-other, waits_in-quiet, with_waiting}
+use Rattle.im_laws.proofs.{OpLemmas.same_kind-equal, PlaceLemmas.place-free}
+use Rattle.im_laws.proofs.StepLemmas.{AfterAnswers, answer_each-AfterAnswers, answered_quiet, AreKept, IsNext}
+use Rattle.im_laws.proofs.StepLemmas.{kept_for-next}
+use Rattle.im_laws.proofs.Tests.{or_left, or_right, some_none, some_same, true_or_false, zero_or_more}
 use Rattle.im_laws.proofs.WindowLemmas.{answered_kept, kept_for-note}
-use Rattle.im_laws.proofs.AgreementLemmas.{IsQuiet, one_if, same_waiter-equal, same_waiter-self, listed_at, no_quiet}
-use Rattle.im_laws.proofs.AgreementLemmas.{with_waiting, defer-agrees, answer-agrees, serve-agrees, waits_for-kept}
-use Rattle.im_laws.proofs.AgreementLemmas.{waits_in-other, waits_in-quiet, allocate-agrees, release-agrees}
-use Rattle.im_laws.proofs.AgreementLemmas.{reset-agrees}
-use Rattle.im_laws.proofs.StepLemmas.{answered_quiet, IsNext, kept_for-next, AreKept, AfterAnswers}
-use Rattle.im_laws.proofs.StepLemmas.{answer_each-AfterAnswers}
 
 pub one_if-true : (b : Bool) → 1 ≤ one_if b → b ≡ true
 one_if-true true h = refl

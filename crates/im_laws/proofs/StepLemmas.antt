@@ -1,23 +1,14 @@
 -- What is kept for a new request, and after many answers.
-use Rattle.std.proofs.Common.{◌≡◌, ⊎_elim, ℕ, zero, suc, ◌+◌, ◌-◌, ◌<◌, ◌≤◌, List, [], ◌∷◌, length, Some, None, Ok}
-use Rattle.std.proofs.Common.{Err, Bool, true, false, cond, refl, sym, ap, ◌∙◌, arith}
-use Rattle.std.specs.Prelude.{Option, ◌||◌, slice_get, nat_lt, option_map, option_and_then, map}
+use Rattle.std.proofs.Common.{◌≡◌, ℕ, zero, suc, ◌+◌, ◌-◌, ◌<◌, ◌≤◌, Bool, true, false, cond, ◌||◌, List, [], ◌∷◌, map}
+use Rattle.std.proofs.Common.{length, nat_lt, slice_get, Some, None, Ok, Err, Option, option_map, option_and_then, sym}
+use Rattle.std.proofs.Common.{refl, ap, ◌∙◌, ⊎_elim, arith}
 use Rattle.std.proofs.lemmas.Bool.Decides.{nat_tests}
-use Rattle.im_types.specs.declared.TheConstants.{WINDOW, LAST}
-use Rattle.im_types.specs.declared.operations.Reply.{Reply}
-use Rattle.im_types.specs.declared.operations.Waiter.{Waiter}
-use Rattle.im_types.specs.declared.operations.Kept.{Kept}
-use Rattle.im_types.specs.declared.commands.Request.{Request}
-use Rattle.im_types.specs.declared.commands.Judged.TheVariants.{Fresh, Repeat}
-use Rattle.im_types.specs.declared.refusals.Refusal.TheVariants.{Gap, Forgotten, WindowFull, Mismatch}
-use Rattle.im_types.specs.Contents.{Window, kept_under, kept_for}
-use Rattle.im_types.specs.Window.{next_number, judge, judge_window, judge_number, same_op, answer, answer_each}
-use Rattle.im_types.specs.Window.{is_waiting}
-use Rattle.im_types.specs.Step.{asker}
-use Rattle.im_types.specs.Agreement.{same_waiter, times}
+use Rattle.im_types.specs.Types.{Reply, Waiter, Kept, Request, Fresh, Repeat, Gap, Forgotten, WindowFull, Mismatch}
+use Rattle.im_types.specs.Types.{WINDOW, LAST, Window, kept_under, kept_for, same_waiter, times, next_number, same_op}
+use Rattle.im_types.specs.Types.{judge_number, judge_window, judge, answer, answer_each, is_waiting, asker}
+use Rattle.im_laws.proofs.AgreementLemmas.{IsQuiet, same_waiter-self}
 use Rattle.im_laws.proofs.Tests.{true_or_false, zero_or_more}
 use Rattle.im_laws.proofs.WindowLemmas.{answered_kept, kept_for-answer, kept_for-window}
-use Rattle.im_laws.proofs.AgreementLemmas.{IsQuiet, same_waiter-self}
 
 -- a request that is new: its element has a window with room, and its number is the next and none past the last
 pub record IsNext (windows : List Window) (r : Request) : Type 0 where

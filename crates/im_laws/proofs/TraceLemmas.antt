@@ -1,15 +1,8 @@
 -- Traces, joined and grown line by line.
-use Rattle.std.proofs.Common.{◌≡◌, List, [], ◌∷◌, ◌++◌, refl, ◌∙◌}
-use Rattle.std.specs.Prelude.{Result}
-use Rattle.im_types.specs.declared.commands.Outcome.{Outcome}
-use Rattle.im_types.specs.declared.commands.Call.{Call}
-use Rattle.im_types.specs.declared.commands.Call.TheVariants.{Command as Commands, Collect}
-use Rattle.im_types.specs.declared.commands.Line.{Line}
-use Rattle.im_types.specs.declared.refusals.Refusal.{Refusal}
-use Rattle.im_types.specs.Contents.{Contents}
-use Rattle.im_types.specs.Run.{after, answers}
-use Rattle.im_types.specs.Trace.{answer_to, contents_after, IsLegal, end_of}
-use Rattle.im_laws.specs.Traces.{commands_of_call, commands_of, answer_to_command, command_answers}
+use Rattle.std.proofs.Common.{◌≡◌, List, [], ◌∷◌, ◌++◌, Result, refl, ◌∙◌}
+use Rattle.im_types.specs.Types.{Outcome, Call, Line, Commands, Collect, Refusal, Contents, after, answers, answer_to}
+use Rattle.im_types.specs.Types.{contents_after, IsLegal, end_of}
+use Rattle.im_laws.specs.Traces.{answer_to_command, command_answers, commands_of, commands_of_call}
 
 pub end_of-append : (m : Contents) (earlier later : List Line) → end_of m (earlier ++ later)
     ≡ end_of (end_of m earlier) later

@@ -1,17 +1,11 @@
 -- Where a request waits, by the waiting agreement.
-use Rattle.std.proofs.Common.{◌≡◌, ℕ, ◌≤◌, Some, None, true, refl, sym, ap, ◌∙◌, arith}
-use Rattle.std.specs.Prelude.{Option, ◌&&◌}
-use Rattle.im_types.specs.declared.operations.Entry.{Entry}
-use Rattle.im_types.specs.declared.operations.Entry.TheVariants.{Waiting, Answered}
-use Rattle.im_types.specs.declared.operations.Waiter.{Waiter}
-use Rattle.im_types.specs.declared.operations.Kept.{Kept}
-use Rattle.im_types.specs.Contents.{Held, Contents, held_at, waiters_at, kept_for}
-use Rattle.im_types.specs.Window.{same_op, is_waiting, is_waiting_entry}
-use Rattle.im_types.specs.Agreement.{times, awaiting, waits_in, address_of, WaitingAgrees}
-use Rattle.im_laws.specs.Agreement.{WaitsAt}
-use Rattle.im_laws.proofs.Tests.{true_false, and_both, some_same}
-use Rattle.im_laws.proofs.AgreementLemmas.{one_if, awaiting_self, address_of-awaiting, same_op-awaiting}
-use Rattle.im_laws.proofs.StepAgrees.{one_if-true, one_if-most}
+use Rattle.std.proofs.Common.{◌≡◌, ℕ, ◌≤◌, true, ◌&&◌, Some, None, Option, sym, refl, ap, ◌∙◌, arith}
+use Rattle.im_types.specs.Types.{Entry, Waiter, Kept, Waiting, Answered, Held, Contents, held_at, waiters_at, kept_for}
+use Rattle.im_types.specs.Types.{times, awaiting, waits_in, address_of, WaitingAgrees, same_op, is_waiting_entry}
+use Rattle.im_types.specs.Types.{is_waiting}
+use Rattle.im_laws.proofs.AgreementLemmas.{address_of-awaiting, awaiting_self, one_if, same_op-awaiting}
+use Rattle.im_laws.{proofs.StepAgrees.one_if-most, proofs.StepAgrees.one_if-true, specs.Agreement.WaitsAt}
+use Rattle.im_laws.proofs.Tests.{and_both, some_same, true_false}
 
 pub waiting_only : (entry : Entry) → is_waiting_entry entry ≡ true → entry ≡ Waiting
 waiting_only Waiting e = refl

@@ -1,18 +1,11 @@
 -- How many requests wait: each has a Waiting entry of its own, and a window has few entries.
-use Rattle.std.proofs.Common.{◌≡◌, ◌≢◌, ℕ, zero, suc, ◌+◌, ◌-◌, ◌*◌, ◌<◌, ◌≤◌, List, [], ◌∷◌, length, set, Some, None}
-use Rattle.std.proofs.Common.{true, false, refl, sym, ap, ◌∙◌, arith}
-use Rattle.std.specs.Prelude.{Option, slice_get}
-use Rattle.im_types.specs.declared.TheConstants.{WINDOW}
-use Rattle.im_types.specs.declared.operations.Reply.{Reply}
-use Rattle.im_types.specs.declared.operations.Waiter.{Waiter}
-use Rattle.im_types.specs.declared.operations.Kept.{Kept}
-use Rattle.im_types.specs.Contents.{Held, Window, held_at, kept_for}
-use Rattle.im_types.specs.Window.{answer_at, answer_in, answer, is_waiting}
-use Rattle.im_types.specs.Agreement.{waits_in}
-use Rattle.im_types.specs.Memory.{IsWindow}
-use Rattle.im_laws.proofs.WindowLemmas.{kept_under-from, window_at, kept_for-here, kept_for-window}
-use Rattle.im_laws.proofs.AgreementLemmas.{one_if, waits_in-other, waits_for-kept}
+use Rattle.std.proofs.Common.{◌≡◌, ℕ, zero, suc, ◌+◌, ◌-◌, ◌*◌, ◌<◌, ◌≤◌, true, false, ◌≢◌, List, [], ◌∷◌, length, set}
+use Rattle.std.proofs.Common.{slice_get, Some, None, Option, sym, refl, ap, ◌∙◌, arith}
+use Rattle.im_types.specs.Types.{Reply, Waiter, Kept, WINDOW, Held, Window, held_at, kept_for, IsWindow, waits_in}
+use Rattle.im_types.specs.Types.{answer_at, answer_in, answer, is_waiting}
+use Rattle.im_laws.proofs.AgreementLemmas.{one_if, waits_for-kept, waits_in-other}
 use Rattle.im_laws.proofs.StepAgrees.{one_if-most}
+use Rattle.im_laws.proofs.WindowLemmas.{kept_for-here, kept_for-window, kept_under-from, window_at}
 
 -- how many of these entries are Waiting
 pub waiting_count : List Kept → ℕ

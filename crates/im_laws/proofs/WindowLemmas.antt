@@ -1,20 +1,11 @@
 -- What is kept, after an entry is added, answered or dropped.
-use Rattle.std.proofs.Common.{◌≡◌, ⊎_elim, ℕ, zero, suc, ◌+◌, ◌-◌, ◌<◌, ◌≤◌, List, [], ◌∷◌, ◌++◌, length, get_or, set}
-use Rattle.std.proofs.Common.{Some, None, Bool, true, false, cond, refl, sym, ap, ◌∙◌, arith}
-use Rattle.std.specs.Prelude.{Option, ◌==◌, ◌&&◌, slice_get, nat_lt, option_map, option_and_then}
+use Rattle.std.proofs.Common.{◌≡◌, ℕ, zero, suc, ◌+◌, ◌-◌, ◌<◌, ◌≤◌, Bool, true, false, cond, ◌&&◌, List, [], ◌∷◌, ◌++◌}
+use Rattle.std.proofs.Common.{length, get_or, set, nat_lt, ◌==◌, slice_get, Some, None, Option, option_map}
+use Rattle.std.proofs.Common.{option_and_then, sym, refl, ap, ◌∙◌, ⊎_elim, arith}
 use Rattle.std.proofs.lemmas.Bool.Decides.{nat_tests}
-use Rattle.im_types.specs.declared.operations.Op.{Op}
-use Rattle.im_types.specs.declared.operations.Reply.{Reply}
-use Rattle.im_types.specs.declared.operations.Entry.{Entry}
-use Rattle.im_types.specs.declared.operations.Entry.TheVariants.{Answered}
-use Rattle.im_types.specs.declared.operations.Waiter.{Waiter}
-use Rattle.im_types.specs.declared.operations.Kept.{Kept}
-use Rattle.im_types.specs.declared.commands.Request.{Request}
-use Rattle.im_types.specs.Contents.{Window, new_window, kept_under, kept_for}
-use Rattle.im_types.specs.Window.{note_in, note, answer_at, answer_in, answer}
-use Rattle.im_types.specs.Step.{asker}
-use Rattle.im_types.specs.Agreement.{same_waiter}
-use Rattle.im_laws.proofs.Tests.{cond_same, below_or_from, eq_by_test}
+use Rattle.im_types.specs.Types.{Entry, Op, Reply, Waiter, Kept, Answered, Request, Window, new_window, kept_under}
+use Rattle.im_types.specs.Types.{kept_for, same_waiter, note_in, note, answer_at, answer_in, answer, asker}
+use Rattle.im_laws.proofs.Tests.{below_or_from, cond_same, eq_by_test}
 
 slice_get-push : (kept : List Kept) (k : Kept) (place : ℕ)
     → slice_get (kept ++ k ∷ []) place ≡ cond (place == length kept) (Some k) (slice_get kept place)

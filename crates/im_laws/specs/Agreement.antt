@@ -1,9 +1,6 @@
 -- The place where a request waits. (Own.)
 use Rattle.std.specs.Prelude.{◌≡◌, ℕ, Some}
-use Rattle.im_types.specs.declared.operations.Waiter.{Waiter}
-use Rattle.im_types.specs.declared.operations.Entry.TheVariants.{Waiting}
-use Rattle.im_types.specs.Contents.{Held, Contents, held_at, kept_for}
-use Rattle.im_types.specs.Agreement.{awaiting}
+use Rattle.im_types.specs.Types.{Waiter, Waiting, Held, Contents, held_at, kept_for, awaiting}
 
 -- the request's entry waits, for a fetch of this I cell or a take of this M cell
 pub record WaitsAt (m : Contents) (who : Waiter) (a : ℕ) : Type 0 where

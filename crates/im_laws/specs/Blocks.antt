@@ -1,9 +1,6 @@
 -- The addresses of a block, and the reply for a block that stays as it is. (Own.)
-use Rattle.std.specs.Prelude.{◌≡◌, ℕ, ◌+◌, ◌<◌, ◌≤◌, List, Option, Some}
-use Rattle.im_types.specs.declared.operations.Block.{Block}
-use Rattle.im_types.specs.declared.operations.Reply.{Reply}
-use Rattle.im_types.specs.Contents.{Held, held_at, block_at}
-use Rattle.im_types.specs.Act.{only_tells, unless_waited_for, block_with_base}
+use Rattle.std.specs.Prelude.{◌≡◌, ℕ, ◌+◌, ◌<◌, ◌≤◌, List, Some, Option}
+use Rattle.im_types.specs.Types.{Reply, Block, Held, held_at, block_at, only_tells, block_with_base, unless_waited_for}
 use Rattle.im_laws.specs.Cells.{empty_cell}
 
 -- the address is one of the block's

@@ -1,9 +1,7 @@
 -- The cells that an operation may change. (Own.)
-use Rattle.std.specs.Prelude.{◌≡◌, ℕ, List, [], Option, None, Some}
-use Rattle.im_types.specs.declared.operations.Op.{Op}
-use Rattle.im_types.specs.declared.operations.Op.TheVariants.{Alloc, Release, Reset, Fetch, Store, Take, Put}
-use Rattle.im_types.specs.declared.operations.Block.{Block}
-use Rattle.im_types.specs.Contents.{Empty, Held, held_at, block_at}
+use Rattle.std.specs.Prelude.{◌≡◌, ℕ, List, [], Some, None, Option}
+use Rattle.im_types.specs.Types.{Op, Block, Alloc, Release, Reset, Fetch, Store, Take, Put, Empty, Held, held_at}
+use Rattle.im_types.specs.Types.{block_at}
 
 -- an allocation may change cells in no block, a release and a reset the cells of the block with that base, and another
 -- operation the cell at its address

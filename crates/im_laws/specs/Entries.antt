@@ -1,21 +1,8 @@
 -- The outcome of a request that is sent again. (Own.)
-use Rattle.std.specs.Prelude.{◌≡◌, ◌⊎◌, List, Some, Ok, Err}
-use Rattle.std.specs.Bool.{IsFalse}
+use Rattle.std.specs.Prelude.{◌≡◌, ◌⊎◌, List, IsFalse, Some, Ok, Err}
 use Rattle.std.specs.List.{list_any}
-use Rattle.im_types.specs.declared.operations.Reply.{Reply}
-use Rattle.im_types.specs.declared.operations.Entry.{Entry}
-use Rattle.im_types.specs.declared.operations.Entry.TheVariants.{Waiting, Answered}
-use Rattle.im_types.specs.declared.operations.Waiter.{Waiter}
-use Rattle.im_types.specs.declared.operations.Kept.{Kept}
-use Rattle.im_types.specs.declared.commands.Request.{Request}
-use Rattle.im_types.specs.declared.commands.Command.{Command}
-use Rattle.im_types.specs.declared.commands.Command.TheVariants.{Request as Asks}
-use Rattle.im_types.specs.declared.commands.Outcome.TheVariants.{Entry as Tells}
-use Rattle.im_types.specs.declared.refusals.Refusal.{Refusal}
-use Rattle.im_types.specs.Contents.{Contents, kept_for}
-use Rattle.im_types.specs.Step.{asker, step}
-use Rattle.im_types.specs.Run.{accepted}
-use Rattle.im_types.specs.Agreement.{StaysOrIsAnswered, WaitingAgrees, drops}
+use Rattle.im_types.specs.Types.{Entry, Reply, Waiter, Kept, Waiting, Answered, Request, Command, Asks, Tells, Refusal}
+use Rattle.im_types.specs.Types.{Contents, kept_for, WaitingAgrees, StaysOrIsAnswered, drops, asker, step, accepted}
 use Rattle.im_laws.specs.Windows.{IsForgotten}
 
 -- the same entry, or an answer to what was waiting

@@ -1,28 +1,11 @@
 -- Worked traces, and the entries that the laws over histories give. (Own.)
-use Rattle.std.specs.Prelude.{ℕ, zero, suc, ◌+◌, List, [], ◌∷◌, ◌++◌, map, Option, None, Some, Result, Ok, Err}
-use Rattle.im_types.specs.declared.operations.Op.{Op}
-use Rattle.im_types.specs.declared.operations.Op.TheVariants.{Alloc, Release, Reset, Fetch, Store, Take, Put}
-use Rattle.im_types.specs.declared.operations.Kind.{Kind}
-use Rattle.im_types.specs.declared.operations.Kind.TheVariants.{I, M}
-use Rattle.im_types.specs.declared.operations.Reply.{Reply}
-use Rattle.im_types.specs.declared.operations.Reply.TheVariants.{Base, NoSpace, BadLength, Value, Stored, Clash}
-use Rattle.im_types.specs.declared.operations.Reply.TheVariants.{NoCell, WrongKind, Released, NoBlock, StillWaiting}
-use Rattle.im_types.specs.declared.operations.Reply.TheVariants.{Cleared}
-use Rattle.im_types.specs.declared.operations.Entry.{Entry}
-use Rattle.im_types.specs.declared.operations.Entry.TheVariants.{Waiting, Answered}
-use Rattle.im_types.specs.declared.operations.Waiter.{Waiter}
-use Rattle.im_types.specs.declared.commands.Command.{Command}
-use Rattle.im_types.specs.declared.commands.Command.TheVariants.{Request as Asks, Confirm}
-use Rattle.im_types.specs.declared.commands.Outcome.{Outcome}
-use Rattle.im_types.specs.declared.commands.Outcome.TheVariants.{Entry as Tells, Confirmed}
-use Rattle.im_types.specs.declared.commands.Call.TheVariants.{Command as Commands, Collect}
-use Rattle.im_types.specs.declared.commands.Line.{Line}
-use Rattle.im_types.specs.declared.refusals.Refusal.{Refusal}
-use Rattle.im_types.specs.declared.refusals.Refusal.TheVariants.{Gap, Forgotten, WindowFull, Mismatch, NoElement}
-use Rattle.im_types.specs.declared.refusals.Refusal.TheVariants.{NotAnswered}
-use Rattle.im_types.specs.Contents.{Contents, empty_contents}
-use Rattle.im_types.specs.Step.{asker}
-use Rattle.im_types.specs.History.{Event, Life, lives, events, last_entry, lawful_entry}
+use Rattle.std.specs.Prelude.{ℕ, zero, suc, ◌+◌, List, [], ◌∷◌, ◌++◌, map, Some, None, Ok, Err, Option, Result}
+use Rattle.im_types.specs.Types.{Entry, Kind, Op, Reply, Waiter, Waiting, Answered, I, M, Alloc, Release, Reset, Fetch}
+use Rattle.im_types.specs.Types.{Store, Take, Put, Base, NoSpace, BadLength, Value, Stored, Clash, NoCell, WrongKind}
+use Rattle.im_types.specs.Types.{Released, NoBlock, StillWaiting, Cleared, Command, Outcome, Line, Asks, Confirm, Tells}
+use Rattle.im_types.specs.Types.{Confirmed, Commands, Collect, Refusal, Gap, Forgotten, WindowFull, Mismatch, NoElement}
+use Rattle.im_types.specs.Types.{NotAnswered, Contents, empty_contents, asker, Event, events, Life, lives, last_entry}
+use Rattle.im_types.specs.Types.{lawful_entry}
 
 -- an empty memory of 16 cells and 16 elements
 abbrev pub sixteen_cells : Contents

@@ -1,7 +1,6 @@
 -- The count of commands and its bound. (Own.)
 use Rattle.std.specs.Prelude.{◌≡◌, ◌≤◌}
-use Rattle.im_types.specs.declared.TheConstants.{LAST}
-use Rattle.im_types.specs.Meaning.{Reached}
+use Rattle.im_types.specs.Types.{LAST, Reached}
 
 -- the count is at most the last number of all, and at that number there is no room
 pub record IsCounted (s : Reached) : Type 0 where

@@ -1,12 +1,6 @@
 -- A new request, and its outcome. (Own.)
 use Rattle.std.specs.Prelude.{◌≡◌, IsTrue, Ok}
-use Rattle.im_types.specs.declared.operations.Op.{Op}
-use Rattle.im_types.specs.declared.operations.Entry.{Entry}
-use Rattle.im_types.specs.declared.commands.Request.{Request}
-use Rattle.im_types.specs.declared.commands.Command.TheVariants.{Request as Asks}
-use Rattle.im_types.specs.declared.commands.Outcome.TheVariants.{Entry as Tells}
-use Rattle.im_types.specs.Contents.{Contents}
-use Rattle.im_types.specs.Step.{step, is_accepted}
+use Rattle.im_types.specs.Types.{Entry, Op, Request, Asks, Tells, Contents, step, is_accepted}
 
 -- the memory after a request
 abbrev pub after_request : Contents → Request → Contents

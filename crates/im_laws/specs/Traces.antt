@@ -1,11 +1,6 @@
 -- The commands of a trace. (Own.)
 use Rattle.std.specs.Prelude.{List, [], ◌∷◌, ◌++◌, Result}
-use Rattle.im_types.specs.declared.commands.Command.{Command}
-use Rattle.im_types.specs.declared.commands.Outcome.{Outcome}
-use Rattle.im_types.specs.declared.commands.Call.{Call}
-use Rattle.im_types.specs.declared.commands.Call.TheVariants.{Command as Commands, Collect}
-use Rattle.im_types.specs.declared.commands.Line.{Line}
-use Rattle.im_types.specs.declared.refusals.Refusal.{Refusal}
+use Rattle.im_types.specs.Types.{Command, Outcome, Call, Line, Commands, Collect, Refusal}
 
 -- the command of a call, if it is one
 abbrev pub commands_of_call : Call → List Command

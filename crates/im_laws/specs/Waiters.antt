@@ -1,11 +1,6 @@
 -- Requests that wait at a cell, and what answers them. (Own.)
 use Rattle.std.specs.Prelude.{◌≡◌, ℕ, List, ◌∷◌, Some}
-use Rattle.im_types.specs.declared.operations.Op.{Op}
-use Rattle.im_types.specs.declared.operations.Op.TheVariants.{Take}
-use Rattle.im_types.specs.declared.operations.Reply.TheVariants.{Value}
-use Rattle.im_types.specs.declared.operations.Entry.TheVariants.{Waiting, Answered}
-use Rattle.im_types.specs.declared.operations.Waiter.{Waiter}
-use Rattle.im_types.specs.Contents.{Contents, waiters_at, kept_for}
+use Rattle.im_types.specs.Types.{Op, Waiter, Waiting, Answered, Take, Value, Contents, waiters_at, kept_for}
 
 -- the request's operation waits
 abbrev pub WaitsWith : Contents → Waiter → Op → Type 0

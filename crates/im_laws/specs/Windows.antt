@@ -1,16 +1,8 @@
 -- Windows over time: bounds that never go back, and numbers that are dropped for good. (Own.)
-use Rattle.std.specs.Prelude.{◌≡◌, ◌≢◌, true, false, ℕ, ◌+◌, ◌<◌, ◌≤◌, List, Result, Ok, None, Some, slice_get}
-use Rattle.std.specs.Prelude.{if◌then◌else◌}
-use Rattle.im_types.specs.declared.TheConstants.{WINDOW, LAST}
-use Rattle.im_types.specs.declared.operations.Waiter.{Waiter}
-use Rattle.im_types.specs.declared.operations.Kept.{Kept}
-use Rattle.im_types.specs.declared.commands.Request.{Request}
-use Rattle.im_types.specs.declared.commands.Command.TheVariants.{Request as Asks, Confirm}
-use Rattle.im_types.specs.declared.refusals.Refusal.{Refusal}
-use Rattle.im_types.specs.Contents.{Window, Contents, kept_for}
-use Rattle.im_types.specs.Window.{is_waiting, bounds}
-use Rattle.im_types.specs.Step.{step}
-use Rattle.im_types.specs.Agreement.{drops}
+use Rattle.std.specs.Prelude.{◌≡◌, ℕ, ◌+◌, ◌<◌, ◌≤◌, true, false, ◌≢◌, List, if◌then◌else◌, slice_get, Some, None, Ok}
+use Rattle.std.specs.Prelude.{Result}
+use Rattle.im_types.specs.Types.{Waiter, Kept, Request, Asks, Confirm, Refusal, WINDOW, LAST, Window, Contents}
+use Rattle.im_types.specs.Types.{kept_for, drops, is_waiting, bounds, step}
 
 -- the number was confirmed: it lies below the base of its element's window
 pub record IsForgotten (windows : List Window) (who : Waiter) : Type 0 where

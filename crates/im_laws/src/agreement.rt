@@ -1,13 +1,7 @@
 //! Waiting requests and their entries.
-ghost use Rattle.std.specs.Prelude.{◌≡◌, ◌↔◌, ℕ, ◌≤◌, List, IsTrue};
-ghost use Rattle.im_types.specs.declared.operations.Waiter.{Waiter};
-ghost use Rattle.im_types.specs.declared.operations.Kept.{Kept};
-ghost use Rattle.im_types.specs.declared.commands.Command.{Command};
-ghost use Rattle.im_types.specs.Contents.{Contents, empty_contents, waiters_at, kept_for};
-ghost use Rattle.im_types.specs.Window.{is_waiting};
-ghost use Rattle.im_types.specs.Step.{step};
-ghost use Rattle.im_types.specs.Run.{after};
-ghost use Rattle.im_types.specs.Agreement.{WaitingAgrees, times, address_of};
+ghost use Rattle.std.specs.Prelude.{◌≡◌, ℕ, ◌≤◌, ◌↔◌, List, IsTrue};
+ghost use Rattle.im_types.specs.Types.{Waiter, Kept, Command, Contents, waiters_at, kept_for, empty_contents, times};
+ghost use Rattle.im_types.specs.Types.{address_of, WaitingAgrees, is_waiting, step, after};
 ghost use Rattle.im_laws.specs.Agreement.{WaitsAt};
 
 /// The requests in a cell's list are those with a waiting entry for that cell. Each command keeps this agreement, and

@@ -1,19 +1,10 @@
 //! Blocks.
-ghost use Rattle.std.specs.Prelude.{◌≡◌, ℕ, [], List, Option};
-ghost use Rattle.std.specs.Bool.{IsFalse};
-ghost use Rattle.im_types.specs.declared.operations.Op.TheVariants.{Alloc, Release, Reset};
-ghost use Rattle.im_types.specs.declared.operations.Kind.{Kind};
-ghost use Rattle.im_types.specs.declared.operations.Reply.TheVariants.{Base, Cleared, NoSpace, Released};
-ghost use Rattle.im_types.specs.declared.operations.Entry.TheVariants.{Answered};
-ghost use Rattle.im_types.specs.declared.commands.Request.{Request};
-ghost use Rattle.im_types.specs.declared.commands.Command.{Command};
-ghost use Rattle.im_types.specs.Contents.{Held, Contents, held_at, waiters_at, HasBlocks};
-ghost use Rattle.im_types.specs.Place.{is_free, IsLeastFree};
-ghost use Rattle.im_types.specs.Step.{step};
-ghost use Rattle.im_types.specs.Run.{after};
-ghost use Rattle.im_laws.specs.Blocks.{BlocksAreApart, HasEmptyBlock, EachCellOf};
-ghost use Rattle.im_laws.specs.Cells.{empty_cell};
-ghost use Rattle.im_laws.specs.Requests.{after_request, IsServed};
+ghost use Rattle.std.specs.Prelude.{◌≡◌, ℕ, List, [], IsFalse, Option};
+ghost use Rattle.im_types.specs.Types.{Kind, Answered, Alloc, Release, Reset, Base, NoSpace, Released, Cleared};
+ghost use Rattle.im_types.specs.Types.{Request, Command, Held, Contents, held_at, waiters_at, HasBlocks, is_free};
+ghost use Rattle.im_types.specs.Types.{IsLeastFree, step, after};
+ghost use Rattle.im_laws.specs.Blocks.{BlocksAreApart, EachCellOf, HasEmptyBlock};
+ghost use Rattle.im_laws.specs.{Cells.empty_cell, Requests.after_request, Requests.IsServed};
 
 /// Blocks stay whole and below the cell count, after each command and after any commands.
 pub fn blocks_stay_whole()

@@ -1,9 +1,7 @@
 //! Cells that stay as they are.
 ghost use Rattle.std.specs.Prelude.{◌≡◌, ℕ};
-ghost use Rattle.im_types.specs.declared.commands.Request.{Request};
-ghost use Rattle.im_types.specs.Contents.{Contents, held_at, HasBlocks};
-ghost use Rattle.im_laws.specs.Cells.{MayChange};
-ghost use Rattle.im_laws.specs.Requests.{after_request};
+ghost use Rattle.im_types.specs.Types.{Request, Contents, held_at, HasBlocks};
+ghost use Rattle.im_laws.specs.{Cells.MayChange, Requests.after_request};
 
 /// A request leaves each cell that its operation may not change. An allocation leaves all cells that are in a block. A
 /// release and a reset leave all cells of other blocks. Each other operation leaves all cells but the one at its

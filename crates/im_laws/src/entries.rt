@@ -1,20 +1,11 @@
 //! The entries that are kept for requests.
-ghost use Rattle.std.specs.Prelude.{◌≡◌, List, IsTrue};
-ghost use Rattle.std.specs.Bool.{IsFalse};
-ghost use Rattle.im_types.specs.declared.operations.Entry.{Entry};
-ghost use Rattle.im_types.specs.declared.operations.Waiter.{Waiter};
-ghost use Rattle.im_types.specs.declared.operations.Kept.{Kept};
-ghost use Rattle.im_types.specs.declared.commands.Request.{Request};
-ghost use Rattle.im_types.specs.declared.commands.Command.{Command};
-ghost use Rattle.im_types.specs.declared.commands.Command.TheVariants.{Request as Asks};
-ghost use Rattle.im_types.specs.Contents.{Contents, kept_for};
-ghost use Rattle.im_types.specs.Window.{is_waiting, ask};
-ghost use Rattle.im_types.specs.Step.{asker, step, is_accepted};
-ghost use Rattle.im_types.specs.Run.{after};
-ghost use Rattle.im_types.specs.Agreement.{StaysOrIsAnswered, KeepsEntries, WaitingAgrees};
+ghost use Rattle.std.specs.Prelude.{◌≡◌, List, IsTrue, IsFalse};
+ghost use Rattle.im_types.specs.Types.{Entry, Waiter, Kept, Request, Command, Asks, Contents, kept_for, WaitingAgrees};
+ghost use Rattle.im_types.specs.Types.{StaysOrIsAnswered, KeepsEntries, is_waiting, ask, asker, step, is_accepted};
+ghost use Rattle.im_types.specs.Types.{after};
+ghost use Rattle.im_laws.specs.Entries.{IsKeptFor, IsKeptOrForgotten, IsToldAgainOrForgotten, LastsOrIsForgotten};
+ghost use Rattle.im_laws.specs.Entries.{NoneDrops};
 ghost use Rattle.im_laws.specs.Requests.{after_request, IsAnswered};
-ghost use Rattle.im_laws.specs.Entries.{IsKeptFor, NoneDrops, LastsOrIsForgotten, IsKeptOrForgotten};
-ghost use Rattle.im_laws.specs.Entries.{IsToldAgainOrForgotten};
 
 /// The entry of a request stays kept until it is confirmed. Only a waiting entry may change, to an answer. An answered
 /// entry never changes.

@@ -1,17 +1,13 @@
 //! Worked traces. The definitions compute each answer.
 ghost use Rattle.std.specs.Prelude.{◌≡◌, [], ◌∷◌, length, take};
-ghost use Rattle.im_types.specs.declared.operations.Kind.TheVariants.{I, M};
-ghost use Rattle.im_types.specs.declared.operations.Reply.TheVariants.{Value, Stored, Clash};
-ghost use Rattle.im_types.specs.declared.operations.Entry.TheVariants.{Waiting, Answered};
-ghost use Rattle.im_types.specs.Contents.{Empty, Full, Clashed, held_at, waiters_at};
-ghost use Rattle.im_types.specs.Run.{accepted};
-ghost use Rattle.im_types.specs.Trace.{IsLegal, end_of};
+ghost use Rattle.im_types.specs.Types.{Waiting, Answered, I, M, Value, Stored, Clash, Empty, Full, Clashed, held_at};
+ghost use Rattle.im_types.specs.Types.{waiters_at, accepted, IsLegal, end_of};
+ghost use Rattle.im_laws.specs.Examples.{block_reset, edges, entries_of_block_reset, entries_of_takes_and_puts};
+ghost use Rattle.im_laws.specs.Examples.{fetches, full_window, in_lives, lawful, least_hole, least_memory, one_cell};
+ghost use Rattle.im_laws.specs.Examples.{one_store, second_put, second_store, sent_again, sixteen_cells};
+ghost use Rattle.im_laws.specs.Examples.{takes_and_puts, three_readers, three_takers, two_lives, unsaid, waiter};
+ghost use Rattle.im_laws.specs.Examples.{waiting_block};
 ghost use Rattle.im_laws.specs.Traces.{commands_of};
-ghost use Rattle.im_laws.specs.Examples.{sixteen_cells, one_cell, waiter, three_readers, one_store, second_store};
-ghost use Rattle.im_laws.specs.Examples.{three_takers, second_put, edges, least_hole, waiting_block, sent_again};
-ghost use Rattle.im_laws.specs.Examples.{full_window, least_memory, fetches, takes_and_puts, two_lives, block_reset};
-ghost use Rattle.im_laws.specs.Examples.{in_lives};
-ghost use Rattle.im_laws.specs.Examples.{lawful, unsaid, entries_of_takes_and_puts, entries_of_block_reset};
 
 /// Three readers wait in the order of their arrival, and one store answers all of them.
 pub fn readers_wait_for_one_store()

@@ -1,13 +1,7 @@
 //! Groups of requests.
-ghost use Rattle.std.specs.Prelude.{◌≡◌, ◌≢◌, ◌+◌, ◌-◌, ◌==◌, List, length, Some, if◌then◌else◌};
-ghost use Rattle.im_types.specs.declared.TheConstants.{LAST};
-ghost use Rattle.im_types.specs.declared.commands.Request.{Request};
-ghost use Rattle.im_types.specs.declared.commands.Command.TheVariants.{Request as Asks};
-ghost use Rattle.im_types.specs.Contents.{Contents};
-ghost use Rattle.im_types.specs.Step.{step, is_accepted};
-ghost use Rattle.im_types.specs.Run.{after};
-ghost use Rattle.im_types.specs.Meaning.{Reached, accept_each};
-ghost use Rattle.im_types.specs.Groups.{AreOthers, is_new, reached_by_all, puts_of};
+ghost use Rattle.std.specs.Prelude.{◌≡◌, ◌+◌, ◌-◌, ◌≢◌, List, length, if◌then◌else◌, ◌==◌, Some};
+ghost use Rattle.im_types.specs.Types.{Request, Asks, LAST, Contents, step, is_accepted, after, AreOthers, is_new};
+ghost use Rattle.im_types.specs.Types.{reached_by_all, puts_of, Reached, accept_each};
 ghost use Rattle.im_laws.specs.Groups.{IsCounted};
 
 /// Whether a request is accepted doesn't depend on requests of other elements that are served before it, be it one

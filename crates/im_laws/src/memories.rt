@@ -1,10 +1,6 @@
 //! What stays true of a memory.
 ghost use Rattle.std.specs.Prelude.{ℕ, List};
-ghost use Rattle.im_types.specs.declared.commands.Command.{Command};
-ghost use Rattle.im_types.specs.Contents.{Contents, empty_contents};
-ghost use Rattle.im_types.specs.Step.{step};
-ghost use Rattle.im_types.specs.Run.{after};
-ghost use Rattle.im_types.specs.Memory.{IsMemory};
+ghost use Rattle.im_types.specs.Types.{Command, Contents, empty_contents, IsMemory, step, after};
 
 /// The empty memory is a memory. A memory stays one after each command and after any commands. So its numbers of cells
 /// and windows stay, its blocks are whole and its windows within their bounds. Each request in a cell's list has a

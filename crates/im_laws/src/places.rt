@@ -1,8 +1,6 @@
 //! The places of blocks.
-ghost use Rattle.std.specs.Prelude.{◌≡◌, ◌↔◌, ℕ, ◌+◌, ◌<◌, ◌≤◌, List, length, Option};
-ghost use Rattle.std.specs.Bool.{IsFalse};
-ghost use Rattle.im_types.specs.Contents.{Held, held_at};
-ghost use Rattle.im_types.specs.Place.{place, is_free, IsLeastFree};
+ghost use Rattle.std.specs.Prelude.{◌≡◌, ℕ, ◌+◌, ◌<◌, ◌≤◌, ◌↔◌, List, length, IsFalse, Option};
+ghost use Rattle.im_types.specs.Types.{Held, held_at, is_free, place, IsLeastFree};
 
 /// A block of at least one cell is placed at the least base from which enough cells are free. It has no place if and
 /// only if no base is free. Its cells lie below the cell count and are in no block.

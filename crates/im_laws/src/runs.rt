@@ -1,8 +1,6 @@
 //! Lists of commands.
-ghost use Rattle.std.specs.Prelude.{◌≡◌, ◌++◌, List};
-ghost use Rattle.im_types.specs.declared.commands.Command.{Command};
-ghost use Rattle.im_types.specs.Contents.{Contents};
-ghost use Rattle.im_types.specs.Run.{after, accepted, answers};
+ghost use Rattle.std.specs.Prelude.{◌≡◌, List, ◌++◌};
+ghost use Rattle.im_types.specs.Types.{Command, Contents, after, accepted, answers};
 
 /// Two lists of commands, one run after the other, come to the same as their join. The memory, the answers and the
 /// accepted commands are the same.

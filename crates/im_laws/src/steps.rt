@@ -1,18 +1,8 @@
 //! One command.
-ghost use Rattle.std.specs.Prelude.{◌≡◌, ◌≢◌, ◌↔◌, ◌≤◌, List, IsTrue, IsOk, true, false};
-ghost use Rattle.std.specs.Bool.{IsFalse};
-ghost use Rattle.im_types.specs.declared.operations.Waiter.{Waiter};
-ghost use Rattle.im_types.specs.declared.operations.Kept.{Kept};
-ghost use Rattle.im_types.specs.declared.commands.Request.{Request};
-ghost use Rattle.im_types.specs.declared.commands.Command.{Command};
-ghost use Rattle.im_types.specs.declared.commands.Command.TheVariants.{Request as Asks};
-ghost use Rattle.im_types.specs.declared.refusals.Refusal.{Refusal};
-ghost use Rattle.im_types.specs.declared.refusals.Refusal.TheVariants.{Mismatch};
-ghost use Rattle.im_types.specs.Refusals.{number_of};
-ghost use Rattle.im_types.specs.Contents.{Window, Contents, kept_for};
-ghost use Rattle.im_types.specs.Window.{ask};
-ghost use Rattle.im_types.specs.Step.{asker, step, is_accepted, acceptance};
-ghost use Rattle.im_laws.specs.Entries.{IsTold, IsRefused};
+ghost use Rattle.std.specs.Prelude.{◌≡◌, ◌≤◌, true, false, ◌≢◌, ◌↔◌, List, IsOk, IsTrue, IsFalse};
+ghost use Rattle.im_types.specs.Types.{Waiter, Kept, Request, Command, Asks, Refusal, Mismatch, number_of, Window};
+ghost use Rattle.im_types.specs.Types.{Contents, kept_for, ask, asker, step, is_accepted, acceptance};
+ghost use Rattle.im_laws.specs.Entries.{IsRefused, IsTold};
 
 /// A command is accepted if and only if it changes the memory. An accepted command isn't refused.
 pub fn accepted_where_changed()

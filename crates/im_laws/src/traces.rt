@@ -1,10 +1,7 @@
 //! Traces.
-ghost use Rattle.std.specs.Prelude.{◌≡◌, ◌↔◌, ◌++◌, ◌∷◌, [], List};
-ghost use Rattle.im_types.specs.declared.commands.Line.{Line};
-ghost use Rattle.im_types.specs.Contents.{Contents};
-ghost use Rattle.im_types.specs.Run.{after, answers};
-ghost use Rattle.im_types.specs.Trace.{answer_to, contents_after, IsLegal, end_of};
-ghost use Rattle.im_laws.specs.Traces.{commands_of, command_answers};
+ghost use Rattle.std.specs.Prelude.{◌≡◌, ◌↔◌, List, [], ◌∷◌, ◌++◌};
+ghost use Rattle.im_types.specs.Types.{Line, Contents, after, answers, answer_to, contents_after, IsLegal, end_of};
+ghost use Rattle.im_laws.specs.Traces.{command_answers, commands_of};
 
 /// Two traces joined are legal if and only if the first one is legal and the second one is legal from the end of the
 /// first one on.

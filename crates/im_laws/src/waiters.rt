@@ -1,15 +1,9 @@
 //! The order in which waiting requests are answered.
-ghost use Rattle.std.specs.Prelude.{◌≡◌, ℕ, ◌++◌, ◌∷◌, [], List};
-ghost use Rattle.im_types.specs.declared.operations.Op.{Op};
-ghost use Rattle.im_types.specs.declared.operations.Op.TheVariants.{Fetch, Store, Take, Put};
-ghost use Rattle.im_types.specs.declared.operations.Entry.TheVariants.{Waiting};
-ghost use Rattle.im_types.specs.declared.operations.Waiter.{Waiter};
-ghost use Rattle.im_types.specs.declared.commands.Request.{Request};
-ghost use Rattle.im_types.specs.Contents.{Contents, waiters_at};
-ghost use Rattle.im_types.specs.Step.{asker};
-ghost use Rattle.im_types.specs.Agreement.{address_of, WaitingAgrees};
+ghost use Rattle.std.specs.Prelude.{◌≡◌, ℕ, List, [], ◌∷◌, ◌++◌};
+ghost use Rattle.im_types.specs.Types.{Op, Waiter, Waiting, Fetch, Store, Take, Put, Request, Contents, waiters_at};
+ghost use Rattle.im_types.specs.Types.{address_of, WaitingAgrees, asker};
 ghost use Rattle.im_laws.specs.Requests.{after_request, IsNew, IsServed};
-ghost use Rattle.im_laws.specs.Waiters.{WaitsWith, HasValue, TakersWait};
+ghost use Rattle.im_laws.specs.Waiters.{HasValue, TakersWait, WaitsWith};
 
 /// A new request that is told to wait stands behind all requests that wait at its cell.
 pub fn later_request_waits_behind()

@@ -1,21 +1,11 @@
 //! Windows of request numbers.
-ghost use Rattle.std.specs.Prelude.{◌≡◌, ◌↔◌, ◌⊎◌, ℕ, ◌+◌, ◌<◌, ◌≤◌, List, IsTrue, IsErr};
-ghost use Rattle.im_types.specs.declared.operations.Waiter.{Waiter};
-ghost use Rattle.im_types.specs.declared.operations.Kept.{Kept};
-ghost use Rattle.im_types.specs.declared.commands.Request.{Request};
-ghost use Rattle.im_types.specs.declared.commands.Command.{Command};
-ghost use Rattle.im_types.specs.declared.commands.Command.TheVariants.{Request as Asks, Confirm};
-ghost use Rattle.im_types.specs.declared.commands.Outcome.TheVariants.{Confirmed};
-ghost use Rattle.im_types.specs.declared.refusals.Refusal.TheVariants.{Gap, Forgotten, WindowFull, NoElement};
-ghost use Rattle.im_types.specs.declared.refusals.Refusal.TheVariants.{NotAnswered};
-ghost use Rattle.im_types.specs.declared.TheConstants.{WINDOW, LAST};
-ghost use Rattle.im_types.specs.Contents.{Window, Contents, kept_for};
-ghost use Rattle.im_types.specs.Window.{ask, bounds};
-ghost use Rattle.im_types.specs.Step.{asker, step, is_accepted};
-ghost use Rattle.im_types.specs.Run.{after};
-ghost use Rattle.im_laws.specs.Windows.{IsForgotten, AreNoLess, TakesNextNumber, MovesBase, IsNextRequest};
-ghost use Rattle.im_laws.specs.Windows.{IsConfirmable, DropsEntries, WaitsBelow};
+ghost use Rattle.std.specs.Prelude.{◌≡◌, ℕ, ◌+◌, ◌<◌, ◌≤◌, ◌⊎◌, ◌↔◌, List, IsErr, IsTrue};
+ghost use Rattle.im_types.specs.Types.{Waiter, Kept, Request, Command, Asks, Confirm, Confirmed, Gap, Forgotten};
+ghost use Rattle.im_types.specs.Types.{WindowFull, NoElement, NotAnswered, WINDOW, LAST, Window, Contents, kept_for};
+ghost use Rattle.im_types.specs.Types.{ask, bounds, asker, step, is_accepted, after};
 ghost use Rattle.im_laws.specs.Entries.{IsRefused};
+ghost use Rattle.im_laws.specs.Windows.{AreNoLess, DropsEntries, IsConfirmable, IsForgotten, IsNextRequest, MovesBase};
+ghost use Rattle.im_laws.specs.Windows.{TakesNextNumber, WaitsBelow};
 
 /// An accepted request takes its element's next number, and moves no other bound of a window.
 pub fn request_takes_the_next_number()

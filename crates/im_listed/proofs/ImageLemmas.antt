@@ -1,23 +1,16 @@
 -- What the list of a call does to a caller's file.
-use Rattle.std.proofs.Common.{◌≡◌, ◌⊎◌, inl, inr, ⊎_elim, ℕ, zero, suc, Bool, true, false, List, [], length, take}
-use Rattle.std.proofs.Common.{Result, Ok, Err, refl, sym, ◌∙◌, ap, subst, arith, if◌then◌else◌}
+use Rattle.std.proofs.Common.{◌≡◌, ℕ, zero, suc, Bool, true, false, ◌⊎◌, List, [], length, take, if◌then◌else◌, Ok, Err}
+use Rattle.std.proofs.Common.{Result, sym, refl, ap, ◌∙◌, subst, inl, inr, ⊎_elim, arith}
 use Rattle.std.proofs.lemmas.Bool.{false≢true}
-use Rattle.im_types.specs.declared.commands.Command.{Command}
-use Rattle.im_types.specs.declared.commands.Outcome.{Outcome}
-use Rattle.im_types.specs.declared.refusals.Refusal.{Refusal}
-use Rattle.im_types.specs.declared.refusals.Refusal.TheVariants.{NoMemory, Device, WrongLength}
-use Rattle.im_types.specs.Step.{is_accepted}
-use Rattle.im_disk.specs.Moment.{Moment, Left, Faults, synced}
-use Rattle.im_disk.specs.Since.{Leaves, LeavesNow}
-use Rattle.im_disk.proofs.SinceLemmas.{only_now, left_now, left_synced, leaves_now}
-use Rattle.im_checkpoint.specs.declared.checkpoint.TurnDone.{TurnDone}
-use Rattle.im_engine.specs.State.{EngineState, MeansState, IsFirstFault}
-use Rattle.im_engine.specs.Answered.{Answered, SweepAnswered, TurnAnswered, TurnTaken, is_device}
-use Rattle.im_listed.specs.History.{given}
-use Rattle.im_listed.specs.Numbers.{told_number}
-use Rattle.im_listed.specs.Listing.{Listing, carried, over, with_no_steps, LeftOnTheWay, Accounts}
-use Rattle.im_listed.specs.Image.{ImageState, Carries, IsFaultOf, IsWant, begun_in, tells_device}
-use Rattle.im_listed.proofs.NumberLemmas.{told_same}
+use Rattle.im_types.specs.Types.{Command, Outcome, Refusal, Device, NoMemory, WrongLength, is_accepted}
+use Rattle.im_disk.proofs.SinceLemmas.{leaves_now, left_now, left_synced, only_now}
+use Rattle.im_disk.specs.{Moment.Faults, Moment.Left, Moment.Moment, Moment.synced, Since.Leaves, Since.LeavesNow}
+use Rattle.im_checkpoint.specs.declared.TurnDone.{TurnDone}
+use Rattle.im_engine.specs.Answered.{Answered, is_device, SweepAnswered, TurnAnswered, TurnTaken}
+use Rattle.im_engine.specs.State.{EngineState, IsFirstFault, MeansState}
+use Rattle.im_listed.{proofs.NumberLemmas.told_same, specs.History.given, specs.Numbers.told_number}
+use Rattle.im_listed.specs.Image.{begun_in, Carries, ImageState, IsFaultOf, IsWant, tells_device}
+use Rattle.im_listed.specs.Listing.{Accounts, carried, LeftOnTheWay, Listing, over, with_no_steps}
 
 -- what is known after a call, of the engine as it began
 pub record Facts (s : EngineState Listing) (new : ImageState) (P : EngineState Listing → List ℕ → Type 0) : Type 0 where

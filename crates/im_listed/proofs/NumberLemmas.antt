@@ -1,7 +1,7 @@
 -- Moments with one number are the same.
-use Rattle.std.proofs.Common.{◌≡◌, ℕ, zero, suc, ◌+◌, Bool, true, false, List, [], ◌∷◌, refl, sym, ap, arith}
+use Rattle.std.proofs.Common.{◌≡◌, ℕ, zero, suc, ◌+◌, Bool, true, false, List, [], ◌∷◌, sym, refl, ap, arith}
 use Rattle.im_disk.specs.Moment.{Moment}
-use Rattle.im_listed.specs.Numbers.{pair, bytes_number, ranges_number, moment_number, told_number}
+use Rattle.im_listed.specs.Numbers.{bytes_number, moment_number, pair, ranges_number, told_number}
 
 pair_some : (a b : ℕ) → pair a b ≡ 0 → ⊥
 pair_some zero b e = absurd (omega arith)

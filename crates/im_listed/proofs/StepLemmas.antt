@@ -1,15 +1,11 @@
 -- One step more on the list of a disk over a caller's bytes.
-use Rattle.std.proofs.Common.{◌≡◌, inl, inr, ⊎_elim, ℕ, List, [], ◌∷◌, ◌++◌, length, map, refl, sym, ◌∙◌, ap, subst}
-use Rattle.std.proofs.Common.{arith, length-append, Bool, true, false}
-use Rattle.std.proofs.lemmas.Bool.{cases_lt}
-use Rattle.std.proofs.lemmas.List.{take-append-le, take_all}
-use Rattle.std.proofs.lemmas.Bool.{false≢true}
-use Rattle.im_disk.specs.Moment.{Moment, Left, synced}
-use Rattle.im_listed.specs.declared.step.Step.{Step}
-use Rattle.im_listed.specs.History.{CallHistory, later}
-use Rattle.im_listed.specs.Listing.{FileStep, Settles, task_of, stepped, carried, Listing, later_with, listing_of}
-use Rattle.im_listed.specs.Listing.{no_range}
-use Rattle.im_listed.specs.Listing.{is_calm, settled, Accounts, Agrees}
+use Rattle.std.proofs.Common.{◌≡◌, ℕ, Bool, true, false, List, [], ◌∷◌, ◌++◌, map, length, sym, refl, ap, ◌∙◌, subst}
+use Rattle.std.proofs.Common.{inl, inr, ⊎_elim, arith, length-append, take_all}
+use Rattle.std.proofs.lemmas.{Bool.cases_lt, Bool.false≢true, List.take-append-le}
+use Rattle.im_disk.specs.Moment.{Left, Moment, synced}
+use Rattle.im_listed.specs.{declared.step.Step.Step, History.CallHistory, History.later}
+use Rattle.im_listed.specs.Listing.{Accounts, Agrees, carried, FileStep, is_calm, later_with, Listing, listing_of}
+use Rattle.im_listed.specs.Listing.{no_range, settled, Settles, stepped, task_of}
 
 carried_more : (m : Moment) (ts : List FileStep) (t : FileStep) → carried m (ts ++ t ∷ []) ≡ stepped t (carried m ts)
 carried_more m [] t = refl

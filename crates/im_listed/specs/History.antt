@@ -1,8 +1,8 @@
 -- What a crash may leave of a file, from the calls of the disk over its bytes.
 use Rattle.std.specs.Prelude.{ℕ, List, [], ◌∷◌, length}
-use Rattle.im_disk.specs.Moment.{Moment, written, synced}
+use Rattle.im_disk.specs.Moment.{Moment, synced, written}
 use Rattle.im_listed.specs.declared.calls.ListedCall.{ListedCall}
-use Rattle.im_listed.specs.declared.calls.ListedCall.TheVariants.{Emptied, Given, Read, Written, Synced}
+use Rattle.im_listed.specs.declared.calls.ListedCall.TheVariants.{Emptied, Given, Read, Synced, Written}
 
 -- the file now, the moments before it since the list was last emptied, newest first, and the moment of that emptying
 pub record CallHistory : Type 0 where

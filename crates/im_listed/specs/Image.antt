@@ -1,16 +1,11 @@
 -- An image in the hands of a caller that carries out the writes and syncs.
-use Rattle.std.specs.Prelude.{◌≡◌, ◌⊎◌, ℕ, Bool, false, List, [], length, take, Result, Ok, Err, if◌then◌else◌}
-use Rattle.im_types.specs.declared.commands.Command.{Command}
-use Rattle.im_types.specs.declared.groups.Served.{Served}
-use Rattle.im_types.specs.declared.refusals.Refusal.{Refusal}
-use Rattle.im_types.specs.declared.refusals.Refusal.TheVariants.{NoMemory, Device}
-use Rattle.im_disk.specs.Moment.{Moment}
-use Rattle.im_disk.specs.Since.{LeavesNow}
-use Rattle.im_groups.specs.Ahead.{ServesPrefix}
-use Rattle.im_engine.specs.State.{EngineState, MeansState, IsFirstFault, MeansEither}
-use Rattle.im_engine.specs.Commands.{CommandsAnswered, commands_put, after_commands}
-use Rattle.im_engine.specs.Answered.{is_device}
-use Rattle.im_listed.specs.Listing.{FileStep, Listing, MayLeave, carried, LeftOnTheWay, with_no_steps}
+use Rattle.std.specs.Prelude.{◌≡◌, ℕ, Bool, false, ◌⊎◌, List, [], length, take, if◌then◌else◌, Ok, Err, Result}
+use Rattle.im_types.specs.Types.{Command, Served, Refusal, Device, NoMemory}
+use Rattle.im_disk.specs.{Moment.Moment, Since.LeavesNow}
+use Rattle.{im_groups.specs.Ahead.ServesPrefix, im_engine.specs.Answered.is_device}
+use Rattle.im_engine.specs.Commands.{after_commands, commands_put, CommandsAnswered}
+use Rattle.im_engine.specs.State.{EngineState, IsFirstFault, MeansEither, MeansState}
+use Rattle.im_listed.specs.Listing.{carried, FileStep, LeftOnTheWay, Listing, MayLeave, with_no_steps}
 
 -- an engine over a caller's bytes, and whether a call of the disk failed, here or at the caller
 pub record ImageState : Type 0 where

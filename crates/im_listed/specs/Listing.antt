@@ -1,9 +1,8 @@
 -- A disk over a caller's bytes, and what the list of its writes and syncs makes of the caller's file.
-use Rattle.std.specs.Prelude.{◌≡◌, ℕ, ◌≤◌, Bool, true, false, List, [], ◌∷◌, ◌++◌, length, take, map, Result}
-use Rattle.std.specs.Prelude.{MatchResult, if◌then◌else◌}
-use Rattle.im_disk.specs.Moment.{Moment, Left, LeftSince, written, synced}
-use Rattle.im_listed.specs.declared.step.Step.{Step}
-use Rattle.im_listed.specs.declared.step.Step.TheVariants.{Write, Sync}
+use Rattle.std.specs.Prelude.{◌≡◌, ℕ, ◌≤◌, Bool, true, false, List, [], ◌∷◌, ◌++◌, map, length, take, if◌then◌else◌}
+use Rattle.std.specs.Prelude.{MatchResult, Result}
+use Rattle.im_disk.specs.Moment.{Left, LeftSince, Moment, synced, written}
+use Rattle.im_listed.specs.declared.step.Step.{Step, TheVariants.Sync, TheVariants.Write}
 use Rattle.im_listed.specs.History.{CallHistory, given}
 
 -- a step on the file: write these bytes at this place, or put all that was written on the disk

@@ -1,8 +1,6 @@
 //! A request that is sent again, over a crash of the caller.
-ghost use Rattle.std.specs.Prelude.{◌≡◌, Ok, IfOk, IfErr};
-ghost use Rattle.im_types.specs.declared.operations.Entry.{Entry};
-ghost use Rattle.im_types.specs.declared.commands.Outcome.TheVariants.{Entry as Tells};
-ghost use Rattle.im_laws.specs.Requests.{after_request};
+ghost use Rattle.std.specs.Prelude.{◌≡◌, IfOk, IfErr, Ok};
+ghost use Rattle.{im_types.specs.Types.Entry, im_types.specs.Types.Tells, im_laws.specs.Requests.after_request};
 ghost use Rattle.im_listed.specs.Image.{IsWant, MayLeaveBetween};
 
 use crate::image::Image;

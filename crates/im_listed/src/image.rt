@@ -1,16 +1,13 @@
 //! An image in the hands of a caller that carries out the writes and syncs.
-ghost use Rattle.std.specs.Prelude.{◌≡◌, ◌∷◌, true, false, [], map, replicate, Err, IfOk, IfErr};
-ghost use Rattle.im_types.specs.Contents.{empty_contents, kept_for, waiters_at};
-ghost use Rattle.im_types.specs.Layout.{image_length, layout_in_use, sizes_of};
-ghost use Rattle.im_types.specs.Window.{ask, bounds};
-ghost use Rattle.im_disk.specs.Since.{LeavesNow};
-ghost use Rattle.im_checkpoint.specs.Step.{NoCheckpoint};
-ghost use Rattle.im_engine.specs.State.{MeansState, MeansEither, IsFound, with_command};
+ghost use Rattle.std.specs.Prelude.{◌≡◌, true, false, [], ◌∷◌, map, replicate, IfOk, IfErr, Err};
+ghost use Rattle.im_types.specs.Types.{waiters_at, kept_for, empty_contents, ask, bounds, layout_in_use, sizes_of};
+ghost use Rattle.im_types.specs.Types.{image_length};
+ghost use Rattle.{im_disk.specs.Since.LeavesNow, im_checkpoint.specs.Step.NoCheckpoint};
 ghost use Rattle.im_engine.specs.Answered.{Answered, SweepAnswered, TurnAnswered};
-ghost use Rattle.im_listed.specs.Listing.{Accounts, Settles, task_of, carried};
-ghost use Rattle.im_listed.specs.History.{given};
-ghost use Rattle.im_listed.specs.Image.{ImageState, Carries, IsFaultOf, IsWant, begun_in, steps_of, tells_device};
-ghost use Rattle.im_listed.specs.Image.{ServesFirst};
+ghost use Rattle.im_engine.specs.State.{IsFound, MeansEither, MeansState, with_command};
+ghost use Rattle.im_listed.specs.{History.given, Listing.Accounts, Listing.carried, Listing.Settles, Listing.task_of};
+ghost use Rattle.im_listed.specs.Image.{begun_in, Carries, ImageState, IsFaultOf, IsWant, ServesFirst, steps_of};
+ghost use Rattle.im_listed.specs.Image.{tells_device};
 
 use crate::listed::Listed;
 use crate::settling::{is_one_sync, settled};

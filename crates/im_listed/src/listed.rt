@@ -1,9 +1,9 @@
 //! A disk over a caller's bytes. It lists what the caller has to do to its file.
-ghost use Rattle.std.specs.Prelude.{◌≡◌, ◌+◌, ◌≤◌, ◌∷◌, ◌++◌, [], false, true, map, length, take, drop, Ok, OnOk};
-ghost use Rattle.std.specs.Prelude.{IfOk, OnErr};
-ghost use Rattle.im_disk.specs.Moment.{Counts, written, synced};
-ghost use Rattle.im_listed.specs.Listing.{Puts, task_of, over, with_no_steps, later_with, settled, is_calm, ListsStep};
-ghost use Rattle.im_listed.specs.Listing.{Accounts};
+ghost use Rattle.std.specs.Prelude.{◌≡◌, ◌+◌, ◌≤◌, true, false, [], ◌∷◌, ◌++◌, map, length, take, drop, IfOk, OnOk};
+ghost use Rattle.std.specs.Prelude.{OnErr, Ok};
+ghost use Rattle.im_disk.specs.Moment.{Counts, synced, written};
+ghost use Rattle.im_listed.specs.Listing.{Accounts, is_calm, later_with, ListsStep, over, Puts, settled, task_of};
+ghost use Rattle.im_listed.specs.Listing.{with_no_steps};
 ghost use Rattle.im_listed.specs.Numbers.{told_number};
 
 use crate::calls::ListedCall;
@@ -31,8 +31,7 @@ pub struct Listed {
 }
 
 impl Model for Listed {
-    ghost use Rattle.im_listed.specs.Listing.{Listing, listing_of, Agrees};
-    ghost use Rattle.im_listed.specs.History.{history_of};
+    ghost use Rattle.im_listed.specs.{History.history_of, Listing.Agrees, Listing.Listing, Listing.listing_of};
 
     ghost Value = { Listing };
 

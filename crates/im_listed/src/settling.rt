@@ -1,8 +1,7 @@
 //! How the bytes of a file are opened: by one sync, which is all that the caller has to do.
-ghost use Rattle.std.specs.Prelude.{◌≡◌, ◌∷◌, [], true, false, map, IfOk};
+ghost use Rattle.std.specs.Prelude.{◌≡◌, true, false, [], ◌∷◌, map, IfOk};
 ghost use Rattle.im_disk.specs.Moment.{synced};
-ghost use Rattle.im_listed.specs.History.{given};
-ghost use Rattle.im_listed.specs.Listing.{Settles, task_of};
+ghost use Rattle.im_listed.specs.{History.given, Listing.Settles, Listing.task_of};
 
 use crate::listed::Listed;
 use crate::step::Step;

@@ -1,13 +1,12 @@
 -- What a read of a reader that was lent gives. (Own.)
-use Rattle.std.proofs.Common.{◌≡◌, ◌≢◌, ◌∙◌, ℕ, ◌+◌, ◌<◌, List, [], ◌∷◌, ◌++◌, length, take, drop, refl, sym, ap, subst}
-use Rattle.std.proofs.Common.{append_assoc, arith, suc, zero}
-use Rattle.std.proofs.lemmas.List.{drop-drop, drop_at}
-use Rattle.std.specs.Prelude.{Option, None, Some, IfSome, slice_index, Result, Ok, Err, unwrap_or}
-use Rattle.std.specs.Option.{ForSome, option_map}
+use Rattle.std.proofs.Common.{◌≡◌, ℕ, zero, suc, ◌+◌, ◌<◌, ◌≢◌, List, [], ◌∷◌, ◌++◌, length, take, drop, IfSome}
+use Rattle.std.proofs.Common.{slice_index, Some, None, Ok, Err, Option, Result, option_map, unwrap_or, sym, refl, ap}
+use Rattle.std.proofs.Common.{◌∙◌, subst, append_assoc, arith, drop-drop, drop_at}
 use Rattle.std.specs.Io.KnownBytes.{Consumes, IsAtEnd, Keeps, ReadConsumes}
+use Rattle.std.specs.Option.{ForSome}
 use Rattle.im_listening.specs.declared.delivery.Delivery.{Delivery}
+use Rattle.im_listening.specs.Lending.{bytes_heard, HasBytes, HearsByte, StillHas}
 use Rattle.im_listening.specs.declared.delivery.Delivery.TheVariants as heard_as
-use Rattle.im_listening.specs.Lending.{HasBytes, HearsByte, StillHas, bytes_heard}
 
 none_is : (x : List ℕ) → None ≡ Some x → ⊥
 none_is x is = subst (λ (o : Option (List ℕ)). IfSome o (λ _. ⊥)) is tt

@@ -1,6 +1,5 @@
 -- What a read gives behind one that gave nothing. (Own.)
-use Rattle.std.proofs.Common.{ℕ, List, subst}
-use Rattle.std.specs.Prelude.{Option, None, Some, Result, Ok, Err}
+use Rattle.std.proofs.Common.{ℕ, List, Some, None, Ok, Err, Option, Result, subst}
 use Rattle.std.specs.Io.KnownBytes.{Keeps, ReadConsumes}
 
 pub reads_on : {E : Type 0} (a b c : Option (List ℕ)) (r : Result ℕ E) (buf : List ℕ) → Keeps a b → ReadConsumes b c r buf → ReadConsumes a c r buf

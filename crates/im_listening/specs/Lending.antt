@@ -1,6 +1,7 @@
 -- What a reader that comes and goes still gives. (Own.)
-use Rattle.std.specs.Prelude.{◌≡◌, ◌≢◌, ℕ, List, [], ◌∷◌, ◌++◌, drop, Option, Some, IfSome, Result, MatchResult}
-use Rattle.std.specs.Option.{ForSome, option_map}
+use Rattle.std.specs.Prelude.{◌≡◌, ℕ, ◌≢◌, List, [], ◌∷◌, ◌++◌, drop, IfSome, MatchResult, Some, Option, Result}
+use Rattle.std.specs.Prelude.{option_map}
+use Rattle.std.specs.Option.{ForSome}
 use Rattle.im_listening.specs.declared.delivery.Delivery.{Delivery}
 use Rattle.im_listening.specs.declared.delivery.Delivery.TheVariants as heard_as
 

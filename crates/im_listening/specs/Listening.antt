@@ -1,8 +1,6 @@
 -- What a listener still gives. (Own.)
-use Rattle.std.specs.Prelude.{ℕ, List, Option}
-use Rattle.std.specs.declared.io.traits.Read.{Ghosts as Reads}
-use Rattle.im_listening.specs.declared.input_bytes.InputBytes.{Ghosts as Bytes}
-use Rattle.im_listening.specs.declared.listener.Listener.{Listener}
+use Rattle.std.specs.{Prelude.ℕ, Prelude.List, Prelude.Option, declared.io.traits.Read.Ghosts as Reads}
+use Rattle.im_listening.specs.declared.{input_bytes.InputBytes.Ghosts as Bytes, listener.Listener.Listener}
 use Rattle.im_listening.specs.Lending.{not_given}
 
 -- the bytes of its input that it hasn't given yet

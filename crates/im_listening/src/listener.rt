@@ -1,8 +1,5 @@
 //! A reader that listens with a thread.
-ghost use Rattle.std.specs.Prelude.{◌≡◌, IfSome};
-ghost use Rattle.std.specs.Option.{ForSome};
-ghost use Rattle.std.specs.Io.{ReadsAtMost};
-ghost use Rattle.std.specs.Io.KnownBytes.{ReadConsumes};
+ghost use Rattle.std.specs.{Prelude.◌≡◌, Prelude.IfSome, Io.KnownBytes.ReadConsumes, Io.ReadsAtMost, Option.ForSome};
 ghost use Rattle.im_listening.specs.Lending.{HasBytes};
 
 use crate::Ear;

@@ -1,8 +1,7 @@
 //! A reader on its way to a thread and back.
-ghost use Rattle.std.specs.Prelude.{◌≡◌, ◌+◌, ◌<◌, ◌^◌, true, Ok, [], length};
-ghost use Rattle.std.specs.Io.{ReadsAtMost};
-ghost use Rattle.std.specs.Io.KnownBytes.{ReadConsumes};
-ghost use Rattle.im_listening.specs.Lending.{HasBytes, HearsByte, StillHas, bytes_heard, not_given};
+ghost use Rattle.std.specs.Prelude.{◌≡◌, ◌+◌, ◌^◌, ◌<◌, true, [], length, Ok};
+ghost use Rattle.std.specs.Io.{KnownBytes.ReadConsumes, ReadsAtMost};
+ghost use Rattle.im_listening.specs.Lending.{bytes_heard, HasBytes, HearsByte, not_given, StillHas};
 
 use crate::delivery::Delivery;
 use crate::input_bytes::InputBytes;

@@ -1,8 +1,6 @@
 //! Reads that wait for a reader that doesn't wait itself.
-ghost use Rattle.std.specs.Prelude.{◌≡◌, ◌≢◌, ◌⊎◌, ◌↔◌, IfErr, IfSome, IsTrue, MatchOption};
-ghost use Rattle.std.specs.Io.{ReadsAtMost};
-ghost use Rattle.std.specs.Io.KnownBytes.{Keeps, ReadConsumes};
-ghost use Rattle.std.specs.IoError.{error_kind};
+ghost use Rattle.std.specs.Prelude.{◌≡◌, ◌≢◌, ◌⊎◌, ◌↔◌, IfSome, IfErr, IsTrue, MatchOption};
+ghost use Rattle.std.specs.{Io.KnownBytes.Keeps, Io.KnownBytes.ReadConsumes, Io.ReadsAtMost, IoError.error_kind};
 
 use std::io::{self, ErrorKind, Read};
 use std::sync::Wait;

@@ -1,25 +1,13 @@
 -- No law of images and journals says more than it does: each one with a premise less fails at bytes that are written out here.
 -- And a reading that may stop early, or tell any fault, would give one file two meanings.
-use Rattle.std.proofs.Common.{◌≡◌, ◌⊎◌, inl, inr, ℕ, zero, suc, ◌+◌, ◌-◌, ◌<◌, ◌≤◌, false, List, [], ◌∷◌, ◌++◌}
-use Rattle.std.proofs.Common.{length, take, drop, Option, None, Some, Result, Ok, Err, refl, ap, arith}
-use Rattle.std.specs.Prelude.{◌==◌, nat_lt}
+use Rattle.std.proofs.Common.{◌≡◌, ℕ, zero, suc, ◌+◌, ◌-◌, ◌<◌, ◌≤◌, false, ◌⊎◌, List, [], ◌∷◌, ◌++◌, length, take}
+use Rattle.std.proofs.Common.{drop, nat_lt, ◌==◌, Some, None, Ok, Err, Option, Result, refl, ap, inl, inr, arith}
 use Rattle.std.proofs.lemmas.Bool.Decides.{nat_tests}
+use Rattle.im_types.specs.Types.{I, Alloc, Command, Asks, Refusal, WrongLength, NoHeader, number_of, LAST, Contents}
+use Rattle.im_types.specs.Types.{empty_contents, layout_2, image_length, zeros, header_place, is_open_header, header_of}
+use Rattle.im_types.specs.Types.{slot_body, sequence_of, command_in, read_in, Ring, room_of, Tail, slot, continues}
+use Rattle.im_types.specs.Types.{tail, Reached, reached_after, Reads}
 use Rattle.im_types.proofs.Tests.{differ}
-use Rattle.im_types.specs.declared.TheConstants.{LAST}
-use Rattle.im_types.specs.declared.operations.Op.TheVariants.{Alloc}
-use Rattle.im_types.specs.declared.operations.Kind.TheVariants.{I}
-use Rattle.im_types.specs.declared.commands.Command.{Command}
-use Rattle.im_types.specs.declared.commands.Command.TheVariants.{Request as Asks}
-use Rattle.im_types.specs.declared.refusals.Refusal.{Refusal}
-use Rattle.im_types.specs.declared.refusals.Refusal.TheVariants.{WrongLength, NoHeader}
-use Rattle.im_types.specs.Refusals.{number_of}
-use Rattle.im_types.specs.Contents.{Contents, empty_contents}
-use Rattle.im_types.specs.Bytes.{zeros}
-use Rattle.im_types.specs.Slot.{slot_body, read_in, command_in, sequence_of}
-use Rattle.im_types.specs.Journal.{Ring, Tail, tail, slot, continues, room_of}
-use Rattle.im_types.specs.Layout.{layout_2, image_length}
-use Rattle.im_types.specs.Header.{header_of, header_place, is_open_header}
-use Rattle.im_types.specs.Meaning.{Reached, Reads, reached_after}
 
 -- a number that isn't below another one
 reaches : (a b : ℕ) → nat_lt a b ≡ false → a < b → ⊥

@@ -1,16 +1,14 @@
 -- Which header is in force, read from the definition and told to it.
-use Rattle.std.proofs.Common.{◌≡◌, ◌⊎◌, inl, inr, ℕ, zero, suc, ◌-◌, ◌<◌, ◌≤◌, ◌==◌, ◌&&◌, ◌||◌, not, nat_lt, Bool}
-use Rattle.std.proofs.Common.{true, false, List, length, Option, None, Some, refl, sym, ◌∙◌, ap, subst, arith}
-use Rattle.std.proofs.Common.{if◌then◌else◌}
+use Rattle.std.proofs.Common.{◌≡◌, ℕ, zero, suc, ◌-◌, ◌<◌, ◌≤◌, Bool, true, false, not, ◌&&◌, ◌||◌, ◌⊎◌, List, length}
+use Rattle.std.proofs.Common.{if◌then◌else◌, nat_lt, ◌==◌, Some, None, Option, sym, refl, ap, ◌∙◌, subst, inl, inr}
+use Rattle.std.proofs.Common.{arith}
 use Rattle.std.proofs.lemmas.Bool.Decides.{nat_tests}
+use Rattle.im_types.specs.Types.{Refusal, WrongLength, NoHeader, BadHeader, Layout, image_length, Header, header_in}
+use Rattle.im_types.specs.Types.{is_header, spells_header, header_place, is_open_header, generation_in, is_second}
+use Rattle.im_types.specs.Types.{number_in_force, place_in_force, are_ambiguous, place_fault, header_of, or_else}
+use Rattle.im_types.specs.Types.{header_fault}
 use Rattle.im_types.proofs.Tests.{and_both}
-use Rattle.im_types.specs.declared.refusals.Refusal.{Refusal}
-use Rattle.im_types.specs.declared.refusals.Refusal.TheVariants.{WrongLength, NoHeader, BadHeader}
-use Rattle.im_types.specs.Layout.{Layout, image_length}
-use Rattle.im_types.specs.Header.{Header, header_in, header_place, is_open_header, generation_in, is_second}
-use Rattle.im_types.specs.Header.{number_in_force, place_in_force, are_ambiguous, place_fault, spells_header}
-use Rattle.im_types.specs.Header.{is_header, or_else, header_of, header_fault}
-use Rattle.im_meaning.specs.Images.{IsBelow, InForce}
+use Rattle.im_meaning.specs.Images.{InForce, IsBelow}
 
 -- of two headers the second is in force exactly where it is open and the first is below it
 abbrev second : Bool → Bool → ℕ → ℕ → Bool

@@ -1,20 +1,13 @@
 -- What an image reads as, by its parts.
-use Rattle.std.proofs.Common.{◌≡◌, ◌⊎◌, inl, inr, ℕ, ◌+◌, ◌*◌, ◌<◌, Bool, true, false, List, length, drop, Option}
-use Rattle.std.proofs.Common.{None, Some, Result, Ok, Err, MatchOption, refl, sym, ◌∙◌, ap, subst}
-use Rattle.im_types.specs.declared.commands.Command.{Command}
-use Rattle.im_types.specs.declared.refusals.Refusal.{Refusal}
-use Rattle.im_types.specs.declared.refusals.Refusal.TheVariants.{BadPage}
-use Rattle.im_types.specs.Contents.{Contents}
-use Rattle.im_types.specs.Layout.{Layout, area_of, ring_of}
-use Rattle.im_types.specs.Header.{Header, header_of, header_fault, header_place, is_open_header}
-use Rattle.im_types.specs.Journal.{IsBoundary, Tail, tail}
-use Rattle.im_types.specs.Pages.{Shows}
-use Rattle.im_types.specs.Meaning.{Reached, IsShown, Reads, accept_in, reached_by, reached_after, read_journal}
-use Rattle.im_disk.specs.Since.{SameBut}
-use Rattle.im_meaning.specs.Images.{other, IsImage, IsRead, Follows, IsPrepared}
+use Rattle.std.proofs.Common.{◌≡◌, ℕ, ◌+◌, ◌*◌, ◌<◌, Bool, true, false, ◌⊎◌, List, length, drop, Some, None, Ok, Err}
+use Rattle.std.proofs.Common.{Option, Result, MatchOption, sym, refl, ap, ◌∙◌, subst, inl, inr}
+use Rattle.im_types.specs.Types.{Command, Refusal, BadPage, Contents, Layout, ring_of, area_of, Header, header_place}
+use Rattle.im_types.specs.Types.{is_open_header, header_of, header_fault, IsBoundary, Tail, tail, Shows, Reached}
+use Rattle.im_types.specs.Types.{accept_in, reached_by, reached_after, read_journal, IsShown, Reads}
+use Rattle.{im_disk.specs.Since.SameBut, im_journal.proofs.Later.tail_later}
 use Rattle.im_meaning.proofs.Headers.{in_force, in_force_is, no_header_fault}
 use Rattle.im_meaning.proofs.Writes.{stays_closed, takes_over}
-use Rattle.im_journal.proofs.Later.{tail_later}
+use Rattle.im_meaning.specs.Images.{Follows, IsImage, IsPrepared, IsRead, other}
 
 abbrev Outcome : Layout → List ℕ → Result Reached Refusal → Option Refusal → Type 0
 Outcome l file outcome fault = MatchOption fault

@@ -1,21 +1,14 @@
 -- What may be written to a file that leaves the image it is.
-use Rattle.std.proofs.Common.{◌≡◌, ◌⊎◌, inl, inr, ⊎_elim, ℕ, zero, suc, ◌+◌, ◌*◌, ◌-◌, ◌<◌, ◌≤◌, ◌==◌, true, false}
-use Rattle.std.proofs.Common.{List, [], ◌∷◌, length, take, drop, slice_range, slice_index, Some, refl, sym, ◌∙◌, ap}
-use Rattle.std.proofs.Common.{subst, arith, length-take, length-drop, get_or-take, get_or-drop}
-use Rattle.std.proofs.lemmas.List.{ext_get_or, take_all}
+use Rattle.std.proofs.Common.{◌≡◌, ℕ, zero, suc, ◌+◌, ◌-◌, ◌*◌, ◌<◌, ◌≤◌, true, false, ◌⊎◌, List, [], ◌∷◌, length, take}
+use Rattle.std.proofs.Common.{drop, ◌==◌, slice_index, slice_range, Some, sym, refl, ap, ◌∙◌, subst, inl, inr, ⊎_elim}
+use Rattle.std.proofs.Common.{arith, length-drop, length-take, get_or-drop, take_all, get_or-take, ext_get_or}
 use Rattle.byteorder.specs.Endian.{little_number}
-use Rattle.im_types.specs.declared.commands.Command.{Command}
-use Rattle.im_types.specs.Bytes.{open_gate}
-use Rattle.im_types.specs.Contents.{Contents}
-use Rattle.im_types.specs.Layout.{Layout, Sizes, area_at, area_bytes, area_of, journal_at, image_length, ring_of}
-use Rattle.im_types.specs.Header.{Header, header_in, header_place, header_body, is_open_header, generation_in}
-use Rattle.im_types.specs.Header.{spells_header}
-use Rattle.im_types.specs.Journal.{tail}
-use Rattle.im_types.specs.Pages.{Shows}
-use Rattle.im_disk.specs.Since.{SameBut}
-use Rattle.im_journal.proofs.Tails.{tail_elsewhere}
+use Rattle.im_types.specs.Types.{Command, Contents, Layout, Sizes, area_bytes, area_at, journal_at, image_length}
+use Rattle.im_types.specs.Types.{ring_of, area_of, open_gate, Header, header_body, header_in, spells_header}
+use Rattle.im_types.specs.Types.{header_place, is_open_header, generation_in, tail, Shows}
 use Rattle.im_formats.proofs.Headers.{header_in-spelled, spells_header-spelled}
-use Rattle.im_meaning.specs.Images.{other, IsBelow, InForce, IsImage, Follows, IsPrepared}
+use Rattle.{im_disk.specs.Since.SameBut, im_journal.proofs.Tails.tail_elsewhere}
+use Rattle.im_meaning.specs.Images.{Follows, InForce, IsBelow, IsImage, IsPrepared, other}
 
 slice_outside : (at n a b : ℕ) (c d : List ℕ) → SameBut at n c d → (b ≤ at) ⊎ (at + n ≤ a) → slice_range d a b
     ≡ slice_range c a b

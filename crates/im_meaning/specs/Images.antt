@@ -1,15 +1,9 @@
 -- The parts of an image: which header is in force, what its pages show, what its journal has. (Own.)
-use Rattle.std.specs.Prelude.{◌≡◌, ◌⊎◌, ℕ, ◌+◌, ◌*◌, ◌-◌, ◌<◌, ◌≤◌, List, length, drop, true, false, Some}
-use Rattle.std.specs.Prelude.{slice_range}
-use Rattle.im_types.specs.declared.commands.Command.{Command}
-use Rattle.im_types.specs.Contents.{Contents}
-use Rattle.im_types.specs.Layout.{Layout, image_length, area_at, area_bytes, area_of, ring_of}
-use Rattle.im_types.specs.Header.{Header, header_in, header_place, header_body, is_open_header, is_header}
-use Rattle.im_types.specs.Header.{generation_in, spells_header}
+use Rattle.std.specs.Prelude.{◌≡◌, ℕ, ◌+◌, ◌-◌, ◌*◌, ◌<◌, ◌≤◌, true, false, ◌⊎◌, List, length, drop, slice_range, Some}
+use Rattle.im_types.specs.Types.{Command, Contents, Layout, area_bytes, area_at, image_length, ring_of, area_of, Header}
+use Rattle.im_types.specs.Types.{header_body, header_in, is_header, spells_header, header_place, is_open_header}
+use Rattle.im_types.specs.Types.{generation_in, IsBoundary, tail, Shows, Reached, accept_in}
 use Rattle.im_formats.specs.Fitting.{FitsHeader}
-use Rattle.im_types.specs.Journal.{IsBoundary, tail}
-use Rattle.im_types.specs.Pages.{Shows}
-use Rattle.im_types.specs.Meaning.{Reached, accept_in}
 
 -- the number of the other header, and of the other area
 abbrev pub other : Header → ℕ

@@ -1,7 +1,6 @@
 -- A journal after writes to the gates of stale slots. (Own.)
-use Rattle.std.specs.Prelude.{◌≡◌, ℕ, ◌+◌, ◌-◌, ◌<◌, ◌≤◌, List, length, false, Some}
-use Rattle.im_types.specs.Slot.{is_open, sequence_of}
-use Rattle.im_types.specs.Journal.{Ring, slot, Tail, tail}
+use Rattle.std.specs.Prelude.{◌≡◌, ℕ, ◌+◌, ◌-◌, ◌<◌, ◌≤◌, false, List, length, Some}
+use Rattle.im_types.specs.Types.{is_open, sequence_of, Ring, Tail, slot, tail}
 
 -- A run of n slots is the same in both files. In the second one, the gates of the known room behind it are closed, and
 -- each slot behind those is of a command before the run.

@@ -5,17 +5,13 @@
 //! torn or whole. It is the contract of a function that does nothing.
 #![tactic(auto)]
 
-ghost use Rattle.std.specs.Prelude.{◌≡◌, ◌⊎◌, ℕ, ◌+◌, ◌*◌, ◌<◌, ◌≤◌, List, length, drop, false, true, Some, Ok};
-ghost use Rattle.im_types.specs.declared.TheConstants.{LAST};
-ghost use Rattle.im_types.specs.Journal.{Ring, IsBoundary, Tail, tail, behind, room_of};
-ghost use Rattle.im_types.specs.Layout.{Layout, journal_at, ring_of};
-ghost use Rattle.im_types.specs.Header.{Header, header_place, is_open_header, generation_in};
-ghost use Rattle.im_types.specs.Meaning.{Reached, Reads};
-ghost use Rattle.im_disk.specs.Since.{SameBut};
-ghost use Rattle.im_journal.specs.Holding.{KeepsBoundaries};
-ghost use Rattle.im_meaning.specs.Images.{other, IsRead, KeepsImage, LieInOtherArea, LieBehindOtherGate};
-ghost use Rattle.im_meaning.specs.Images.{Turnover, StaysInForce, IsTurned};
-ghost use Rattle.im_meaning.specs.Rings.{IsTailSwept, IsStaleBehind};
+ghost use Rattle.std.specs.Prelude.{◌≡◌, ℕ, ◌+◌, ◌*◌, ◌<◌, ◌≤◌, true, false, ◌⊎◌, List, length, drop, Some, Ok};
+ghost use Rattle.im_types.specs.Types.{LAST, Layout, journal_at, ring_of, Header, header_place, is_open_header};
+ghost use Rattle.im_types.specs.Types.{generation_in, Ring, IsBoundary, behind, room_of, Tail, tail, Reached, Reads};
+ghost use Rattle.{im_disk.specs.Since.SameBut, im_journal.specs.Holding.KeepsBoundaries};
+ghost use Rattle.im_meaning.specs.Images.{IsRead, IsTurned, KeepsImage, LieBehindOtherGate, LieInOtherArea, other};
+ghost use Rattle.im_meaning.specs.Images.{StaysInForce, Turnover};
+ghost use Rattle.im_meaning.specs.Rings.{IsStaleBehind, IsTailSwept};
 
 /// An image reads as the memory that its pages show, after the commands of its journal.
 pub fn images_are_read()

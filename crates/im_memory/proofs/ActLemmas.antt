@@ -1,36 +1,21 @@
 -- What an operation comes to on a table and an arena is what it comes to on their cells.
-use Rattle.std.proofs.Common.{◌≡◌, ◌≢◌, ℕ, List, [], take, drop, Some, None, Bool, true, false, cond, refl, sym, ap}
-use Rattle.std.proofs.Common.{◌∙◌, arith}
-use Rattle.std.specs.Prelude.{Option, ◌==◌, not}
-use Rattle.std.specs.List.{list_any}
-use Rattle.std.proofs.lemmas.Bool.Decides.{nat_tests}
-use Rattle.im_types.specs.declared.operations.Block.{Block}
-use Rattle.im_types.specs.declared.operations.Kind.{Kind}
-use Rattle.im_types.specs.declared.operations.Entry.TheVariants.{Answered}
-use Rattle.im_types.specs.declared.operations.Reply.{Reply}
-use Rattle.im_types.specs.declared.operations.Reply.TheVariants.{Base, BadLength, NoSpace, NoBlock, StillWaiting}
-use Rattle.im_types.specs.declared.operations.Reply.TheVariants.{Released, Cleared}
-use Rattle.im_types.specs.Contents.{Held, held_at}
-use Rattle.im_types.specs.Act.{Acted as ActedCells, only_tells, new_cell, allocate, allocate_at, unless_waited_for}
-use Rattle.im_types.specs.Act.{release_block, emptied, reset_block, block_with_base}
-use Rattle.im_types.specs.Place.{place, fill, change_each, IsLeastFree}
-use Rattle.im_laws.proofs.PlaceLemmas.{place-free}
-use Rattle.im_cell.specs.declared.slots.Slot.{Slot}
-use Rattle.im_cell.specs.Slots.{is_waiting_slot, with_cell, empty_slot, slot_block, is_quiet_block, is_releasable}
-use Rattle.im_cell.specs.Slots.{length_of}
-use Rattle.im_cell.specs.Slots.{length_at}
-use Rattle.im_cell.specs.Slots.{block_from as slot_with_base}
-use Rattle.im_arena.specs.Lists.{Shown}
-use Rattle.im_istore.specs.Joined.{held_of, cells_of}
-use Rattle.im_istore.specs.Agreement.{Agree}
-use Rattle.im_istore.proofs.Blocks.{Agree-placed, Agree-released, Agree-emptied}
-use Rattle.im_types.specs.declared.cells.Cell.TheVariants.{Empty}
-use Rattle.im_laws.specs.Blocks.{TellsOnly}
-use Rattle.im_memory.specs.declared.acts.Resumed.TheVariants.{Nobody}
-use Rattle.im_memory.specs.declared.acts.Acted.{Acted}
-use Rattle.im_memory.specs.Resuming.{telling, HasActed}
-use Rattle.im_memory.proofs.CellsLemmas.{place-cells, cells-fill, cells-emptied, any_waiting-cells, with_base-cells}
-use Rattle.im_memory.proofs.CellsLemmas.{free-list}
+use Rattle.std.proofs.Common.{◌≡◌, ℕ, Bool, true, false, cond, not, ◌≢◌, List, [], take, drop, ◌==◌, Some, None, Option}
+use Rattle.std.proofs.Common.{sym, refl, ap, ◌∙◌, arith}
+use Rattle.std.{proofs.lemmas.Bool.Decides.nat_tests, specs.List.list_any}
+use Rattle.im_types.specs.Types.{Kind, Reply, Block, Answered, Base, NoSpace, BadLength, Released, NoBlock}
+use Rattle.im_types.specs.Types.{StillWaiting, Cleared, Held, held_at, CellEmpty as Empty, place, fill, change_each}
+use Rattle.im_types.specs.Types.{IsLeastFree, Acted as ActedCells, only_tells, new_cell, allocate_at, allocate}
+use Rattle.im_types.specs.Types.{block_with_base, unless_waited_for, release_block, emptied, reset_block}
+use Rattle.im_laws.{proofs.PlaceLemmas.place-free, specs.Blocks.TellsOnly}
+use Rattle.{im_arena.specs.Lists.Shown, im_cell.specs.declared.Slot.Slot}
+use Rattle.im_cell.specs.Slots.{block_from as slot_with_base, empty_slot, is_quiet_block, is_releasable}
+use Rattle.im_cell.specs.Slots.{is_waiting_slot, length_at, length_of, slot_block, with_cell}
+use Rattle.im_istore.proofs.Blocks.{Agree-emptied, Agree-placed, Agree-released}
+use Rattle.im_istore.specs.{Agreement.Agree, Joined.cells_of, Joined.held_of}
+use Rattle.im_memory.proofs.CellsLemmas.{any_waiting-cells, cells-emptied, cells-fill, free-list, place-cells}
+use Rattle.im_memory.proofs.CellsLemmas.{with_base-cells}
+use Rattle.im_memory.specs.declared.acts.{Acted.Acted, Resumed.TheVariants.Nobody}
+use Rattle.im_memory.specs.Resuming.{HasActed, telling}
 
 not_true : (b : Bool) → not b ≡ true → b ≡ false
 not_true true e = absurd (cc)

@@ -1,38 +1,21 @@
 -- Those that an operation resumes wait until they are answered.
-use Rattle.std.proofs.Common.{◌≡◌, ⊎_elim, ℕ, suc, ◌≤◌, List, [], ◌∷◌, take, drop, Some, None, Ok, Bool, true, false}
-use Rattle.std.proofs.Common.{cond, refl, sym, ap, ◌∙◌, subst, arith}
-use Rattle.std.specs.Prelude.{Option, ◌==◌, map}
+use Rattle.std.proofs.Common.{◌≡◌, ℕ, suc, ◌≤◌, Bool, true, false, cond, List, [], ◌∷◌, map, take, drop, ◌==◌, Some}
+use Rattle.std.proofs.Common.{None, Ok, Option, sym, refl, ap, ◌∙◌, subst, ⊎_elim, arith}
 use Rattle.std.specs.List.{list_any}
-use Rattle.im_types.specs.declared.operations.Op.{Op}
-use Rattle.im_types.specs.declared.operations.Op.TheVariants.{Alloc, Release, Reset, Fetch, Store, Take, Put}
-use Rattle.im_types.specs.declared.operations.Kind.{Kind}
-use Rattle.im_types.specs.declared.operations.Kind.TheVariants.{I, M}
-use Rattle.im_types.specs.declared.operations.Block.{Block}
-use Rattle.im_types.specs.declared.operations.Reply.{Reply}
-use Rattle.im_types.specs.declared.operations.Reply.TheVariants.{Value, Stored, BadLength, WrongKind, StillWaiting}
-use Rattle.im_types.specs.declared.operations.Reply.TheVariants.{Released, Cleared}
-use Rattle.im_types.specs.declared.operations.Entry.{Entry}
-use Rattle.im_types.specs.declared.operations.Entry.TheVariants.{Waiting, Answered}
-use Rattle.im_types.specs.declared.operations.Waiter.{Waiter}
-use Rattle.im_types.specs.declared.operations.Kept.{Kept}
-use Rattle.im_types.specs.declared.commands.Request.{Request}
-use Rattle.im_types.specs.Contents.{CellState, Empty, Full, Clashed, Held, Window, held_at, waiters_of, kept_for}
-use Rattle.im_types.specs.Place.{place, fill, change_each}
-use Rattle.im_types.specs.Window.{ask, answer, note, is_waiting}
-use Rattle.im_types.specs.Act.{Served, Acted, only_tells, fetch, store, take_from, put, same_kind, serve_cell}
-use Rattle.im_types.specs.Act.{at_cell, allocate, allocate_at, unless_waited_for, release_block, emptied, reset_block}
-use Rattle.im_types.specs.Act.{block_with_base, is_waiting_cell, act}
-use Rattle.im_types.specs.Step.{asker}
-use Rattle.im_types.specs.Agreement.{same_waiter, times, awaiting, waits_for, WaitersAgree}
-use Rattle.im_laws.proofs.Tests.{true_or_false, some_none}
-use Rattle.im_laws.proofs.WindowLemmas.{kept_for-note}
-use Rattle.im_laws.proofs.AgreementLemmas.{same_waiter-equal, same_waiter-self, listed_at, waits_for-kept}
-use Rattle.im_laws.proofs.StepLemmas.{IsNext, kept_for-next, answer-other}
-use Rattle.im_laws.proofs.StepAgrees.{one_if-true, one_if-most, times-first}
-use Rattle.im_sessions.proofs.WindowsLemmas.{ask-waiting}
-use Rattle.im_arena.specs.Lists.{Shown, list_at}
-use Rattle.im_istore.specs.Access.{replies_to}
-use Rattle.im_istore.proofs.Draining.{IsOff}
+use Rattle.im_types.specs.Types.{Entry, Kind, Op, Reply, Waiter, Block, Kept, Waiting, Answered, I, M, Alloc, Release}
+use Rattle.im_types.specs.Types.{Reset, Fetch, Store, Take, Put, BadLength, Value, Stored, WrongKind, Released}
+use Rattle.im_types.specs.Types.{StillWaiting, Cleared, Request, CellState, Empty, Full, Clashed, Held, Window, held_at}
+use Rattle.im_types.specs.Types.{waiters_of, kept_for, same_waiter, times, awaiting, waits_for, WaitersAgree, place}
+use Rattle.im_types.specs.Types.{fill, change_each, ServedCell as Served, fetch, store, take_from, put, Acted}
+use Rattle.im_types.specs.Types.{only_tells, same_kind, serve_cell, at_cell, allocate_at, allocate, block_with_base}
+use Rattle.im_types.specs.Types.{is_waiting_cell, unless_waited_for, release_block, emptied, reset_block, act, note}
+use Rattle.im_types.specs.Types.{answer, is_waiting, ask, asker}
+use Rattle.im_laws.proofs.AgreementLemmas.{listed_at, same_waiter-equal, same_waiter-self, waits_for-kept}
+use Rattle.im_laws.proofs.StepAgrees.{one_if-most, one_if-true, times-first}
+use Rattle.im_laws.proofs.StepLemmas.{answer-other, IsNext, kept_for-next}
+use Rattle.im_laws.proofs.{Tests.some_none, Tests.true_or_false, WindowLemmas.kept_for-note}
+use Rattle.{im_arena.specs.Lists.list_at, im_arena.specs.Lists.Shown, im_sessions.proofs.WindowsLemmas.ask-waiting}
+use Rattle.im_istore.{proofs.Draining.IsOff, specs.Access.replies_to}
 use Rattle.im_memory.specs.Resuming.{AreAwaited}
 
 -- the first reader of a list is answered, and is off it

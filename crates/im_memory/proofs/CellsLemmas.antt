@@ -1,23 +1,15 @@
 -- A table and an arena, seen as the cells of a memory.
-use Rattle.std.proofs.Common.{◌≡◌, ℕ, zero, suc, ◌+◌, ◌<◌, ◌≤◌, List, [], ◌∷◌, length, take, drop, Some, None, Bool}
-use Rattle.std.proofs.Common.{true, false, cond, refl, sym, ap, ◌∙◌, arith}
-use Rattle.std.specs.Prelude.{Option, ◌||◌, option_map}
+use Rattle.std.proofs.Common.{◌≡◌, ℕ, zero, suc, ◌+◌, ◌<◌, ◌≤◌, Bool, true, false, cond, ◌||◌, List, [], ◌∷◌, length}
+use Rattle.std.proofs.Common.{take, drop, Some, None, Option, option_map, sym, refl, ap, ◌∙◌, arith}
 use Rattle.std.specs.List.{list_any}
-use Rattle.im_types.specs.declared.operations.Waiter.{Waiter}
-use Rattle.im_types.specs.Contents.{Held, held_at, block_at}
-use Rattle.im_types.specs.Contents.{Empty as IsEmpty}
-use Rattle.im_types.specs.Act.{has_waiter, is_waiting_cell, emptied, block_with_base}
-use Rattle.im_types.specs.Place.{begins_free, place, fill, change_each}
-use Rattle.im_types.specs.declared.cells.Cell.{Cell}
-use Rattle.im_types.specs.declared.cells.Cell.TheVariants.{Empty, Waiting, Full, Clashed}
-use Rattle.im_cell.specs.declared.slots.Slot.{Slot}
-use Rattle.im_cell.specs.Slots.{slot_at, block_in, with_cell, is_waiting_slot}
-use Rattle.im_cell.specs.Slots.{slot_block as block_at_slots, block_from as slot_with_base}
-use Rattle.im_cell.specs.Slots.{cell_waits as is_waiting_state}
-use Rattle.im_arena.specs.Lists.{Shown, list_at}
-use Rattle.im_istore.specs.Joined.{state_of, held_of, joined_cells, cells_of}
-use Rattle.im_istore.specs.Agreement.{has_some, Agree}
-use Rattle.im_istore.proofs.Cells.{list_of, held_at-cells}
+use Rattle.im_types.specs.Types.{Waiter, Empty as IsEmpty, Held, held_at, block_at, Cell, CellEmpty as Empty}
+use Rattle.im_types.specs.Types.{CellWaiting as Waiting, CellFull as Full, CellClashed as Clashed, begins_free, place}
+use Rattle.im_types.specs.Types.{fill, change_each, block_with_base, has_waiter, is_waiting_cell, emptied}
+use Rattle.{im_arena.specs.Lists.list_at, im_arena.specs.Lists.Shown, im_cell.specs.declared.Slot.Slot}
+use Rattle.im_cell.specs.Slots.{block_from as slot_with_base, block_in, cell_waits as is_waiting_state, is_waiting_slot}
+use Rattle.im_cell.specs.Slots.{slot_at, slot_block as block_at_slots, with_cell}
+use Rattle.im_istore.{proofs.Cells.held_at-cells, proofs.Cells.list_of, specs.Agreement.Agree, specs.Agreement.has_some}
+use Rattle.im_istore.specs.Joined.{cells_of, held_of, joined_cells, state_of}
 
 length-joined : (slots : List (Option Slot)) (lists : List (List Waiter))
     → length (joined_cells slots lists) ≡ length slots

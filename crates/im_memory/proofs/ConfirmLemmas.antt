@@ -1,13 +1,9 @@
 -- Entries of a window, looked at one by one.
-use Rattle.std.proofs.Common.{◌≡◌, ℕ, zero, suc, ◌+◌, ◌-◌, ◌<◌, ◌≤◌, List, [], ◌∷◌, take, drop, Some, Bool, refl, sym}
-use Rattle.std.proofs.Common.{ap, ◌∙◌, arith}
-use Rattle.std.specs.Prelude.{◌||◌, slice_get}
+use Rattle.std.proofs.Common.{◌≡◌, ℕ, zero, suc, ◌+◌, ◌-◌, ◌<◌, ◌≤◌, Bool, ◌||◌, List, [], ◌∷◌, take, drop, slice_get}
+use Rattle.std.proofs.Common.{Some, sym, refl, ap, ◌∙◌, arith}
 use Rattle.std.specs.List.{list_any}
-use Rattle.im_types.specs.declared.operations.Kept.{Kept}
-use Rattle.im_types.specs.declared.operations.Waiter.{Waiter}
-use Rattle.im_types.specs.Contents.{Window, kept_for}
-use Rattle.im_types.specs.Window.{is_waiting}
-use Rattle.im_laws.proofs.WindowLemmas.{kept_under-from, kept_for-here}
+use Rattle.im_types.specs.Types.{Waiter, Kept, Window, kept_for, is_waiting}
+use Rattle.im_laws.proofs.WindowLemmas.{kept_for-here, kept_under-from}
 use Rattle.im_memory.specs.Confirming.{does_wait}
 
 -- the first of these entries waits, or one of the rest

@@ -1,42 +1,25 @@
 -- Which pages show what a command touches.
-use Rattle.std.proofs.Common.{◌≡◌, ◌≢◌, ℕ, zero, suc, ◌+◌, ◌-◌, ◌<◌, ◌≤◌, List, [], ◌∷◌, Bool, true, false, Option}
-use Rattle.std.proofs.Common.{None, Some, Ok, Err, map, length, refl, sym, ap, subst, ◌∙◌, arith, true≢false}
-use Rattle.std.specs.Prelude.{cond, ◌==◌}
+use Rattle.std.proofs.Common.{◌≡◌, ℕ, zero, suc, ◌+◌, ◌-◌, ◌<◌, ◌≤◌, Bool, true, false, cond, ◌≢◌, List, [], ◌∷◌, map}
+use Rattle.std.proofs.Common.{length, ◌==◌, Some, None, Ok, Err, Option, sym, refl, ap, ◌∙◌, subst, true≢false, arith}
 use Rattle.std.proofs.lemmas.Bool.Decides.{nat_tests}
-use Rattle.im_types.specs.declared.operations.Kind.{Kind}
-use Rattle.im_types.specs.declared.operations.Op.TheVariants.{Alloc}
-use Rattle.im_types.specs.declared.operations.Block.{Block}
-use Rattle.im_types.specs.declared.operations.Reply.{Reply}
-use Rattle.im_types.specs.declared.operations.Reply.TheVariants.{NoCell, WrongKind}
-use Rattle.im_types.specs.declared.operations.Entry.TheVariants.{Answered}
-use Rattle.im_types.specs.declared.operations.Waiter.{Waiter}
-use Rattle.im_types.specs.declared.commands.Command.{Command}
-use Rattle.im_types.specs.declared.records.NodeRecord.{NodeRecord}
-use Rattle.im_types.specs.declared.cells.Cell.{Cell}
-use Rattle.im_types.specs.declared.cells.Cell.TheVariants.{Empty, Waiting, Full, Clashed}
-use Rattle.im_types.specs.Contents.{CellState, Held, held_at}
-use Rattle.im_types.specs.Contents.{Empty as IsEmpty, Full as IsFull, Clashed as IsClashed}
-use Rattle.im_types.specs.Act.{Served, Acted as ActedCells, same_kind, only_tells, serve_cell, at_cell}
-use Rattle.im_types.specs.Act.{block_with_base, fetch, take_from, store, put}
-use Rattle.im_types.specs.Place.{place}
-use Rattle.im_cell.specs.declared.slots.Slot.{Slot}
-use Rattle.im_cell.specs.Slots.{slot_at, slot_block, is_waiting_slot, cell_waits}
-use Rattle.im_cell.specs.Slots.{block_from as slot_with_base}
-use Rattle.im_arena.specs.Lists.{Shown, list_at, ends_at, first_in, last_in}
-use Rattle.im_istore.specs.Joined.{state_of, held_of, cells_of}
-use Rattle.im_istore.specs.Access.{access_in, replies_to}
-use Rattle.im_istore.specs.Agreement.{has_some, Agree}
-use Rattle.im_istore.proofs.Cells.{held_at-cells}
+use Rattle.im_types.specs.Types.{Kind, Reply, Waiter, Block, Answered, Alloc, NoCell, WrongKind, Command, CellState}
+use Rattle.im_types.specs.Types.{Empty as IsEmpty, Full as IsFull, Clashed as IsClashed, Held, held_at, Cell}
+use Rattle.im_types.specs.Types.{CellEmpty as Empty, CellWaiting as Waiting, CellFull as Full, CellClashed as Clashed}
+use Rattle.im_types.specs.Types.{place, ServedCell as Served, fetch, store, take_from, put, Acted as ActedCells}
+use Rattle.im_types.specs.Types.{only_tells, same_kind, serve_cell, at_cell, block_with_base, NodeRecord}
+use Rattle.{im_pages.specs.PageSets.has, im_pages.specs.PageSets.with_pages, im_cell.specs.declared.Slot.Slot}
 use Rattle.im_pages.specs.Places.{page_of_cell, page_of_node, page_of_session}
-use Rattle.im_pages.specs.PageSets.{has, with_pages}
-use Rattle.im_memory.specs.State.{MemoryState, rows_of}
-use Rattle.im_memory.specs.Touched.{IsOther, Places, nowhere, cell_alone, addresses, first_at, last_at, next_at}
-use Rattle.im_memory.specs.Touched.{nodes_from, nodes_behind, by_fetch, by_take, by_put, by_store, at_kind, places_at}
-use Rattle.im_memory.specs.Touched.{made_places, places_of, elements_in, touched}
-use Rattle.im_memory.specs.Changing.{places_in}
-use Rattle.im_memory.specs.Covering.{AreIn, HasPlaces, Covers, KeepsOutside, most_at, block_pages, with_cells}
+use Rattle.im_arena.specs.Lists.{ends_at, first_in, last_in, list_at, Shown}
+use Rattle.im_cell.specs.Slots.{block_from as slot_with_base, cell_waits, is_waiting_slot, slot_at, slot_block}
+use Rattle.im_istore.{proofs.Cells.held_at-cells, specs.Joined.cells_of, specs.Joined.held_of, specs.Joined.state_of}
+use Rattle.im_istore.specs.{Access.access_in, Access.replies_to, Agreement.Agree, Agreement.has_some}
 use Rattle.im_memory.proofs.CellsLemmas.{no_list, place-cells, with_base-cells}
-use Rattle.im_memory.proofs.TouchLemmas.{named, found-base, look, refused, there}
+use Rattle.im_memory.proofs.TouchLemmas.{found-base, look, named, refused, there}
+use Rattle.im_memory.specs.{Changing.places_in, State.MemoryState, State.rows_of}
+use Rattle.im_memory.specs.Covering.{AreIn, block_pages, Covers, HasPlaces, KeepsOutside, most_at, with_cells}
+use Rattle.im_memory.specs.Touched.{addresses, at_kind, by_fetch, by_put, by_store, by_take, cell_alone, elements_in}
+use Rattle.im_memory.specs.Touched.{first_at, IsOther, last_at, made_places, next_at, nodes_behind, nodes_from, nowhere}
+use Rattle.im_memory.specs.Touched.{Places, places_at, places_of, touched}
 
 -- what stands on a page outside the set is none of what the set has the pages of
 outside : (page : ℕ → ℕ) (set : List Bool) (xs : List ℕ) (p n : ℕ) → AreIn page set xs → has set p ≡ false → page n

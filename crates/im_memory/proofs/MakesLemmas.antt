@@ -1,31 +1,17 @@
 -- A table, an arena and windows go on making a memory.
-use Rattle.std.proofs.Common.{◌≡◌, ℕ, zero, suc, ◌*◌, ◌≤◌, List, [], ◌∷◌, length, set, replicate, None, Ok, Err, refl}
-use Rattle.std.proofs.Common.{sym, ap, ◌∙◌, subst, arith}
-use Rattle.std.specs.Prelude.{Option, Result, OnOk, IfErr, slice_get}
+use Rattle.std.proofs.Common.{◌≡◌, ℕ, zero, suc, ◌*◌, ◌≤◌, List, [], ◌∷◌, length, set, replicate, IfErr, OnOk}
+use Rattle.std.proofs.Common.{slice_get, None, Ok, Err, Option, Result, sym, refl, ap, ◌∙◌, subst, arith}
 use Rattle.std.proofs.lemmas.List.{length-replicate}
-use Rattle.im_types.specs.declared.TheConstants.{WINDOW, MAX_CELLS, MAX_ELEMENTS}
-use Rattle.im_types.specs.declared.refusals.Refusal.{Refusal}
-use Rattle.im_types.specs.declared.operations.Waiter.{Waiter}
-use Rattle.im_types.specs.declared.commands.Request.{Request}
-use Rattle.im_types.specs.declared.commands.Command.TheVariants.{Request as Asks, Confirm}
-use Rattle.im_types.specs.declared.commands.Judged.TheVariants.{Fresh}
-use Rattle.im_types.specs.Contents.{Held, Window, Contents, new_window, empty_contents}
-use Rattle.im_types.specs.Window.{judge, note, answer_each, confirm_window}
-use Rattle.im_types.specs.Act.{Acted as ActedCells, act}
-use Rattle.im_types.specs.Step.{asker, serve, step, step_request, step_confirm}
-use Rattle.im_types.specs.Memory.{IsMemory}
-use Rattle.im_laws.proofs.StepLemmas.{judge-fresh}
-use Rattle.im_cell.specs.declared.slots.Slot.{Slot}
-use Rattle.im_arena.specs.Lists.{Shown}
-use Rattle.im_istore.specs.Joined.{joined_cells, cells_of}
-use Rattle.im_istore.specs.Agreement.{Agree}
-use Rattle.im_istore.proofs.Blocks.{Agree-start}
-use Rattle.im_memory.specs.declared.acts.Acted.{Acted}
-use Rattle.im_memory.specs.Resuming.{replies_of, AreAwaited, HasActed}
-use Rattle.im_memory.specs.MakesMemory.{contents_of, MakesMemory}
-use Rattle.im_memory.proofs.AnswerLemmas.{act-ready}
-use Rattle.im_memory.proofs.CellsLemmas.{length-cells}
-use Rattle.im_laws.proofs.MemoryLemmas.{step-memory, empty-memory}
+use Rattle.im_types.specs.Types.{Waiter, Request, Asks, Confirm, Fresh, Refusal, MAX_CELLS, MAX_ELEMENTS, WINDOW, Held}
+use Rattle.im_types.specs.Types.{Window, Contents, new_window, empty_contents, IsMemory, Acted as ActedCells, act}
+use Rattle.im_types.specs.Types.{judge, note, answer_each, confirm_window, asker, serve, step_request, step_confirm}
+use Rattle.im_types.specs.Types.{step}
+use Rattle.im_laws.proofs.{MemoryLemmas.empty-memory, MemoryLemmas.step-memory, StepLemmas.judge-fresh}
+use Rattle.{im_arena.specs.Lists.Shown, im_cell.specs.declared.Slot.Slot, im_istore.proofs.Blocks.Agree-start}
+use Rattle.im_istore.specs.{Agreement.Agree, Joined.cells_of, Joined.joined_cells}
+use Rattle.im_memory.proofs.{AnswerLemmas.act-ready, CellsLemmas.length-cells}
+use Rattle.im_memory.specs.{declared.acts.Acted.Acted, MakesMemory.contents_of, MakesMemory.MakesMemory}
+use Rattle.im_memory.specs.Resuming.{AreAwaited, HasActed, replies_of}
 
 -- the counts of a memory are those of its table and windows
 own-IsMemory : (cells elements : ℕ) (slots : List (Option Slot)) (arena : Shown) (windows : List Window)

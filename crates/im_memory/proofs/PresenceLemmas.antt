@@ -1,17 +1,11 @@
 -- What is shown of a cell.
-use Rattle.std.proofs.Common.{◌≡◌, ℕ, List, [], ◌∷◌, Some, None, refl, sym, ap, ◌∙◌}
-use Rattle.std.specs.Prelude.{Option}
-use Rattle.im_types.specs.declared.cells.Cell.{Cell}
-use Rattle.im_types.specs.declared.cells.Cell.TheVariants.{Empty, Waiting, Full, Clashed}
-use Rattle.im_types.specs.declared.operations.Waiter.{Waiter}
-use Rattle.im_types.specs.Contents.{held_at}
-use Rattle.im_types.specs.Presences.{presence_of, presence_in}
-use Rattle.im_cell.specs.declared.slots.Slot.{Slot}
-use Rattle.im_cell.specs.Slots.{slot_at, slot_cell, cell_at, is_waiting_slot, cell_waits}
-use Rattle.im_arena.specs.Lists.{Shown, list_at}
-use Rattle.im_istore.specs.Joined.{state_of, held_of, cells_of}
-use Rattle.im_istore.specs.Agreement.{has_some, Agree}
-use Rattle.im_istore.proofs.Cells.{held_at-cells}
+use Rattle.std.proofs.Common.{◌≡◌, ℕ, List, [], ◌∷◌, Some, None, Option, sym, refl, ap, ◌∙◌}
+use Rattle.im_types.specs.Types.{Waiter, held_at, presence_of, presence_in, Cell, CellEmpty as Empty}
+use Rattle.im_types.specs.Types.{CellWaiting as Waiting, CellFull as Full, CellClashed as Clashed}
+use Rattle.im_arena.specs.Lists.{list_at, Shown}
+use Rattle.{im_cell.specs.declared.Slot.Slot, im_istore.proofs.Cells.held_at-cells}
+use Rattle.im_cell.specs.Slots.{cell_at, cell_waits, is_waiting_slot, slot_at, slot_cell}
+use Rattle.im_istore.specs.{Agreement.Agree, Agreement.has_some, Joined.cells_of, Joined.held_of, Joined.state_of}
 
 -- a cell that waits exactly where somebody is on its list is the tag of its state
 cell-shown : (cell : Cell) (waiters : List Waiter) → cell_waits cell ≡ has_some waiters → cell

@@ -1,24 +1,15 @@
 -- One record of a memory, and its bounds.
-use Rattle.std.proofs.Common.{◌≡◌, inl, ⊎_elim, ℕ, zero, suc, ◌<◌, ◌≤◌, ◌*◌, List, [], ◌∷◌, length, Some, None, refl}
-use Rattle.std.proofs.Common.{sym, ap, ◌∙◌, subst, arith}
-use Rattle.std.specs.Prelude.{Option, slice_get, slice_index_or, replicate}
-use Rattle.im_types.specs.declared.TheConstants.{NONE, WINDOW}
-use Rattle.im_types.specs.declared.operations.Waiter.{Waiter}
-use Rattle.im_types.specs.declared.records.CellRecord.TheVariants.{Free as FreeCell, Held as BlockCell}
-use Rattle.im_types.specs.declared.records.CellRecord.{CellRecord}
-use Rattle.im_types.specs.Contents.{new_window}
-use Rattle.im_types.specs.Pages.{Records}
-use Rattle.im_types.specs.Records.{IsLink}
-use Rattle.im_laws.proofs.Tests.{below_or_from, some_same}
-use Rattle.im_cell.specs.declared.slots.Slot.{Slot}
-use Rattle.im_cell.specs.Slots.{slot_at}
-use Rattle.im_arena.specs.declared.table.Ends.{Ends}
-use Rattle.im_types.specs.declared.records.NodeRecord.{NodeRecord}
-use Rattle.im_arena.specs.Lists.{Shown, Threads, IsThreaded, list_at, ends_at, first_in, last_in, free_record, link_of}
-use Rattle.im_memory.specs.Shown.{tag_shown, cell_record, cell_records, records_of, AreWithin}
-use Rattle.im_memory.specs.State.{empty_records}
+use Rattle.std.proofs.Common.{◌≡◌, ℕ, zero, suc, ◌*◌, ◌<◌, ◌≤◌, List, [], ◌∷◌, length, replicate, slice_get}
+use Rattle.std.proofs.Common.{slice_index_or, Some, None, Option, sym, refl, ap, ◌∙◌, subst, inl, ⊎_elim, arith}
+use Rattle.im_types.specs.Types.{Waiter, WINDOW, NONE, new_window, CellRecord, NodeRecord, FreeCell, BlockCell, IsLink}
+use Rattle.im_types.specs.Types.{Records}
+use Rattle.{im_laws.proofs.Tests.below_or_from, im_laws.proofs.Tests.some_same, im_arena.specs.declared.Ends.Ends}
+use Rattle.im_arena.specs.Lists.{ends_at, first_in, free_record, IsThreaded, last_in, link_of, list_at, Shown, Threads}
+use Rattle.im_cell.specs.{declared.Slot.Slot, Slots.slot_at}
+use Rattle.im_memory.proofs.ShownLemmas.{each-node, IsNode, Off, On, Past}
 use Rattle.im_memory.proofs.ThreadLemmas.{first-within, last-within, read-within}
-use Rattle.im_memory.proofs.ShownLemmas.{IsNode, On, Off, Past, each-node}
+use Rattle.im_memory.specs.Shown.{AreWithin, cell_record, cell_records, records_of, tag_shown}
+use Rattle.im_memory.specs.State.{empty_records}
 
 pub length-cells : (slots : List (Option Slot)) (ends : List (Option Ends)) → length (cell_records slots ends)
     ≡ length slots

@@ -1,33 +1,19 @@
 -- A memory that is put together from the records of its cells and from lists of those who wait.
-use Rattle.std.proofs.Common.{◌≡◌, ℕ, zero, suc, ◌+◌, ◌*◌, ◌<◌, ◌≤◌, List, [], ◌∷◌, ◌++◌, map, length, take, get_or}
-use Rattle.std.proofs.Common.{Some, true, refl, sym, ap, ◌∙◌, subst, arith}
-use Rattle.std.proofs.lemmas.List.{get_or-set_same, set-set, take_more, length-take-le}
-use Rattle.std.proofs.lemmas.List.Sums.{sum_by-set}
-use Rattle.std.specs.Prelude.{Option}
-use Rattle.std.specs.List.{sum_by}
-use Rattle.im_types.specs.declared.TheConstants.{WINDOW}
-use Rattle.im_types.specs.declared.operations.Waiter.{Waiter}
-use Rattle.im_types.specs.declared.records.PresenceTag.{PresenceTag}
-use Rattle.im_types.specs.declared.records.PresenceTag.TheVariants.{Empty as TagEmpty, Waiting as TagWaiting}
-use Rattle.im_types.specs.declared.records.PresenceTag.TheVariants.{Full as TagFull, Clashed as TagClashed}
-use Rattle.im_types.specs.declared.records.CellRecord.{CellRecord}
-use Rattle.im_types.specs.declared.records.CellRecord.TheVariants.{Free as FreeCell, Held as BlockCell}
-use Rattle.im_types.specs.declared.records.NodeRecord.{NodeRecord}
-use Rattle.im_types.specs.Chains.{ChainHolds, HasChain, HaveChains}
-use Rattle.im_types.specs.Contents.{CellState, Held, Window, Contents}
-use Rattle.im_types.specs.Memory.{IsMemory}
-use Rattle.im_types.specs.Pages.{state_shown, cell_shown, cells_shown}
-use Rattle.im_cell.specs.declared.slots.Slot.{Slot}
-use Rattle.im_cell.specs.Slots.{slot_at, is_waiting_slot, cell_waits, shown_cell, shown_slot}
-use Rattle.im_cell.specs.Slots.{HoldsBlocks as SlotsHaveBlocks}
-use Rattle.im_arena.specs.Lists.{Lists, Shown, list_at, with_list, free}
-use Rattle.im_istore.specs.Joined.{state_of, held_of, joined_cells, cells_of}
-use Rattle.im_istore.specs.Agreement.{has_some, Agree}
-use Rattle.im_istore.proofs.Cells.{list_of}
-use Rattle.im_memory.specs.MakesMemory.{contents_of, MakesMemory}
-use Rattle.im_memory.specs.Restoring.{contents_shown, AreComplete, HaveRoom}
-use Rattle.im_memory.proofs.CellsLemmas.{length-cells, block_at-cells, no_list}
-use Rattle.im_memory.proofs.RoomLemmas.{all-fit}
+use Rattle.std.proofs.Common.{◌≡◌, ℕ, zero, suc, ◌+◌, ◌*◌, ◌<◌, ◌≤◌, true, List, [], ◌∷◌, ◌++◌, map, length, get_or}
+use Rattle.std.proofs.Common.{take, Some, sum_by, Option, sym, refl, ap, ◌∙◌, subst, arith, length-take-le}
+use Rattle.std.proofs.Common.{get_or-set_same, set-set}
+use Rattle.std.proofs.lemmas.List.{Sums.sum_by-set, take_more}
+use Rattle.im_types.specs.Types.{Waiter, WINDOW, CellState, Held, Window, Contents, IsMemory, PresenceTag, CellRecord}
+use Rattle.im_types.specs.Types.{NodeRecord, TagEmpty, TagWaiting, TagFull, TagClashed, FreeCell, BlockCell, ChainHolds}
+use Rattle.im_types.specs.Types.{HasChain, HaveChains, state_shown, cell_shown, cells_shown}
+use Rattle.im_arena.specs.Lists.{free, list_at, Lists, Shown, with_list}
+use Rattle.im_cell.specs.{declared.Slot.Slot, Slots.cell_waits, Slots.HoldsBlocks as SlotsHaveBlocks}
+use Rattle.im_cell.specs.{Slots.is_waiting_slot, Slots.shown_cell, Slots.shown_slot, Slots.slot_at}
+use Rattle.im_istore.{proofs.Cells.list_of, specs.Agreement.Agree, specs.Agreement.has_some}
+use Rattle.im_istore.specs.Joined.{cells_of, held_of, joined_cells, state_of}
+use Rattle.im_memory.proofs.CellsLemmas.{block_at-cells, length-cells, no_list}
+use Rattle.im_memory.{proofs.RoomLemmas.all-fit, specs.MakesMemory.contents_of, specs.MakesMemory.MakesMemory}
+use Rattle.im_memory.specs.Restoring.{AreComplete, contents_shown, HaveRoom}
 
 -- somebody stands in a chain
 chain-some : (nodes : List NodeRecord) (chain : List ℕ) (waiters : List Waiter) → 1 ≤ length chain

@@ -1,32 +1,17 @@
 -- A free node for each new request: each request on a list has a Waiting entry of its own, and a window has few entries.
-use Rattle.std.proofs.Common.{◌≡◌, ◌≢◌, ⊎_elim, ℕ, zero, suc, ◌+◌, ◌*◌, ◌<◌, ◌≤◌, List, [], ◌∷◌, length, Some, Ok}
-use Rattle.std.proofs.Common.{true, false, sym, ap, ◌∙◌, arith}
-use Rattle.std.specs.Prelude.{Option, slice_get}
-use Rattle.std.specs.List.{sum_by}
+use Rattle.std.proofs.Common.{◌≡◌, ℕ, zero, suc, ◌+◌, ◌*◌, ◌<◌, ◌≤◌, true, false, ◌≢◌, List, [], ◌∷◌, length, slice_get}
+use Rattle.std.proofs.Common.{Some, Ok, sum_by, Option, sym, ap, ◌∙◌, ⊎_elim, arith}
 use Rattle.std.proofs.lemmas.List.Sums.{sum_by-cons}
-use Rattle.im_types.specs.declared.TheConstants.{WINDOW}
-use Rattle.im_types.specs.declared.operations.Reply.TheVariants.{Stored}
-use Rattle.im_types.specs.declared.operations.Waiter.{Waiter}
-use Rattle.im_types.specs.declared.commands.Request.{Request}
-use Rattle.im_types.specs.declared.commands.Judged.TheVariants.{Fresh}
-use Rattle.im_types.specs.Contents.{Held, Window, held_at, kept_for}
-use Rattle.im_types.specs.Window.{judge, answer}
-use Rattle.im_types.specs.Agreement.{same_waiter, times, waits_in, WaitersAgree}
-use Rattle.im_types.specs.Memory.{IsWindow}
-use Rattle.im_laws.proofs.Tests.{true_or_false}
+use Rattle.im_types.specs.Types.{Waiter, Stored, Request, Fresh, WINDOW, Held, Window, held_at, kept_for, IsWindow}
+use Rattle.im_types.specs.Types.{same_waiter, times, waits_in, WaitersAgree, judge, answer}
 use Rattle.im_laws.proofs.AgreementLemmas.{one_if, same_waiter-equal, same_waiter-self}
-use Rattle.im_laws.proofs.StepLemmas.{judge-fresh, answer-other}
-use Rattle.im_laws.proofs.WaitingCounts.{waiting_counts, waiting_counts-most, waiting_counts-less}
-use Rattle.im_laws.proofs.WaitingCounts.{waiting_counts-answer, AwaitsOne, waits_in-AwaitsOne}
-use Rattle.im_laws.proofs.StepAgrees.{one_if-true, one_if-most}
-use Rattle.im_cell.specs.declared.slots.Slot.{Slot}
-use Rattle.im_arena.specs.Lists.{Shown, free}
-use Rattle.im_istore.specs.Joined.{cells_of}
-use Rattle.im_istore.specs.Agreement.{Agree}
-use Rattle.im_istore.proofs.Cells.{list_of}
-use Rattle.im_istore.proofs.Waiters.{waiters_at-cells}
-use Rattle.im_memory.specs.MakesMemory.{MakesMemory}
-use Rattle.im_memory.proofs.AnswerLemmas.{times-same, times-more}
+use Rattle.im_laws.proofs.{StepAgrees.one_if-most, StepAgrees.one_if-true, Tests.true_or_false}
+use Rattle.{im_laws.proofs.StepLemmas.answer-other, im_laws.proofs.StepLemmas.judge-fresh, im_arena.specs.Lists.free}
+use Rattle.{im_arena.specs.Lists.Shown, im_cell.specs.declared.Slot.Slot, im_istore.proofs.Cells.list_of}
+use Rattle.{im_istore.proofs.Waiters.waiters_at-cells, im_istore.specs.Agreement.Agree, im_istore.specs.Joined.cells_of}
+use Rattle.im_laws.proofs.WaitingCounts.{AwaitsOne, waiting_counts, waiting_counts-answer, waiting_counts-less}
+use Rattle.im_laws.proofs.WaitingCounts.{waiting_counts-most, waits_in-AwaitsOne}
+use Rattle.im_memory.{proofs.AnswerLemmas.times-more, proofs.AnswerLemmas.times-same, specs.MakesMemory.MakesMemory}
 
 module _ (cells : List (Option Held)) where
   -- a request stands on the list of a cell, from the first of these lists on, at most once, and only where its entry waits for that cell

@@ -1,33 +1,22 @@
 -- The records of a table and an arena show their memory.
-use Rattle.std.proofs.Common.{◌≡◌, ⊎_elim, ℕ, zero, suc, ◌<◌, ◌≤◌, List, [], ◌∷◌, length, get_or, Some, None, refl}
-use Rattle.std.proofs.Common.{sym, ap, ◌∙◌, subst, arith}
-use Rattle.std.specs.Prelude.{Option, ◌↔◌, slice_get, slice_index_or}
-use Rattle.im_types.specs.declared.TheConstants.{NONE}
-use Rattle.im_types.specs.declared.operations.Waiter.{Waiter}
-use Rattle.im_types.specs.declared.records.NodeRecord.{NodeRecord}
-use Rattle.im_types.specs.declared.records.NodeRecord.TheVariants.{Free as FreeNode}
-use Rattle.im_types.specs.Contents.{CellState, Window}
-use Rattle.im_types.specs.Chains.{HasChain, HaveChains, bit, is_listed, all_uses, ShowLists}
-use Rattle.im_types.specs.Layout.{Sizes}
-use Rattle.im_types.specs.Memory.{IsMemory}
-use Rattle.im_types.specs.Pages.{state_shown, cell_shown, cells_shown, ShowsRecords}
-use Rattle.im_laws.proofs.Tests.{zero_or_more, below_or_from}
-use Rattle.im_types.specs.declared.cells.Cell.{Cell}
-use Rattle.im_types.specs.declared.cells.Cell.TheVariants.{Empty, Waiting, Full, Clashed}
-use Rattle.im_cell.specs.declared.slots.Slot.{Slot}
-use Rattle.im_cell.specs.Slots.{slot_at, is_waiting_slot, cell_waits}
-use Rattle.im_arena.specs.declared.table.Ends.{Ends}
-use Rattle.im_arena.specs.Lists.{Shown, Threads, IsThreaded, list_at, ends_at, next_in, node_at, first_in, last_in}
-use Rattle.im_arena.specs.Lists.{free_record, link_of}
-use Rattle.im_istore.specs.Joined.{state_of, held_of, joined_cells, cells_of}
-use Rattle.im_istore.specs.Agreement.{has_some}
-use Rattle.im_istore.proofs.Cells.{list_of}
-use Rattle.im_memory.specs.MakesMemory.{contents_of, MakesMemory}
-use Rattle.im_memory.specs.Shown.{tag_shown, cell_record, cell_records, records_of}
+use Rattle.std.proofs.Common.{◌≡◌, ℕ, zero, suc, ◌<◌, ◌≤◌, ◌↔◌, List, [], ◌∷◌, length, get_or, slice_get}
+use Rattle.std.proofs.Common.{slice_index_or, Some, None, Option, sym, refl, ap, ◌∙◌, subst, ⊎_elim, arith}
+use Rattle.im_types.specs.Types.{Waiter, NONE, CellState, Window, IsMemory, Cell, CellEmpty as Empty}
+use Rattle.im_types.specs.Types.{CellWaiting as Waiting, CellFull as Full, CellClashed as Clashed, Sizes, NodeRecord}
+use Rattle.im_types.specs.Types.{FreeNode, HasChain, HaveChains, bit, all_uses, is_listed, ShowLists, state_shown}
+use Rattle.im_types.specs.Types.{cell_shown, cells_shown, ShowsRecords}
+use Rattle.im_laws.proofs.Tests.{below_or_from, zero_or_more}
+use Rattle.{im_arena.specs.declared.Ends.Ends, im_istore.proofs.Cells.list_of}
+use Rattle.im_arena.specs.Lists.{ends_at, first_in, free_record, IsThreaded, last_in, link_of, list_at, next_in}
+use Rattle.im_arena.specs.Lists.{node_at, Shown, Threads}
+use Rattle.im_cell.specs.{declared.Slot.Slot, Slots.cell_waits, Slots.is_waiting_slot, Slots.slot_at}
+use Rattle.im_istore.specs.{Agreement.has_some, Joined.cells_of, Joined.held_of, Joined.joined_cells, Joined.state_of}
 use Rattle.im_memory.proofs.CellsLemmas.{length-cells, no_list}
-use Rattle.im_memory.proofs.ThreadLemmas.{chain_from, length-chain, place-chain, record-read, record_past}
-use Rattle.im_memory.proofs.ThreadLemmas.{holds-chain, last-chain, Listed, listed-at}
-use Rattle.im_memory.proofs.UseLemmas.{IsAt, all_uses-from, all_uses-at, IsOnce, all_uses-once}
+use Rattle.im_memory.proofs.ThreadLemmas.{chain_from, holds-chain, last-chain, length-chain, Listed, listed-at}
+use Rattle.im_memory.proofs.ThreadLemmas.{place-chain, record-read, record_past}
+use Rattle.im_memory.proofs.UseLemmas.{all_uses-at, all_uses-from, all_uses-once, IsAt, IsOnce}
+use Rattle.im_memory.specs.MakesMemory.{contents_of, MakesMemory}
+use Rattle.im_memory.specs.Shown.{cell_record, cell_records, records_of, tag_shown}
 
 -- a list has ends exactly where somebody is on it
 abbrev HasEnds : Option Ends → List Waiter → Type 0

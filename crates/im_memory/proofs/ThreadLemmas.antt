@@ -1,16 +1,9 @@
 -- The nodes of a list, as a chain of records.
-use Rattle.std.proofs.Common.{◌≡◌, inl, inr, ℕ, zero, suc, ◌<◌, ◌≤◌, List, [], ◌∷◌, length, get_or, Some, refl, sym}
-use Rattle.std.proofs.Common.{ap, ◌∙◌, subst, arith}
-use Rattle.std.specs.Prelude.{slice_get, slice_index_or}
-use Rattle.im_types.specs.declared.TheConstants.{NONE}
-use Rattle.im_types.specs.declared.operations.Waiter.{Waiter}
-use Rattle.im_types.specs.declared.records.NodeRecord.{NodeRecord}
-use Rattle.im_types.specs.declared.records.NodeRecord.TheVariants.{Free as FreeNode, Listed as ListNode}
-use Rattle.im_types.specs.Chains.{first_of, last_of, ChainHolds}
-use Rattle.im_types.specs.Records.{IsLink}
+use Rattle.std.proofs.Common.{◌≡◌, ℕ, zero, suc, ◌<◌, ◌≤◌, List, [], ◌∷◌, length, get_or, slice_get, slice_index_or}
+use Rattle.std.proofs.Common.{Some, sym, refl, ap, ◌∙◌, subst, inl, inr, arith}
+use Rattle.im_types.specs.Types.{Waiter, NONE, NodeRecord, ListNode, FreeNode, IsLink, first_of, last_of, ChainHolds}
 use Rattle.im_laws.proofs.Tests.{some_same}
-use Rattle.im_arena.specs.Chain.{place_from}
-use Rattle.im_arena.specs.Lists.{Threads, free_record, link_of}
+use Rattle.im_arena.specs.{Chain.place_from, Lists.free_record, Lists.link_of, Lists.Threads}
 
 -- the nodes from this one on, as many as there are waiters
 abbrev pub chain_from : (ℕ → ℕ) → ℕ → List Waiter → List ℕ

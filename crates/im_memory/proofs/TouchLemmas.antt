@@ -1,52 +1,32 @@
 -- Which records an operation changes.
-use Rattle.std.proofs.Common.{◌≡◌, ◌≢◌, ℕ, zero, suc, ◌+◌, ◌<◌, ◌≤◌, List, [], ◌∷◌, Bool, true, false, Option, None}
-use Rattle.std.proofs.Common.{Some, Ok, Err, map, length, get_or, slice_get, refl, sym, ap, subst, ◌∙◌, arith}
-use Rattle.std.specs.Prelude.{option_map, drop, cond, ◌==◌}
+use Rattle.std.proofs.Common.{◌≡◌, ℕ, zero, suc, ◌+◌, ◌<◌, ◌≤◌, Bool, true, false, cond, ◌≢◌, List, [], ◌∷◌, map}
+use Rattle.std.proofs.Common.{length, get_or, drop, ◌==◌, slice_get, Some, None, Ok, Err, Option, option_map, sym, refl}
+use Rattle.std.proofs.Common.{ap, ◌∙◌, subst, arith}
 use Rattle.std.proofs.lemmas.Bool.Decides.{nat_tests}
-use Rattle.im_types.specs.declared.operations.Kind.{Kind}
-use Rattle.im_types.specs.declared.operations.Kind.TheVariants.{I, M}
-use Rattle.im_types.specs.declared.operations.Op.{Op}
-use Rattle.im_types.specs.declared.operations.Op.TheVariants.{Alloc, Release, Reset, Fetch, Store, Take, Put}
-use Rattle.im_types.specs.declared.operations.Block.{Block}
-use Rattle.im_types.specs.declared.operations.Reply.{Reply}
-use Rattle.im_types.specs.declared.operations.Reply.TheVariants.{NoCell, WrongKind, Stored}
-use Rattle.im_types.specs.declared.operations.Entry.{Entry}
-use Rattle.im_types.specs.declared.operations.Entry.TheVariants.{Answered, Waiting as Deferred}
-use Rattle.im_types.specs.declared.operations.Waiter.{Waiter}
-use Rattle.im_types.specs.declared.records.CellRecord.{CellRecord}
-use Rattle.im_types.specs.declared.records.NodeRecord.{NodeRecord}
-use Rattle.im_types.specs.declared.cells.Cell.{Cell}
-use Rattle.im_types.specs.declared.cells.Cell.TheVariants.{Empty, Waiting, Full, Clashed}
-use Rattle.im_types.specs.Contents.{CellState, Held, Window, held_at, new_window}
-use Rattle.im_types.specs.Contents.{Empty as IsEmpty, Full as IsFull, Clashed as IsClashed}
-use Rattle.im_types.specs.Place.{place, fill, change_each}
-use Rattle.im_types.specs.Records.{tag_first, tag_last}
-use Rattle.im_types.specs.Window.{with_window, answer, answer_each, answer_in}
-use Rattle.im_types.specs.Act.{Served, Acted as ActedCells, same_kind, only_tells, serve_cell, at_cell, fetch}
-use Rattle.im_types.specs.Act.{take_from, store, put, block_with_base}
-use Rattle.im_cell.specs.declared.slots.Slot.{Slot}
-use Rattle.im_cell.specs.Slots.{slot_at, slot_block, with_cell, length_of, length_at, is_waiting_slot, cell_waits}
-use Rattle.im_cell.specs.Slots.{block_from as slot_with_base}
-use Rattle.im_arena.specs.declared.table.Ends.{Ends}
-use Rattle.im_arena.specs.Chain.{along, place_from}
-use Rattle.im_arena.specs.Lists.{Shown, list_at, ends_at, first_in, last_in, next_in, IsPushed, IsPopped}
-use Rattle.im_arena.proofs.Frames.{slice_get-set_other}
-use Rattle.im_arena.proofs.Moves.{place_from-same}
-use Rattle.im_istore.specs.Joined.{state_of, held_of, cells_of}
-use Rattle.im_istore.specs.Access.{access_in, replies_to}
-use Rattle.im_istore.specs.Agreement.{has_some, Agree}
-use Rattle.im_istore.specs.Records.{LeavesLinks}
-use Rattle.im_istore.proofs.Cells.{held_at-cells}
-use Rattle.im_memory.specs.declared.acts.Resumed.{Resumed}
-use Rattle.im_memory.specs.declared.acts.Resumed.TheVariants.{Nobody, Taker, Readers}
-use Rattle.im_memory.specs.Shown.{tag_shown, cell_record, cell_records, records_of}
-use Rattle.im_memory.specs.State.{rows_of}
-use Rattle.im_memory.specs.Touched.{IsOther, Places, nowhere, cell_alone, addresses, tag_in, first_at, last_at, next_at}
-use Rattle.im_memory.specs.Touched.{nodes_from, nodes_behind, by_fetch, by_take, by_put, by_store, places_at}
-use Rattle.im_memory.specs.Touched.{made_places, places_of, touched_places, elements_told, touched_in, ChangesOnly}
-use Rattle.im_memory.specs.Changing.{places_in, ChangesAt, IsAway, AreAmong, LeavesOthers}
-use Rattle.im_memory.proofs.CellsLemmas.{place-cells, with_base-cells}
-use Rattle.im_memory.proofs.RecordLemmas.{cell-at}
+use Rattle.im_types.specs.Types.{Entry, Kind, Op, Reply, Waiter, Block, Waiting as Deferred, Answered, I, M, Alloc}
+use Rattle.im_types.specs.Types.{Release, Reset, Fetch, Store, Take, Put, Stored, NoCell, WrongKind, CellState}
+use Rattle.im_types.specs.Types.{Empty as IsEmpty, Full as IsFull, Clashed as IsClashed, Held, Window, new_window}
+use Rattle.im_types.specs.Types.{held_at, Cell, CellEmpty as Empty, CellWaiting as Waiting, CellFull as Full}
+use Rattle.im_types.specs.Types.{CellClashed as Clashed, place, fill, change_each, ServedCell as Served, fetch, store}
+use Rattle.im_types.specs.Types.{take_from, put, Acted as ActedCells, only_tells, same_kind, serve_cell, at_cell}
+use Rattle.im_types.specs.Types.{block_with_base, with_window, answer_in, answer, answer_each, CellRecord, NodeRecord}
+use Rattle.im_types.specs.Types.{tag_first, tag_last}
+use Rattle.im_arena.proofs.{Frames.slice_get-set_other, Moves.place_from-same}
+use Rattle.im_arena.specs.{Chain.along, Chain.place_from, declared.Ends.Ends}
+use Rattle.im_arena.specs.Lists.{ends_at, first_in, IsPopped, IsPushed, last_in, list_at, next_in, Shown}
+use Rattle.{im_cell.specs.declared.Slot.Slot, im_istore.proofs.Cells.held_at-cells}
+use Rattle.im_cell.specs.Slots.{block_from as slot_with_base, cell_waits, is_waiting_slot, length_at, length_of}
+use Rattle.im_cell.specs.Slots.{slot_at, slot_block, with_cell}
+use Rattle.im_istore.specs.{Access.access_in, Access.replies_to, Agreement.Agree, Agreement.has_some, Joined.cells_of}
+use Rattle.im_istore.specs.{Joined.held_of, Joined.state_of, Records.LeavesLinks}
+use Rattle.im_memory.proofs.{CellsLemmas.place-cells, CellsLemmas.with_base-cells, RecordLemmas.cell-at}
+use Rattle.im_memory.specs.Changing.{AreAmong, ChangesAt, IsAway, LeavesOthers, places_in}
+use Rattle.im_memory.specs.declared.acts.Resumed.{Resumed, TheVariants.Nobody, TheVariants.Readers, TheVariants.Taker}
+use Rattle.im_memory.specs.{Shown.cell_record, Shown.cell_records, Shown.records_of, Shown.tag_shown, State.rows_of}
+use Rattle.im_memory.specs.Touched.{addresses, by_fetch, by_put, by_store, by_take, cell_alone, ChangesOnly}
+use Rattle.im_memory.specs.Touched.{elements_told, first_at, IsOther, last_at, made_places, next_at, nodes_behind}
+use Rattle.im_memory.specs.Touched.{nodes_from, nowhere, Places, places_at, places_of, tag_in, touched_in}
+use Rattle.im_memory.specs.Touched.{touched_places}
 
 -- the windows have no say in it
 pub places-rows : (slots : List (Option Slot)) (arena : Shown) (windows : List Window) (op : Op)

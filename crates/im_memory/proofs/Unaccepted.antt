@@ -1,10 +1,6 @@
 -- A confirmation that isn't accepted leaves all windows.
-use Rattle.std.proofs.Common.{◌≡◌, ℕ, List, Result, Ok, Err, OnOk, IfErr, false, sym, ap, ◌∙◌, slice_get, slice_set}
-use Rattle.im_types.specs.declared.refusals.Refusal.{Refusal}
-use Rattle.im_types.specs.declared.commands.Command.TheVariants.{Confirm}
-use Rattle.im_types.specs.Contents.{Window, Contents}
-use Rattle.im_types.specs.Window.{confirm_window}
-use Rattle.im_types.specs.Step.{is_accepted, step_confirm}
+use Rattle.std.proofs.Common.{◌≡◌, ℕ, false, List, IfErr, OnOk, slice_get, slice_set, Ok, Err, Result, sym, ap, ◌∙◌}
+use Rattle.im_types.specs.Types.{Confirm, Refusal, Window, Contents, confirm_window, step_confirm, is_accepted}
 use Rattle.im_laws.proofs.AcceptLemmas.{unaccepted-leaves}
 
 pub windows_stay : {T : Type 0} (m : Contents) (element upto : ℕ) (new : List Window) (result : Result T Refusal)

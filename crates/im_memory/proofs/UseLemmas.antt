@@ -1,9 +1,8 @@
 -- How often a node stands in chains, by its places there.
-use Rattle.std.proofs.Common.{◌≡◌, ⊎_elim, ℕ, zero, suc, ◌+◌, ◌<◌, ◌≤◌, List, [], ◌∷◌, length, get_or, Bool, true}
-use Rattle.std.proofs.Common.{false, refl, ap, arith}
-use Rattle.std.specs.Prelude.{◌==◌}
+use Rattle.std.proofs.Common.{◌≡◌, ℕ, zero, suc, ◌+◌, ◌<◌, ◌≤◌, Bool, true, false, List, [], ◌∷◌, length, get_or, ◌==◌}
+use Rattle.std.proofs.Common.{refl, ap, ⊎_elim, arith}
 use Rattle.std.proofs.lemmas.Bool.Decides.{nat_tests}
-use Rattle.im_types.specs.Chains.{bit, uses, all_uses}
+use Rattle.im_types.specs.Types.{bit, uses, all_uses}
 use Rattle.im_laws.proofs.Tests.{true_or_false, zero_or_more}
 
 -- a place of a node in a chain

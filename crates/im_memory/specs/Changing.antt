@@ -1,13 +1,9 @@
 -- The changes of an operation to a table and an arena, and those of the requests that it then resumes. (Own.)
-use Rattle.std.specs.Prelude.{◌≡◌, ◌≢◌, ℕ, ◌<◌, List, length, Option, slice_get}
-use Rattle.im_cell.specs.declared.slots.Slot.{Slot}
-use Rattle.im_types.specs.declared.operations.Op.{Op}
-use Rattle.im_arena.specs.Lists.{Shown, list_at, node_at}
-use Rattle.im_istore.specs.Joined.{cells_of}
-use Rattle.im_memory.specs.State.{rows_of}
-use Rattle.im_memory.specs.declared.acts.Resumed.{Resumed}
-use Rattle.im_memory.specs.declared.acts.Resumed.TheVariants.{Nobody, Taker, Readers}
-use Rattle.im_memory.specs.Touched.{IsOther, Places, touched_places}
+use Rattle.std.specs.Prelude.{◌≡◌, ℕ, ◌<◌, ◌≢◌, List, length, slice_get, Option}
+use Rattle.{im_types.specs.Types.Op, im_cell.specs.declared.Slot.Slot, im_istore.specs.Joined.cells_of}
+use Rattle.im_arena.specs.Lists.{list_at, node_at, Shown}
+use Rattle.im_memory.specs.declared.acts.Resumed.{Resumed, TheVariants.Nobody, TheVariants.Readers, TheVariants.Taker}
+use Rattle.im_memory.specs.{State.rows_of, Touched.IsOther, Touched.Places, Touched.touched_places}
 
 -- a table and an arena change only at these cells and nodes
 pub record ChangesAt (p : Places) (slots : List (Option Slot)) (arena : Shown) (slots2 : List (Option Slot))

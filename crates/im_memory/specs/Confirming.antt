@@ -1,9 +1,6 @@
 -- Confirmations on one window. (Own.)
-use Rattle.std.specs.Prelude.{ℕ, Bool, false, Option, None, Some, Result, Ok, Err, nat_lt}
-use Rattle.im_types.specs.declared.operations.Kept.{Kept}
-use Rattle.im_types.specs.declared.refusals.Refusal.{Refusal}
-use Rattle.im_types.specs.Contents.{Window}
-use Rattle.im_types.specs.Window.{is_waiting}
+use Rattle.std.specs.Prelude.{ℕ, Bool, false, nat_lt, Some, None, Ok, Err, Option, Result}
+use Rattle.im_types.specs.Types.{Kept, Refusal, Window, is_waiting}
 
 -- whether a confirmation with this result drops an entry
 abbrev pub forgets : ℕ → Window → Result Window Refusal → Result Bool Refusal

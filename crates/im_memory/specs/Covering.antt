@@ -1,26 +1,13 @@
 -- The pages that a set must have so that no record on a page outside it changes. (Own.)
-use Rattle.std.specs.Prelude.{◌≡◌, ℕ, zero, suc, ◌+◌, ◌*◌, ◌-◌, List, [], ◌∷◌, Bool, true, false, length, Option, None}
-use Rattle.std.specs.Prelude.{Some}
-use Rattle.im_types.specs.declared.operations.Kind.{Kind}
-use Rattle.im_types.specs.declared.operations.Kind.TheVariants.{I, M}
-use Rattle.im_types.specs.declared.operations.Op.{Op}
-use Rattle.im_types.specs.declared.operations.Op.TheVariants.{Alloc, Release, Reset, Fetch, Store, Take, Put}
-use Rattle.im_types.specs.declared.operations.Waiter.{Waiter}
-use Rattle.im_types.specs.declared.commands.Command.{Command}
-use Rattle.im_types.specs.declared.commands.Command.TheVariants.{Request as Asks, Confirm}
-use Rattle.im_types.specs.Contents.{CellState, Empty, Full, Clashed, Held, Contents, held_at}
-use Rattle.im_types.specs.declared.operations.Reply.{Reply}
-use Rattle.im_types.specs.declared.operations.Reply.TheVariants.{NoCell}
-use Rattle.im_types.specs.declared.operations.Entry.TheVariants.{Answered}
-use Rattle.im_types.specs.declared.operations.Block.{Block}
-use Rattle.im_types.specs.Place.{place}
-use Rattle.im_types.specs.Act.{act, block_with_base}
-use Rattle.im_types.specs.Step.{asker}
-use Rattle.im_types.specs.Pages.{Records}
-use Rattle.im_pages.specs.Places.{page_of_cell, page_of_node, page_of_session, AgreeOnPage}
-use Rattle.im_pages.specs.PageSets.{has, with_page, with_pages, IsWithin}
+use Rattle.std.specs.Prelude.{◌≡◌, ℕ, zero, suc, ◌+◌, ◌-◌, ◌*◌, Bool, true, false, List, [], ◌∷◌, length, Some, None}
+use Rattle.std.specs.Prelude.{Option}
+use Rattle.im_types.specs.Types.{Kind, Op, Reply, Waiter, Block, Answered, I, M, Alloc, Release, Reset, Fetch, Store}
+use Rattle.im_types.specs.Types.{Take, Put, NoCell, Command, Asks, Confirm, CellState, Empty, Full, Clashed, Held}
+use Rattle.im_types.specs.Types.{Contents, held_at, place, block_with_base, act, asker, Records}
+use Rattle.im_pages.specs.PageSets.{has, IsWithin, with_page, with_pages}
+use Rattle.im_pages.specs.Places.{AgreeOnPage, page_of_cell, page_of_node, page_of_session}
 use Rattle.im_memory.specs.State.{MemoryState}
-use Rattle.im_memory.specs.Touched.{Places, Touched, at_kind, elements_in, touched, ChangesOnly}
+use Rattle.im_memory.specs.Touched.{at_kind, ChangesOnly, elements_in, Places, Touched, touched}
 
 -- the page of each of these is in the set
 abbrev pub AreIn : (ℕ → ℕ) → List Bool → List ℕ → Type 0

@@ -1,12 +1,8 @@
 -- The invariant of a table, an arena and windows that make a memory. (Own.)
-use Rattle.std.specs.Prelude.{◌≡◌, ◌*◌, ◌≤◌, List, Option, length}
-use Rattle.im_types.specs.declared.TheConstants.{WINDOW, MAX_CELLS, MAX_ELEMENTS}
-use Rattle.im_types.specs.Contents.{Window, Contents}
-use Rattle.im_types.specs.Memory.{IsMemory}
-use Rattle.im_cell.specs.declared.slots.Slot.{Slot}
-use Rattle.im_arena.specs.Lists.{Shown}
-use Rattle.im_istore.specs.Joined.{cells_of}
-use Rattle.im_istore.specs.Agreement.{Agree}
+use Rattle.std.specs.Prelude.{◌≡◌, ◌*◌, ◌≤◌, List, length, Option}
+use Rattle.im_types.specs.Types.{MAX_CELLS, MAX_ELEMENTS, WINDOW, Window, Contents, IsMemory}
+use Rattle.{im_arena.specs.Lists.Shown, im_cell.specs.declared.Slot.Slot}
+use Rattle.im_istore.specs.{Agreement.Agree, Joined.cells_of}
 
 -- the memory that a table, an arena and windows stand for
 abbrev pub contents_of : List (Option Slot) → Shown → List Window → Contents

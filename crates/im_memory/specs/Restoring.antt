@@ -1,13 +1,7 @@
 -- A memory that is put together from its records. (Own.)
-use Rattle.std.specs.Prelude.{ℕ, ◌≡◌, ◌*◌, ◌≤◌, List, length}
-use Rattle.im_types.specs.declared.TheConstants.{WINDOW, MAX_CELLS, MAX_ELEMENTS}
-use Rattle.im_types.specs.declared.operations.Waiter.{Waiter}
-use Rattle.im_types.specs.declared.records.CellRecord.{CellRecord}
-use Rattle.im_types.specs.declared.records.NodeRecord.{NodeRecord}
-use Rattle.im_types.specs.Chains.{ShowLists}
-use Rattle.im_types.specs.Contents.{Window, Contents}
-use Rattle.im_types.specs.Memory.{IsMemory}
-use Rattle.im_types.specs.Pages.{cells_shown}
+use Rattle.std.specs.Prelude.{◌≡◌, ℕ, ◌*◌, ◌≤◌, List, length}
+use Rattle.im_types.specs.Types.{Waiter, MAX_CELLS, MAX_ELEMENTS, WINDOW, Window, Contents, IsMemory, CellRecord}
+use Rattle.im_types.specs.Types.{NodeRecord, ShowLists, cells_shown}
 use Rattle.im_arena.specs.Lists.{Shown}
 
 -- the records of the cells, the requests that wait at each of them, and the windows

@@ -1,21 +1,11 @@
 -- The effect of an operation on a table of cells and an arena, while the requests that it resumes are still to be
 -- answered. (Own.)
-use Rattle.std.specs.Prelude.{◌≡◌, ◌<◌, List, [], ◌∷◌, length, Option, Ok}
-use Rattle.im_types.specs.declared.operations.Waiter.{Waiter}
-use Rattle.im_types.specs.declared.operations.Reply.{Reply}
-use Rattle.im_types.specs.declared.operations.Reply.TheVariants.{Value}
-use Rattle.im_types.specs.declared.operations.Entry.TheVariants.{Waiting, Answered}
-use Rattle.im_types.specs.Contents.{Window}
-use Rattle.im_types.specs.Window.{ask, answer}
-use Rattle.im_types.specs.Act.{Acted as ActedCells}
-use Rattle.im_cell.specs.declared.slots.Slot.{Slot}
-use Rattle.im_arena.specs.Lists.{Shown, list_at}
-use Rattle.im_istore.specs.Joined.{cells_of}
-use Rattle.im_istore.specs.Agreement.{Agree, AgreeBut}
-use Rattle.im_istore.specs.Access.{replies_to}
-use Rattle.im_memory.specs.declared.acts.Resumed.{Resumed}
-use Rattle.im_memory.specs.declared.acts.Resumed.TheVariants.{Nobody, Taker, Readers}
+use Rattle.std.specs.Prelude.{◌≡◌, ◌<◌, List, [], ◌∷◌, length, Ok, Option}
+use Rattle.im_types.specs.Types.{Reply, Waiter, Waiting, Answered, Value, Window, Acted as ActedCells, answer, ask}
+use Rattle.{im_arena.specs.Lists.list_at, im_arena.specs.Lists.Shown, im_cell.specs.declared.Slot.Slot}
+use Rattle.im_istore.specs.{Access.replies_to, Agreement.Agree, Agreement.AgreeBut, Joined.cells_of}
 use Rattle.im_memory.specs.declared.acts.Acted.{Acted}
+use Rattle.im_memory.specs.declared.acts.Resumed.{Resumed, TheVariants.Nobody, TheVariants.Readers, TheVariants.Taker}
 
 -- the effect of an operation that is answered at once, and answers no waiting request
 abbrev pub telling : Reply → Acted

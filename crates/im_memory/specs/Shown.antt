@@ -1,18 +1,10 @@
 -- A memory as records, which the pages of an image spell. (Own.)
-use Rattle.std.specs.Prelude.{ℕ, ◌<◌, List, [], ◌∷◌, Option, None, Some}
-use Rattle.im_types.specs.declared.TheConstants.{NONE}
-use Rattle.im_types.specs.declared.records.PresenceTag.{PresenceTag}
-use Rattle.im_types.specs.declared.records.PresenceTag.TheVariants.{Empty as TagEmpty, Waiting as TagWaiting}
-use Rattle.im_types.specs.declared.records.PresenceTag.TheVariants.{Full as TagFull, Clashed as TagClashed}
-use Rattle.im_types.specs.declared.records.CellRecord.{CellRecord}
-use Rattle.im_types.specs.declared.records.CellRecord.TheVariants.{Free as FreeCell, Held as BlockCell}
-use Rattle.im_types.specs.Contents.{Window}
-use Rattle.im_types.specs.Pages.{Records}
-use Rattle.im_types.specs.declared.cells.Cell.{Cell}
-use Rattle.im_types.specs.declared.cells.Cell.TheVariants.{Empty, Waiting, Full, Clashed}
-use Rattle.im_cell.specs.declared.slots.Slot.{Slot}
-use Rattle.im_arena.specs.declared.table.Ends.{Ends}
-use Rattle.im_arena.specs.Lists.{Shown, IsThreaded}
+use Rattle.std.specs.Prelude.{ℕ, ◌<◌, List, [], ◌∷◌, Some, None, Option}
+use Rattle.im_types.specs.Types.{NONE, Window, Cell, CellEmpty as Empty, CellWaiting as Waiting, CellFull as Full}
+use Rattle.im_types.specs.Types.{CellClashed as Clashed, PresenceTag, CellRecord, TagEmpty, TagWaiting, TagFull}
+use Rattle.im_types.specs.Types.{TagClashed, FreeCell, BlockCell, Records}
+use Rattle.im_arena.specs.{declared.Ends.Ends, Lists.IsThreaded, Lists.Shown}
+use Rattle.im_cell.specs.declared.Slot.{Slot}
 use Rattle.im_memory.specs.MakesMemory.{MakesMemory}
 
 -- the tag of a cell whose list has these ends

@@ -1,13 +1,8 @@
 -- A memory as contracts see it. (Own.)
-use Rattle.std.specs.Prelude.{ℕ, ◌*◌, List, [], Option, replicate}
-use Rattle.im_types.specs.declared.TheConstants.{NONE, WINDOW}
-use Rattle.im_types.specs.declared.records.CellRecord.TheVariants.{Free as FreeCell}
-use Rattle.im_types.specs.Contents.{Window, Contents, new_window}
-use Rattle.im_types.specs.Pages.{Records}
-use Rattle.im_cell.specs.declared.slots.Slot.{Slot}
-use Rattle.im_arena.specs.Lists.{Shown, free_record}
-use Rattle.im_memory.specs.MakesMemory.{contents_of}
-use Rattle.im_memory.specs.Shown.{records_of}
+use Rattle.std.specs.Prelude.{ℕ, ◌*◌, List, [], replicate, Option}
+use Rattle.im_types.specs.Types.{WINDOW, NONE, Window, Contents, new_window, FreeCell, Records}
+use Rattle.{im_arena.specs.Lists.free_record, im_arena.specs.Lists.Shown, im_cell.specs.declared.Slot.Slot}
+use Rattle.im_memory.specs.{MakesMemory.contents_of, Shown.records_of}
 
 -- the contents of a memory, the records that show it, and the waiter node that the next waiting request takes (NONE if
 -- no node is free)

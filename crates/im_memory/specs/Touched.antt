@@ -1,29 +1,11 @@
 -- The records that a command may change. (Own.)
-use Rattle.std.specs.Prelude.{◌≡◌, ◌≢◌, ℕ, zero, suc, List, [], ◌∷◌, length, map, Option, None, Some, slice_get}
-use Rattle.std.specs.Prelude.{slice_index_or, if◌then◌else◌}
-use Rattle.im_types.specs.declared.TheConstants.{NONE}
-use Rattle.im_types.specs.declared.operations.Kind.{Kind}
-use Rattle.im_types.specs.declared.operations.Kind.TheVariants.{I, M}
-use Rattle.im_types.specs.declared.operations.Op.{Op}
-use Rattle.im_types.specs.declared.operations.Op.TheVariants.{Alloc, Release, Reset, Fetch, Store, Take, Put}
-use Rattle.im_types.specs.declared.operations.Block.{Block}
-use Rattle.im_types.specs.declared.operations.Waiter.{Waiter}
-use Rattle.im_types.specs.declared.operations.Reply.{Reply}
-use Rattle.im_types.specs.declared.commands.Command.{Command}
-use Rattle.im_types.specs.declared.commands.Command.TheVariants.{Request as Asks, Confirm}
-use Rattle.im_types.specs.declared.records.PresenceTag.{PresenceTag}
-use Rattle.im_types.specs.declared.records.PresenceTag.TheVariants.{Empty as TagEmpty}
-use Rattle.im_types.specs.declared.records.CellRecord.{CellRecord}
-use Rattle.im_types.specs.declared.records.CellRecord.TheVariants.{Free as FreeCell, Held as BlockCell}
-use Rattle.im_types.specs.declared.records.NodeRecord.{NodeRecord}
-use Rattle.im_types.specs.Contents.{CellState, Empty, Full, Clashed, Held, held_at}
-use Rattle.im_types.specs.Place.{place}
-use Rattle.im_types.specs.Act.{same_kind, block_with_base, act}
-use Rattle.im_types.specs.Step.{asker}
-use Rattle.im_types.specs.Pages.{Records}
-use Rattle.im_types.specs.Records.{tag_first, tag_last}
-use Rattle.im_arena.specs.Chain.{along}
-use Rattle.im_arena.specs.Lists.{free_record, link_of}
+use Rattle.std.specs.Prelude.{◌≡◌, ℕ, zero, suc, ◌≢◌, List, [], ◌∷◌, map, length, if◌then◌else◌, slice_get}
+use Rattle.std.specs.Prelude.{slice_index_or, Some, None, Option}
+use Rattle.im_types.specs.Types.{Kind, Op, Reply, Waiter, Block, I, M, Alloc, Release, Reset, Fetch, Store, Take, Put}
+use Rattle.im_types.specs.Types.{Command, Asks, Confirm, NONE, CellState, Empty, Full, Clashed, Held, held_at, place}
+use Rattle.im_types.specs.Types.{same_kind, block_with_base, act, asker, PresenceTag, CellRecord, NodeRecord, TagEmpty}
+use Rattle.im_types.specs.Types.{FreeCell, BlockCell, tag_first, tag_last, Records}
+use Rattle.im_arena.specs.{Chain.along, Lists.free_record, Lists.link_of}
 use Rattle.im_memory.specs.State.{MemoryState}
 
 -- the tag of a cell's record; a free cell's is Empty

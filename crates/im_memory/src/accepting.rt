@@ -1,7 +1,7 @@
 //! Commands that were judged before they act.
 ghost use Rattle.std.specs.Prelude.{◌≡◌, true, Ok};
-ghost use Rattle.im_types.specs.Step.{step, is_accepted};
-ghost use Rattle.im_memory.specs.Touched.{touched, ChangesOnly};
+ghost use Rattle.im_types.specs.Types.{step, is_accepted};
+ghost use Rattle.im_memory.specs.Touched.{ChangesOnly, touched};
 
 use crate::memory::Memory;
 use crate::serving::serve_apart;

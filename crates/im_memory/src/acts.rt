@@ -1,20 +1,12 @@
 //! The effect of an operation on the cells, and the requests that it answers.
-ghost use Rattle.std.specs.Prelude.{◌≡◌, ◌<◌, false, List, Option, length, Ok};
-ghost use Rattle.im_types.specs.declared.operations.Kind.TheVariants.{I, M};
-ghost use Rattle.im_types.specs.Act.{act, allocate, at_cell, block_with_base, put, release_block, reset_block, store};
-ghost use Rattle.im_types.specs.Contents.{held_at};
-ghost use Rattle.im_types.specs.declared.commands.Judged.TheVariants.{Fresh};
-ghost use Rattle.im_types.specs.declared.operations.Entry.TheVariants.{Answered};
-ghost use Rattle.im_types.specs.Window.{judge, note, answer_each};
-ghost use Rattle.im_laws.specs.Blocks.{TellsOnly};
-ghost use Rattle.im_cell.specs.declared.slots.Slot.{Slot};
-ghost use Rattle.im_cell.specs.Slots.{is_releasable};
-ghost use Rattle.im_arena.specs.Lists.{list_at, free};
-ghost use Rattle.im_istore.specs.Joined.{cells_of};
-ghost use Rattle.im_istore.specs.Agreement.{Agree, AgreeBut};
-ghost use Rattle.im_istore.specs.Access.{replies_to};
-ghost use Rattle.im_memory.specs.Changing.{places_in, ChangesAt, AreAmong, IsDrained, LeavesOthers};
-ghost use Rattle.im_memory.specs.Resuming.{telling, replies_of, AreListed, AgreeFor, AreAwaited, HasActed};
+ghost use Rattle.std.specs.Prelude.{◌≡◌, ◌<◌, false, List, length, Ok, Option};
+ghost use Rattle.im_types.specs.Types.{Answered, I, M, Fresh, held_at, store, put, at_cell, allocate, block_with_base};
+ghost use Rattle.im_types.specs.Types.{release_block, reset_block, act, judge, note, answer_each};
+ghost use Rattle.{im_laws.specs.Blocks.TellsOnly, im_arena.specs.Lists.free, im_arena.specs.Lists.list_at};
+ghost use Rattle.im_cell.specs.{declared.Slot.Slot, Slots.is_releasable};
+ghost use Rattle.im_istore.specs.{Access.replies_to, Agreement.Agree, Agreement.AgreeBut, Joined.cells_of};
+ghost use Rattle.im_memory.specs.Changing.{AreAmong, ChangesAt, IsDrained, LeavesOthers, places_in};
+ghost use Rattle.im_memory.specs.Resuming.{AgreeFor, AreAwaited, AreListed, HasActed, replies_of, telling};
 
 use im_arena::Arena;
 use im_cell::CellTable;

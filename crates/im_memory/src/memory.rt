@@ -2,21 +2,11 @@
 //!
 //! A struct that a call returns through memory costs its caller some 25 instructions, and so at each level that hands
 //! it on. So a step is inlined into its caller; a confirmation, which is rarer, isn't.
-ghost use Rattle.std.specs.Prelude.{◌≡◌, ◌*◌, ◌≤◌, List, [], ◌∷◌, ◌++◌, length};
-ghost use Rattle.std.specs.Prelude.{IfOk, IfErr, OnErr, false, slice_get};
-ghost use Rattle.im_types.specs.declared.commands.Command.{Command};
-ghost use Rattle.im_types.specs.Contents.{empty_contents, held_at, block_at, waiters_at, kept_for};
-ghost use Rattle.im_types.specs.Window.{ask, bounds};
-ghost use Rattle.im_types.specs.Step.{step, is_accepted, acceptance};
-ghost use Rattle.im_types.specs.Run.{after};
-ghost use Rattle.im_types.specs.Agreement.{KeepsEntries};
-ghost use Rattle.im_types.specs.Memory.{IsMemory};
-ghost use Rattle.im_types.specs.History.{ValueLaw, MatchingLaw};
-ghost use Rattle.im_types.specs.Layout.{Sizes};
-ghost use Rattle.im_types.specs.Pages.{ShowsRecords};
-ghost use Rattle.im_types.specs.Presences.{presence_in};
-ghost use Rattle.im_memory.specs.State.{empty_records};
-ghost use Rattle.im_memory.specs.Touched.{touched, ChangesOnly};
+ghost use Rattle.std.specs.Prelude.{◌≡◌, ◌*◌, ◌≤◌, false, List, [], ◌∷◌, ◌++◌, length, IfOk, IfErr, OnErr, slice_get};
+ghost use Rattle.im_types.specs.Types.{Command, held_at, waiters_at, kept_for, block_at, empty_contents, presence_in};
+ghost use Rattle.im_types.specs.Types.{IsMemory, KeepsEntries, ask, bounds, step, is_accepted, acceptance, after};
+ghost use Rattle.im_types.specs.Types.{ValueLaw, MatchingLaw, Sizes, ShowsRecords};
+ghost use Rattle.im_memory.specs.{State.empty_records, Touched.ChangesOnly, Touched.touched};
 
 use crate::records::{MemoryRecords, are_threaded};
 use crate::serving::serve;
@@ -54,7 +44,7 @@ impl Drop for Memory {
 }
 
 impl Model for Memory {
-    ghost use Rattle.im_memory.specs.State.{MemoryState, memory_state};
+    ghost use Rattle.im_memory.specs.State.{memory_state, MemoryState};
 
     ghost Value = { MemoryState };
 

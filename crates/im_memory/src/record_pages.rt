@@ -1,11 +1,11 @@
 //! The pages of single records. Each function puts pages into a set, and takes none out of it.
-ghost use Rattle.std.specs.Prelude.{◌≡◌, ◌+◌, ◌*◌, ◌<◌, ◌≤◌, length, map, true};
-ghost use Rattle.im_types.specs.declared.operations.Waiter.{Waiter as Asker};
-ghost use Rattle.im_arena.specs.Lists.{list_at, ends_at, first_in, last_in, IsThreaded};
-ghost use Rattle.im_pages.specs.Places as pages_of;
-ghost use Rattle.im_pages.specs.PageSets.{has, with_page, size_of, IsWithin};
+ghost use Rattle.std.specs.Prelude.{◌≡◌, ◌+◌, ◌*◌, ◌<◌, ◌≤◌, true, map, length};
+ghost use Rattle.im_types.specs.Types.{Waiter as Asker};
+ghost use Rattle.im_pages.specs.PageSets.{has, IsWithin, size_of, with_page};
+ghost use Rattle.im_arena.specs.Lists.{ends_at, first_in, IsThreaded, last_in, list_at};
+ghost use Rattle.im_memory.specs.Covering.{AreIn, block_pages, HasFirst, with_cells};
 ghost use Rattle.im_memory.specs.Touched.{addresses, next_at, nodes_from};
-ghost use Rattle.im_memory.specs.Covering.{AreIn, HasFirst, block_pages, with_cells};
+ghost use Rattle.im_pages.specs.Places as pages_of;
 
 use im_arena::Arena;
 use im_pages::{PageSet, page_of_cell, page_of_node, page_of_session};

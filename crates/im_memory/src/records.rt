@@ -1,17 +1,10 @@
 //! A memory as records, which the pages of an image spell.
-ghost use Rattle.std.specs.Prelude.{◌≡◌, ◌<◌, ◌^◌, ℕ, length, slice_get, slice_index_or, Some, None};
-ghost use Rattle.im_types.specs.declared.records.CellRecord.TheVariants.{Free as FreeCell};
-ghost use Rattle.im_types.specs.declared.records.NodeRecord.TheVariants.{Free as FreeNode};
-ghost use Rattle.im_types.specs.Contents.{Window, kept_for};
-ghost use Rattle.im_types.specs.Layout.{Sizes};
-ghost use Rattle.im_types.specs.Memory.{IsWindow};
-ghost use Rattle.im_types.specs.Window.{bounds};
-ghost use Rattle.im_types.specs.Pages.{ShowsRecords};
-ghost use Rattle.im_types.specs.Records.{FitsTag, FitsCell, FitsNode};
-ghost use Rattle.im_arena.specs.Lists.{IsThreaded, ends_at};
-ghost use Rattle.im_cell.specs.Slots.{HoldsBlocks};
+ghost use Rattle.std.specs.Prelude.{◌≡◌, ℕ, ◌^◌, ◌<◌, length, slice_get, slice_index_or, Some, None};
+ghost use Rattle.im_types.specs.Types.{Window, kept_for, IsWindow, bounds, Sizes, FreeCell, FreeNode, FitsTag};
+ghost use Rattle.im_types.specs.Types.{FitsCell, FitsNode, ShowsRecords};
+ghost use Rattle.{im_arena.specs.Lists.ends_at, im_arena.specs.Lists.IsThreaded, im_cell.specs.Slots.HoldsBlocks};
 ghost use Rattle.im_memory.specs.MakesMemory.{contents_of, MakesMemory};
-ghost use Rattle.im_memory.specs.Shown.{tag_shown, records_of, AreWithin};
+ghost use Rattle.im_memory.specs.Shown.{AreWithin, records_of, tag_shown};
 
 use im_arena::{Arena, Ends};
 use im_cell::CellTable;
@@ -29,8 +22,8 @@ pub struct MemoryRecords<'a> {
 }
 
 impl<'a> Model for MemoryRecords<'a> {
-    ghost use Rattle.im_types.specs.Pages.{Records};
-    ghost use Rattle.im_memory.specs.Shown.{records_of, IsShownMemory};
+    ghost use Rattle.im_types.specs.Types.{Records};
+    ghost use Rattle.im_memory.specs.Shown.{IsShownMemory, records_of};
 
     ghost Value = { Records };
 

@@ -1,12 +1,9 @@
 //! A memory that is made from the pages of an image.
-ghost use Rattle.std.specs.Prelude.{◌≡◌, ◌+◌, ◌*◌, ◌<◌, ◌≤◌, [], length, replicate, slice_index_or, slice_set, IfOk};
-ghost use Rattle.std.specs.Prelude.{IfErr};
-ghost use Rattle.std.specs.List.{sum_by};
-ghost use Rattle.im_types.specs.declared.TheConstants.{WINDOW};
-ghost use Rattle.im_types.specs.Contents.{new_window};
-ghost use Rattle.im_types.specs.Memory.{IsWindow};
+ghost use Rattle.std.specs.Prelude.{◌≡◌, ◌+◌, ◌*◌, ◌<◌, ◌≤◌, [], length, replicate, IfOk, IfErr, slice_index_or};
+ghost use Rattle.std.specs.Prelude.{slice_set, sum_by};
+ghost use Rattle.im_types.specs.Types.{WINDOW, new_window, IsWindow};
 ghost use Rattle.im_arena.specs.Lists.{list_at, with_list};
-ghost use Rattle.im_memory.specs.Restoring.{contents_shown, AreComplete};
+ghost use Rattle.im_memory.specs.Restoring.{AreComplete, contents_shown};
 
 use crate::memory::Memory;
 use im_arena::Arena;
@@ -38,7 +35,7 @@ impl Drop for Restoring {
 }
 
 impl Model for Restoring {
-    ghost use Rattle.im_memory.specs.Restoring.{Parts, HaveRoom};
+    ghost use Rattle.im_memory.specs.Restoring.{HaveRoom, Parts};
 
     ghost Value = { Parts };
 

@@ -1,14 +1,8 @@
 //! A new request: its operation, its entry, and the requests that it resumes.
 ghost use Rattle.std.specs.Prelude.{◌≡◌, Ok};
-ghost use Rattle.im_types.specs.declared.commands.Judged.TheVariants.{Fresh};
-ghost use Rattle.im_types.specs.declared.commands.Command.{Command};
-ghost use Rattle.im_types.specs.Window.{judge};
-ghost use Rattle.im_types.specs.Step.{serve, asker};
-ghost use Rattle.im_types.specs.Act.{act};
+ghost use Rattle.im_types.specs.Types.{Command, Fresh, act, judge, asker, serve};
 ghost use Rattle.im_memory.specs.MakesMemory.{contents_of, MakesMemory};
-ghost use Rattle.im_memory.specs.Shown.{records_of};
-ghost use Rattle.im_memory.specs.State.{memory_state};
-ghost use Rattle.im_memory.specs.Touched.{touched, ChangesOnly};
+ghost use Rattle.im_memory.specs.{Shown.records_of, State.memory_state, Touched.ChangesOnly, Touched.touched};
 
 use crate::acts::{act, resume};
 use im_arena::Arena;

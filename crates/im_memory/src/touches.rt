@@ -1,26 +1,16 @@
 //! The pages that a command may change: the pages of the records that it touches. Each function puts pages into a set,
 //! and takes none out of it.
-ghost use Rattle.std.specs.Prelude.{◌≡◌, ◌+◌, ◌≤◌, ℕ, length, Err};
-ghost use Rattle.im_types.specs.declared.operations.Waiter.{Waiter as Asker};
-ghost use Rattle.im_types.specs.declared.operations.Kind.TheVariants.{I, M};
-ghost use Rattle.im_types.specs.declared.operations.Reply.{Reply as Told};
-ghost use Rattle.im_types.specs.declared.operations.Reply.TheVariants.{NoCell};
-ghost use Rattle.im_types.specs.declared.operations.Entry.TheVariants.{Answered};
-ghost use Rattle.im_types.specs.Contents.{held_at};
-ghost use Rattle.im_types.specs.Act.{act, at_cell, block_with_base, put, store};
-ghost use Rattle.im_types.specs.Place.{place};
-ghost use Rattle.im_arena.specs.Lists.{IsThreaded};
-ghost use Rattle.im_cell.specs.Slots.{slot_at};
-ghost use Rattle.im_istore.specs.Joined.{cells_of};
-ghost use Rattle.im_istore.specs.Agreement.{Agree};
-ghost use Rattle.im_istore.specs.Access.{access_in};
+ghost use Rattle.std.specs.Prelude.{◌≡◌, ℕ, ◌+◌, ◌≤◌, length, Err};
+ghost use Rattle.im_types.specs.Types.{Reply as Told, Waiter as Asker, Answered, I, M, NoCell, held_at, place, store};
+ghost use Rattle.im_types.specs.Types.{put, at_cell, block_with_base, act};
+ghost use Rattle.im_pages.specs.PageSets.{IsWithin, size_of};
+ghost use Rattle.{im_arena.specs.Lists.IsThreaded, im_cell.specs.Slots.slot_at};
+ghost use Rattle.im_istore.specs.{Access.access_in, Agreement.Agree, Joined.cells_of};
+ghost use Rattle.im_memory.specs.{Changing.places_in, Touched.elements_in, Touched.places_of};
+ghost use Rattle.im_memory.specs.Covering.{AreIn, Covers, Grows, HasBlockMore, HasPlaces, HasTold, IsAlone, IsOfBlock};
+ghost use Rattle.im_memory.specs.Covering.{KeepsOutside, most_by, most_by_block, most_by_new, most_pages, with_block};
+ghost use Rattle.im_memory.specs.Covering.{with_new};
 ghost use Rattle.im_pages.specs.Places as pages_of;
-ghost use Rattle.im_pages.specs.PageSets.{size_of, IsWithin};
-ghost use Rattle.im_memory.specs.Touched.{places_of, elements_in};
-ghost use Rattle.im_memory.specs.Changing.{places_in};
-ghost use Rattle.im_memory.specs.Covering.{AreIn, HasPlaces, HasTold, Grows, Covers, KeepsOutside, IsAlone, IsOfBlock};
-ghost use Rattle.im_memory.specs.Covering.{HasBlockMore, most_by, most_by_block, most_by_new, most_pages};
-ghost use Rattle.im_memory.specs.Covering.{with_block, with_new};
 
 use crate::memory::Memory;
 use crate::record_pages::{

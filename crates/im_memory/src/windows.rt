@@ -1,9 +1,8 @@
 //! Confirmations that are judged before they are done.
 ghost use Rattle.std.specs.Prelude.{◌≡◌, ◌-◌, take, slice_get, slice_index_or, Some};
 ghost use Rattle.std.specs.List.{list_any};
-ghost use Rattle.im_types.specs.Contents.{Window, new_window, kept_for};
-ghost use Rattle.im_types.specs.Window.{is_waiting, confirm_window};
-ghost use Rattle.im_memory.specs.Confirming.{forgets, does_wait};
+ghost use Rattle.im_types.specs.Types.{Window, new_window, kept_for, is_waiting, confirm_window};
+ghost use Rattle.im_memory.specs.Confirming.{does_wait, forgets};
 
 use im_sessions::Sessions;
 use im_types::{Entry, Kept, Refusal};

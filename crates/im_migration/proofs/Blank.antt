@@ -1,11 +1,9 @@
 -- What the calls of a migration leave of a file in which no header is open.
-use Rattle.std.proofs.Common.{◌⊎◌, inl, inr, ⊎_elim, ℕ, ◌+◌, ◌<◌, ◌≤◌, List, length, sym, ◌∙◌, subst, arith}
-use Rattle.im_disk.specs.declared.disk.Disk.{Ghosts}
-use Rattle.im_disk.specs.Moment.{Moment, Left, Torn, MayTick}
+use Rattle.std.proofs.Common.{ℕ, ◌+◌, ◌<◌, ◌≤◌, ◌⊎◌, List, length, sym, ◌∙◌, subst, inl, inr, ⊎_elim, arith}
+use Rattle.im_disk.proofs.SinceLemmas.{leaves_start, leaves_step, leaves_then, left_torn}
+use Rattle.im_disk.specs.{declared.Disk.Ghosts, Moment.Left, Moment.MayTick, Moment.Moment, Moment.Torn}
 use Rattle.im_disk.specs.Since.{Leaves, LeavesOnly, SameBut}
-use Rattle.im_disk.proofs.SinceLemmas.{left_torn, leaves_start, leaves_step, leaves_then}
-use Rattle.im_migration.specs.Migration.{IsBlank}
-use Rattle.im_migration.specs.Laying.{IsBeside, StaysBlank}
+use Rattle.im_migration.specs.{Laying.IsBeside, Laying.StaysBlank, Migration.IsBlank}
 
 -- files that agree but for a range without a gate
 pub beside_blank : (at n : ℕ) (c d : List ℕ) → IsBeside at n → SameBut at n c d → IsBlank c → IsBlank d

@@ -1,16 +1,8 @@
 -- The lists of waiters of records that are cut or lengthened.
-use Rattle.std.proofs.Common.{◌≡◌, ℕ, zero, suc, ◌≤◌, List, [], ◌∷◌, None, get_or, refl, sym, ◌∙◌, ap, arith}
-use Rattle.std.specs.Prelude.{Option}
-use Rattle.im_types.specs.declared.TheConstants.{NONE}
-use Rattle.im_types.specs.declared.operations.Waiter.{Waiter}
-use Rattle.im_types.specs.declared.records.PresenceTag.TheVariants.{Empty as TagEmpty, Waiting as TagWaiting}
-use Rattle.im_types.specs.declared.records.PresenceTag.TheVariants.{Full as TagFull, Clashed as TagClashed}
-use Rattle.im_types.specs.declared.records.CellRecord.{CellRecord}
-use Rattle.im_types.specs.declared.records.CellRecord.TheVariants.{Free as FreeCell, Held as BlockCell}
-use Rattle.im_types.specs.declared.records.NodeRecord.{NodeRecord}
-use Rattle.im_types.specs.Chains.{HaveChains, ShowLists, all_uses, uses}
-use Rattle.im_types.specs.Contents.{Held, held_at, waiters_at}
-use Rattle.im_types.specs.Pages.{cell_shown, cells_shown}
+use Rattle.std.proofs.Common.{◌≡◌, ℕ, zero, suc, ◌≤◌, List, [], ◌∷◌, get_or, None, Option, sym, refl, ap, ◌∙◌, arith}
+use Rattle.im_types.specs.Types.{Waiter, NONE, Held, held_at, waiters_at, CellRecord, NodeRecord, TagEmpty, TagWaiting}
+use Rattle.im_types.specs.Types.{TagFull, TagClashed, FreeCell, BlockCell, HaveChains, uses, all_uses, ShowLists}
+use Rattle.im_types.specs.Types.{cell_shown, cells_shown}
 use Rattle.im_migration.specs.Resizing.{fitted}
 
 -- a cell in no block

@@ -1,9 +1,8 @@
 -- Zeros over a file, piece by piece.
-use Rattle.std.proofs.Common.{◌≡◌, ◌⊎◌, inl, ⊎_elim, ℕ, zero, suc, ◌+◌, ◌-◌, ◌*◌, ◌<◌, ◌≤◌, List, [], ◌∷◌, length}
-use Rattle.std.proofs.Common.{take, replicate, get_or, refl, ◌∙◌, arith}
+use Rattle.std.proofs.Common.{◌≡◌, ℕ, zero, suc, ◌+◌, ◌-◌, ◌*◌, ◌<◌, ◌≤◌, ◌⊎◌, List, [], ◌∷◌, length, get_or, take}
+use Rattle.std.proofs.Common.{replicate, refl, ◌∙◌, inl, ⊎_elim, arith}
 use Rattle.std.proofs.lemmas.Bool.{cases_lt}
-use Rattle.im_disk.specs.Moment.{overlaid}
-use Rattle.im_disk.proofs.OverlayLemmas.{overlaid_inside, overlaid_outside}
+use Rattle.im_disk.{proofs.OverlayLemmas.overlaid_inside, proofs.OverlayLemmas.overlaid_outside, specs.Moment.overlaid}
 use Rattle.im_migration.specs.Laying.{AreCleared}
 
 -- each element is zero

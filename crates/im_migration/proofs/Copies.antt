@@ -1,20 +1,11 @@
 -- What a copy comes to, from what was read of the old file and what was laid down in the new one.
-use Rattle.std.proofs.Common.{◌≡◌, ◌⊎◌, inl, inr, ℕ, List, Ok, Err, IfOk, Result, sym, ◌∙◌, ap, subst}
-use Rattle.im_types.specs.declared.refusals.Refusal.{Refusal}
-use Rattle.im_types.specs.declared.refusals.Refusal.TheVariants.{BadLimits, Device, NoMemory}
-use Rattle.im_types.specs.declared.sizes.Limits.{Limits}
-use Rattle.im_types.specs.Header.{Header, header_of}
-use Rattle.im_types.specs.Layout.{Sizes, layout_in_use, sizes_of}
-use Rattle.im_types.specs.Meaning.{Opens, Reads}
-use Rattle.im_disk.specs.Moment.{Moment}
-use Rattle.im_disk.specs.Since.{Leaves}
-use Rattle.im_disk.proofs.SinceLemmas.{leaves_weaker}
-use Rattle.im_image.specs.declared.reading.ImageParts.{ImageParts}
-use Rattle.im_image.specs.Headers.{seen}
-use Rattle.im_image.specs.Reading.{reached}
-use Rattle.im_migration.specs.declared.asked.Asked.{Asked}
-use Rattle.im_migration.specs.declared.resized.Resized.{Resized}
+use Rattle.std.proofs.Common.{◌≡◌, ℕ, ◌⊎◌, List, IfOk, Ok, Err, Result, sym, ap, ◌∙◌, subst, inl, inr}
+use Rattle.im_types.specs.Types.{Refusal, Device, NoMemory, BadLimits, Limits, layout_in_use, Sizes, sizes_of, Header}
+use Rattle.im_types.specs.Types.{header_of, Reads, Opens}
+use Rattle.im_disk.{proofs.SinceLemmas.leaves_weaker, specs.Moment.Moment, specs.Since.Leaves}
+use Rattle.im_image.specs.{declared.ImageParts.ImageParts, Headers.seen, Reading.reached}
 use Rattle.im_migration.specs.Copying.{BlankOrCopy, IsNoSource, IsRefusedCopy, IsSource, IsWhole, MeansCopy}
+use Rattle.im_migration.specs.declared.{asked.Asked.Asked, resized.Resized.Resized}
 use Rattle.im_migration.specs.Migration.{BlankOrLaid, IsLaidDown, IsNoPlace, moved_header}
 use Rattle.im_migration.specs.Resizing.{HasNoCopy, IsResized, sizes_asked}
 

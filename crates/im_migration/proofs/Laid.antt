@@ -1,18 +1,13 @@
 -- What stands in the first area and in the journal's gates, as they are written.
-use Rattle.std.proofs.Common.{◌≡◌, ◌⊎◌, inl, inr, ⊎_elim, ℕ, ◌+◌, ◌-◌, ◌*◌, ◌<◌, ◌≤◌, List, [], ◌∷◌, length, take}
-use Rattle.std.proofs.Common.{drop, get_or, refl, sym, ◌∙◌, ap, subst, arith, length-take, length-drop, get_or-take}
-use Rattle.std.proofs.Common.{get_or-drop}
+use Rattle.std.proofs.Common.{◌≡◌, ℕ, ◌+◌, ◌-◌, ◌*◌, ◌<◌, ◌≤◌, ◌⊎◌, List, [], ◌∷◌, length, get_or, take, drop, sym}
+use Rattle.std.proofs.Common.{refl, ap, ◌∙◌, subst, inl, inr, ⊎_elim, arith, length-drop, length-take, get_or-drop}
+use Rattle.std.proofs.Common.{get_or-take, ext_get_or}
 use Rattle.std.proofs.lemmas.Bool.{cases_lt}
-use Rattle.std.proofs.lemmas.List.{ext_get_or}
-use Rattle.im_types.specs.Bytes.{open_gate}
-use Rattle.im_types.specs.Layout.{Sizes, layout_in_use, image_length, journal_at, area_pages, record_at, page_bytes}
-use Rattle.im_types.specs.Pages.{Records}
-use Rattle.im_disk.specs.Moment.{overlaid}
-use Rattle.im_disk.specs.Since.{SameBut}
+use Rattle.im_types.specs.Types.{layout_in_use, Sizes, page_bytes, area_pages, journal_at, image_length, record_at}
+use Rattle.im_types.specs.Types.{open_gate, Records}
 use Rattle.im_disk.proofs.OverlayLemmas.{length-overlaid, overlaid_inside, overlaid_outside}
-use Rattle.im_image.specs.Encoding.{IsAreaPage}
-use Rattle.im_records.proofs.Pieces.{record_is}
-use Rattle.im_records.proofs.Places.{here_is}
+use Rattle.{im_disk.specs.Moment.overlaid, im_disk.specs.Since.SameBut, im_image.specs.Encoding.IsAreaPage}
+use Rattle.im_records.proofs.{Pieces.record_is, Places.here_is}
 use Rattle.im_migration.specs.Laying.{IsLaid}
 
 -- a part of so many bytes that was written

@@ -1,47 +1,28 @@
 -- What was laid down is an image once its header's gate is open.
-use Rattle.std.proofs.Common.{◌≡◌, ◌≢◌, ◌⊎◌, inl, inr, ⊎_elim, ℕ, ◌+◌, ◌-◌, ◌*◌, ◌%◌, ◌<◌, ◌≤◌, ◌==◌, ◌&&◌, nat_le}
-use Rattle.std.proofs.Common.{Bool, true, false, List, [], ◌∷◌, length, take, drop, get_or, slice_range, Some, Ok}
-use Rattle.std.proofs.Common.{refl, sym, ◌∙◌, ap, subst, arith, length-drop, get_or-take, get_or-drop, if◌then◌else◌}
-use Rattle.std.proofs.Math.Nat.{mod-lt}
-use Rattle.std.proofs.lemmas.Bool.{cases_lt, cases_eq}
-use Rattle.std.proofs.lemmas.Bool.Decides.{nat_tests}
-use Rattle.std.proofs.lemmas.List.{ext_get_or}
-use Rattle.im_types.specs.declared.TheConstants.{LAST}
-use Rattle.im_types.specs.Bytes.{open_gate}
-use Rattle.im_types.specs.Contents.{Contents}
-use Rattle.im_types.specs.Header.{Header, header_body, header_in, header_place, is_open_header, is_header}
-use Rattle.im_types.specs.Header.{spells_header}
-use Rattle.im_types.specs.Journal.{Ring, run, slot, closed_from, are_stale, commands_in, tail}
-use Rattle.im_types.specs.Layout.{Sizes, layout_in_use, are_sizes, area_bytes, area_of, area_pages, page_bytes}
-use Rattle.im_types.specs.Layout.{record_at, ring_of}
-use Rattle.im_types.specs.Meaning.{Reads}
-use Rattle.im_types.specs.Pages.{Records, Shows, ShowsRecords}
-use Rattle.im_types.specs.Sizes.{AreLimits}
-use Rattle.im_types.specs.Slot.{is_open}
-use Rattle.im_disk.specs.Gate.{IsShut}
-use Rattle.im_disk.specs.Moment.{Moment, overlaid, synced, written}
-use Rattle.im_disk.specs.Since.{SameBut, LeavesNow, LeavesOnly}
-use Rattle.im_disk.specs.Gate.{MayOpen}
-use Rattle.im_disk.proofs.GateLemmas.{body_and_gate}
+use Rattle.std.proofs.Common.{◌≡◌, ℕ, ◌+◌, ◌-◌, ◌*◌, ◌%◌, ◌<◌, ◌≤◌, Bool, true, false, ◌&&◌, ◌≢◌, ◌⊎◌, List, [], ◌∷◌}
+use Rattle.std.proofs.Common.{length, get_or, take, drop, if◌then◌else◌, nat_le, ◌==◌, slice_range, Some, Ok, sym, refl}
+use Rattle.std.proofs.Common.{ap, ◌∙◌, subst, inl, inr, ⊎_elim, arith, length-drop, get_or-drop, get_or-take}
+use Rattle.std.proofs.Common.{ext_get_or}
+use Rattle.std.proofs.{lemmas.Bool.cases_eq, lemmas.Bool.cases_lt, lemmas.Bool.Decides.nat_tests, Math.Nat.mod-lt}
+use Rattle.im_types.specs.Types.{LAST, AreLimits, Contents, layout_in_use, Sizes, are_sizes, page_bytes, area_pages}
+use Rattle.im_types.specs.Types.{area_bytes, ring_of, area_of, record_at, open_gate, Header, header_body, header_in}
+use Rattle.im_types.specs.Types.{is_header, spells_header, header_place, is_open_header, is_open, Ring, run}
+use Rattle.im_types.specs.Types.{commands_in, closed_from, are_stale, slot, tail, Records, ShowsRecords, Shows, Reads}
+use Rattle.im_formats.{proofs.Headers.header_in-spelled, proofs.Headers.spells_header-spelled, specs.Fitting.FitsHeader}
+use Rattle.im_disk.proofs.{GateLemmas.body_and_gate, SinceLemmas.leaves_now_synced, SinceLemmas.leaves_then}
 use Rattle.im_disk.proofs.OverlayLemmas.{length-overlaid, overlaid_inside, overlaid_outside, overlaid_part}
-use Rattle.im_disk.proofs.SinceLemmas.{leaves_then, leaves_now_synced}
-use Rattle.im_formats.specs.Fitting.{FitsHeader}
-use Rattle.im_formats.proofs.Headers.{header_in-spelled, spells_header-spelled}
-use Rattle.im_journal.specs.Holding.{AreClosed}
-use Rattle.im_journal.proofs.Rings.{other_number}
-use Rattle.im_journal.proofs.Runs.{all_closed, stops}
-use Rattle.im_journal.proofs.Slots.{closed_gate, stops_closed}
-use Rattle.im_journal.proofs.Tails.{tail_of}
-use Rattle.im_image.specs.Encoding.{AreCounted, IsAreaPage}
-use Rattle.im_image.proofs.Encoding.{area-shows}
-use Rattle.im_image.proofs.FreshImage.{sizes_are}
-use Rattle.im_records.proofs.Joining.{page_of_take, page_of_drop, length_of_take}
+use Rattle.im_disk.specs.{Gate.IsShut, Gate.MayOpen, Since.LeavesNow, Since.LeavesOnly, Since.SameBut}
+use Rattle.im_disk.specs.Moment.{Moment, overlaid, synced, written}
+use Rattle.im_journal.proofs.{Rings.other_number, Runs.all_closed, Runs.stops, Tails.tail_of}
+use Rattle.im_journal.{proofs.Slots.closed_gate, proofs.Slots.stops_closed, specs.Holding.AreClosed}
+use Rattle.im_meaning.proofs.{Headers.in_force_is, Meanings.image_reads}
 use Rattle.im_meaning.specs.Images.{InForce, IsImage}
-use Rattle.im_meaning.proofs.Headers.{in_force_is}
-use Rattle.im_meaning.proofs.Meanings.{image_reads}
-use Rattle.im_migration.specs.Migration.{IsBlank, IsLaidDown, moved_header, whole_room}
+use Rattle.im_records.proofs.Joining.{length_of_take, page_of_drop, page_of_take}
+use Rattle.im_image.proofs.{Encoding.area-shows, FreshImage.sizes_are}
+use Rattle.im_image.specs.Encoding.{AreCounted, IsAreaPage}
+use Rattle.im_migration.proofs.Laid.{but_part, journal_is, laid_stays, length_is}
 use Rattle.im_migration.specs.Laying.{IsLaid}
-use Rattle.im_migration.proofs.Laid.{but_part, journal_is, length_is, laid_stays}
+use Rattle.im_migration.specs.Migration.{IsBlank, IsLaidDown, moved_header, whole_room}
 
 -- a journal all of whose gates are closed has no command, whatever the first one's number would be
 module _ (r : Ring) (first : ℕ) (file : List ℕ) (some : 0 < r.slots) (closed : AreClosed r file) where

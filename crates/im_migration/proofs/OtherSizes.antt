@@ -1,35 +1,18 @@
 -- A memory with other numbers of cells and elements is a memory, and is shown by its cells and lists, cut or
 -- lengthened.
-use Rattle.std.proofs.Common.{◌≡◌, ⊎_elim, ℕ, zero, suc, ◌+◌, ◌-◌, ◌*◌, ◌<◌, ◌≤◌, Bool, true, false, List, [], ◌∷◌}
-use Rattle.std.proofs.Common.{Some, None, length, get_or, replicate, refl, sym, ◌∙◌, ap, subst, arith, slice_get}
-use Rattle.std.proofs.Common.{nat_lt}
-use Rattle.std.proofs.Common.{if◌then◌else◌, option_map, Ok, Err}
-use Rattle.std.specs.Prelude.{Option}
-use Rattle.std.specs.Option.{option_and_then}
-use Rattle.std.specs.List.{sum_by}
-use Rattle.std.proofs.lemmas.Bool.{cases_lt}
-use Rattle.std.proofs.lemmas.List.{ext_get_or, get_or-map, get_or_past, length-map, length-replicate}
-use Rattle.std.proofs.lemmas.List.{nil_from_length}
-use Rattle.std.proofs.lemmas.List.Sums.{sum_by-cons}
-use Rattle.std.proofs.lemmas.Option.{get_or_from_slice_get}
-use Rattle.im_types.specs.declared.TheConstants.{WINDOW}
-use Rattle.im_types.specs.declared.operations.Block.{Block}
-use Rattle.im_types.specs.declared.operations.Kept.{Kept}
-use Rattle.im_types.specs.declared.operations.Waiter.{Waiter}
-use Rattle.im_types.specs.Agreement.{times, waits_in, address_of}
-use Rattle.im_types.specs.Chains.{ShowLists}
-use Rattle.im_types.specs.Contents.{Held, Window, Contents, block_at, held_at, kept_for, kept_under}
-use Rattle.im_types.specs.Contents.{new_window, waiters_at, waiters_in}
-use Rattle.im_types.specs.Layout.{Sizes}
-use Rattle.im_types.specs.Memory.{IsMemory, IsWindow}
-use Rattle.im_types.specs.Pages.{Records, ShowsRecords, cells_shown}
-use Rattle.im_types.specs.declared.refusals.Refusal.{Refusal}
-use Rattle.im_types.specs.Window.{bounds}
+use Rattle.std.proofs.Common.{◌≡◌, ℕ, zero, suc, ◌+◌, ◌-◌, ◌*◌, ◌<◌, ◌≤◌, Bool, true, false, List, [], ◌∷◌, length}
+use Rattle.std.proofs.Common.{get_or, replicate, if◌then◌else◌, nat_lt, slice_get, Some, None, Ok, Err, sum_by, Option}
+use Rattle.std.proofs.Common.{option_map, option_and_then, sym, refl, ap, ◌∙◌, subst, ⊎_elim, arith, ext_get_or}
+use Rattle.std.proofs.lemmas.{Bool.cases_lt, List.Sums.sum_by-cons, Option.get_or_from_slice_get}
+use Rattle.std.proofs.lemmas.List.{get_or-map, get_or_past, length-map, length-replicate, nil_from_length}
+use Rattle.im_types.specs.Types.{Waiter, Block, Kept, Refusal, WINDOW, Held, Window, Contents, new_window, held_at}
+use Rattle.im_types.specs.Types.{waiters_in, waiters_at, kept_under, kept_for, block_at, IsWindow, IsMemory, times}
+use Rattle.im_types.specs.Types.{waits_in, address_of, bounds, Sizes, ShowLists, Records, cells_shown, ShowsRecords}
 use Rattle.im_image.proofs.Encoding.{bounds-none, bounds-some, past-new}
 use Rattle.im_image.proofs.Restored.{ListsPut, records-fit}
-use Rattle.im_migration.specs.Resizing.{FitsSizes, IsResized, fitted, lists_of, window_at}
 use Rattle.im_migration.proofs.Chained.{free_cell, list-is, lists-fitted, nobody, shown-fitted}
 use Rattle.im_migration.proofs.Fitted.{fitted-at, fitted-below, length-fitted}
+use Rattle.im_migration.specs.Resizing.{FitsSizes, fitted, IsResized, lists_of, window_at}
 
 abbrev pub no_cell : Option Held
 no_cell = None

@@ -1,17 +1,9 @@
 -- What a migration comes to, from what was read of the old file and what was laid down in the new one.
-use Rattle.std.proofs.Common.{◌≡◌, ◌⊎◌, inl, inr, ℕ, List, Ok, Err, ◌∙◌, ap, subst}
-use Rattle.im_types.specs.declared.refusals.Refusal.{Refusal}
-use Rattle.im_types.specs.declared.refusals.Refusal.TheVariants.{Device, NoMemory}
-use Rattle.im_types.specs.Header.{Header, header_of}
-use Rattle.im_types.specs.Layout.{Sizes, layout_1, sizes_of}
-use Rattle.im_types.specs.Meaning.{Reads}
-use Rattle.im_disk.specs.Moment.{Moment}
-use Rattle.im_disk.specs.Since.{Leaves}
-use Rattle.im_disk.proofs.SinceLemmas.{leaves_weaker}
-use Rattle.im_image.specs.declared.reading.ImageParts.{ImageParts}
-use Rattle.im_image.specs.Headers.{seen}
-use Rattle.im_image.specs.Reading.{reached}
-use Rattle.im_migration.specs.Migration.{BlankOrLaid, BlankOrSame, HasCount, IsLaidDown, IsNoPlace, IsMigrationFault}
+use Rattle.std.proofs.Common.{◌≡◌, ℕ, ◌⊎◌, List, Ok, Err, ap, ◌∙◌, subst, inl, inr}
+use Rattle.im_types.specs.Types.{Refusal, Device, NoMemory, layout_1, Sizes, sizes_of, Header, header_of, Reads}
+use Rattle.im_disk.{proofs.SinceLemmas.leaves_weaker, specs.Moment.Moment, specs.Since.Leaves}
+use Rattle.im_image.specs.{declared.ImageParts.ImageParts, Headers.seen, Reading.reached}
+use Rattle.im_migration.specs.Migration.{BlankOrLaid, BlankOrSame, HasCount, IsLaidDown, IsMigrationFault, IsNoPlace}
 use Rattle.im_migration.specs.Migration.{MeansSame, moved_header}
 
 module _ (i : ImageParts) (old : List ℕ) (H : Type 0) (means : H → Reads layout_1 old (Ok (reached i)))

@@ -1,18 +1,10 @@
 -- What a copy leaves of the new file, and why it can be refused. (Own.)
-use Rattle.std.specs.Prelude.{◌≡◌, ◌⊎◌, ◌≤◌, List, ℕ, Ok, Err}
-use Rattle.im_types.specs.declared.TheConstants.{LAST}
-use Rattle.im_types.specs.declared.refusals.Refusal.{Refusal}
-use Rattle.im_types.specs.declared.refusals.Refusal.TheVariants.{BadLimits, Device, NoMemory, NotBlank}
-use Rattle.im_types.specs.Contents.{Contents}
-use Rattle.im_types.specs.Header.{header_of}
-use Rattle.im_types.specs.Layout.{layout_in_use, image_length, sizes_of}
-use Rattle.im_types.specs.Meaning.{Reached, Opens, Reads}
-use Rattle.im_disk.specs.declared.disk.Disk.{Ghosts}
-use Rattle.im_disk.specs.Since.{LeavesNow, LeavesWithin}
-use Rattle.im_image.specs.Headers.{seen, MayRefuseOpening}
-use Rattle.im_image.specs.Reading.{HasSizes}
-use Rattle.im_migration.specs.declared.asked.Asked.{Asked}
-use Rattle.im_migration.specs.declared.resized.Resized.{Resized}
+use Rattle.std.specs.Prelude.{◌≡◌, ℕ, ◌≤◌, ◌⊎◌, List, Ok, Err}
+use Rattle.im_types.specs.Types.{Refusal, Device, NoMemory, BadLimits, NotBlank, LAST, Contents, layout_in_use}
+use Rattle.im_types.specs.Types.{sizes_of, image_length, header_of, Reached, Reads, Opens}
+use Rattle.im_disk.specs.{declared.Disk.Ghosts, Since.LeavesNow, Since.LeavesWithin}
+use Rattle.im_image.specs.{Headers.MayRefuseOpening, Headers.seen, Reading.HasSizes}
+use Rattle.im_migration.specs.declared.{asked.Asked.Asked, resized.Resized.Resized}
 use Rattle.im_migration.specs.Migration.{IsBlank, IsLaidDown, IsNoPlace, moved_header}
 use Rattle.im_migration.specs.Resizing.{HasNoCopy, IsResized, sizes_asked}
 

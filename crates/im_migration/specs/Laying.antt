@@ -1,10 +1,8 @@
 -- A new image while it is laid down behind the closed gate of its header. (Own.)
-use Rattle.std.specs.Prelude.{◌≡◌, ◌≢◌, ◌⊎◌, ℕ, ◌+◌, ◌*◌, ◌<◌, ◌≤◌, List, length, slice_index}
-use Rattle.im_types.specs.Bytes.{open_gate}
-use Rattle.im_types.specs.Layout.{Sizes, layout_in_use, image_length, area_pages, journal_at, record_at, page_bytes}
-use Rattle.im_types.specs.Pages.{Records}
-use Rattle.im_disk.specs.declared.disk.Disk.{Ghosts}
-use Rattle.im_disk.specs.Since.{LeavesNow, LeavesOnly}
+use Rattle.std.specs.Prelude.{◌≡◌, ℕ, ◌+◌, ◌*◌, ◌<◌, ◌≤◌, ◌≢◌, ◌⊎◌, List, length, slice_index}
+use Rattle.im_types.specs.Types.{layout_in_use, Sizes, page_bytes, area_pages, journal_at, image_length, record_at}
+use Rattle.im_types.specs.Types.{open_gate, Records}
+use Rattle.im_disk.specs.{declared.Disk.Ghosts, Since.LeavesNow, Since.LeavesOnly}
 use Rattle.im_image.specs.Encoding.{IsAreaPage}
 use Rattle.im_migration.specs.Migration.{IsBlank}
 

@@ -1,9 +1,6 @@
 -- The same memory with other numbers of cells and elements. (Own.)
-use Rattle.std.specs.Prelude.{◌≡◌, ℕ, zero, suc, ◌≤◌, List, [], ◌∷◌, map, Option, None, slice_index_or, unwrap_or}
-use Rattle.im_types.specs.declared.operations.Waiter.{Waiter}
-use Rattle.im_types.specs.Contents.{Held, Window, Contents, held_at, new_window, waiters_in}
-use Rattle.im_types.specs.Layout.{Sizes}
-use Rattle.im_types.specs.Sizes.{AreLimits}
+use Rattle.std.specs.Prelude.{◌≡◌, ℕ, zero, suc, ◌≤◌, List, [], ◌∷◌, map, slice_index_or, None, Option, unwrap_or}
+use Rattle.im_types.specs.Types.{Waiter, AreLimits, Held, Window, Contents, new_window, held_at, waiters_in, Sizes}
 use Rattle.im_image.specs.Reading.{HasSizes}
 use Rattle.im_migration.specs.declared.asked.Asked.{Asked}
 

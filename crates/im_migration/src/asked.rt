@@ -1,7 +1,6 @@
 //! The sizes that a copy is asked to have.
 ghost use Rattle.std.specs.Prelude.{◌≡◌, IfSome, IfNone, unwrap_or};
-ghost use Rattle.im_types.specs.Layout.{sizes_of};
-ghost use Rattle.im_types.specs.Sizes.{AreLimits};
+ghost use Rattle.im_types.specs.Types.{AreLimits, sizes_of};
 
 use im_types::Limits;
 

@@ -1,12 +1,11 @@
 //! Copies an image to a new file, in other sizes if they are asked for.
 ghost use Rattle.std.specs.Prelude.{◌≡◌, IfOk, IfErr, MatchResult};
-ghost use Rattle.im_types.specs.declared.refusals.Refusal.TheVariants.{BadLimits, NoMemory};
-ghost use Rattle.im_types.specs.Layout.{layout_in_use, sizes_of};
+ghost use Rattle.im_types.specs.Types.{NoMemory, BadLimits, layout_in_use, sizes_of};
 ghost use Rattle.im_disk.specs.Runs.{ReadsAlone, ReadsOrRefuses};
-ghost use Rattle.im_migration.specs.Migration.{FaultsOfTwo, HasCountIn, UnwrittenOrDevice};
-ghost use Rattle.im_migration.specs.Resizing.{FitsSizes, HasNoCopy, IsResized, sizes_asked};
 ghost use Rattle.im_migration.specs.Copying.{CopyFails, IsLengthFor, IsWhole, LeavesBlankOrCopy, LeavesCopy};
 ghost use Rattle.im_migration.specs.Copying.{MayBeSource, MayRefuseCopy, MayRefuseSource, SourceFails};
+ghost use Rattle.im_migration.specs.Migration.{FaultsOfTwo, HasCountIn, UnwrittenOrDevice};
+ghost use Rattle.im_migration.specs.Resizing.{FitsSizes, HasNoCopy, IsResized, sizes_asked};
 
 use crate::asked::Asked;
 use crate::news::MoveNews;

@@ -1,16 +1,11 @@
 //! Lays a memory down as a new image: first what stands behind the closed gate of its header, and then the gate.
-ghost use Rattle.std.specs.Prelude.{◌≡◌, ◌⊎◌, ◌+◌, ◌*◌, ◌<◌, ◌≤◌, ℕ, length, OnOk};
-ghost use Rattle.im_types.specs.declared.TheConstants.{LAST};
-ghost use Rattle.im_types.specs.Header.{header_body};
-ghost use Rattle.im_types.specs.Layout as layout;
-ghost use Rattle.im_types.specs.Layout.{layout_in_use, sizes_of};
-ghost use Rattle.im_disk.specs.Moment.{overlaid};
-ghost use Rattle.im_disk.specs.Since.{LeavesNow};
-ghost use Rattle.im_disk.specs.Runs.{Obeys};
-ghost use Rattle.im_image.specs.Headers.{seen};
-ghost use Rattle.im_image.specs.Reading.{HasSizes};
-ghost use Rattle.im_migration.specs.Migration.{IsBlank, IsLaidDown, LeavesOnlyBlankOrLaid, moved_header};
+ghost use Rattle.std.specs.Prelude.{◌≡◌, ℕ, ◌+◌, ◌*◌, ◌<◌, ◌≤◌, ◌⊎◌, length, OnOk};
+ghost use Rattle.im_types.specs.Types.{LAST, layout_in_use, sizes_of, header_body};
+ghost use Rattle.im_disk.specs.{Moment.overlaid, Runs.Obeys, Since.LeavesNow};
+ghost use Rattle.im_image.specs.{Headers.seen, Reading.HasSizes};
 ghost use Rattle.im_migration.specs.Laying.{AreCleared, ClosesSlots, IsBeside, IsCleared, IsLaid, StaysBlank};
+ghost use Rattle.im_migration.specs.Migration.{IsBlank, IsLaidDown, LeavesOnlyBlankOrLaid, moved_header};
+ghost use Rattle.im_types.specs.Layout as layout;
 
 use crate::news::MoveNews;
 use im_disk::{DeviceFault, Disk, open_gate};

@@ -1,15 +1,11 @@
 //! The migration of an image.
-ghost use Rattle.std.specs.Prelude.{◌≡◌, ◌⊎◌, Err, IfOk, IfErr, MatchResult};
-ghost use Rattle.im_types.specs.declared.refusals.Refusal.TheVariants.{Device, NoMemory};
-ghost use Rattle.im_types.specs.Header.{header_of};
+ghost use Rattle.std.specs.Prelude.{◌≡◌, ◌⊎◌, IfOk, IfErr, MatchResult, Err};
+ghost use Rattle.im_types.specs.Types.{Device, NoMemory, layout_1, layout_in_use, sizes_of, header_of, Reads};
+ghost use Rattle.im_disk.specs.{Runs.ReadsAlone, Runs.ReadsOrRefuses, Since.LeavesNow};
+ghost use Rattle.im_image.specs.Headers.{MayRefuseImage, seen};
+ghost use Rattle.im_migration.specs.Migration.{FaultsOfTwo, HasCount, HasPlaceOrReason, LeavesBlankOrSame};
+ghost use Rattle.im_migration.specs.Migration.{MayRefuseMigration, MeansSame, moved_header, UnwrittenOrDevice};
 ghost use Rattle.im_types.specs.Layout as layout;
-ghost use Rattle.im_types.specs.Layout.{layout_1, layout_in_use, sizes_of};
-ghost use Rattle.im_types.specs.Meaning.{Reads};
-ghost use Rattle.im_disk.specs.Runs.{ReadsAlone, ReadsOrRefuses};
-ghost use Rattle.im_disk.specs.Since.{LeavesNow};
-ghost use Rattle.im_image.specs.Headers.{seen, MayRefuseImage};
-ghost use Rattle.im_migration.specs.Migration.{FaultsOfTwo, HasCount, HasPlaceOrReason, LeavesBlankOrSame, MeansSame};
-ghost use Rattle.im_migration.specs.Migration.{MayRefuseMigration, UnwrittenOrDevice, moved_header};
 
 use crate::news::MoveNews;
 use crate::putting::put_image;

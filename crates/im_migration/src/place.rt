@@ -1,9 +1,7 @@
 //! Checks whether a file can become a new image: it has the length, and no header in it is open.
-ghost use Rattle.std.specs.Prelude.{◌≡◌, ◌⊎◌, ◌≤◌, false, true, length, IfOk, IfErr, OnOk};
-ghost use Rattle.im_types.specs.declared.refusals.Refusal.TheVariants.{Device, NotBlank, WrongLength};
-ghost use Rattle.im_types.specs.Layout.{sizes_of};
-ghost use Rattle.im_disk.specs.Moment.{synced};
-ghost use Rattle.im_disk.specs.Runs.{Obeys, ObeysOrRefuses};
+ghost use Rattle.std.specs.Prelude.{◌≡◌, ◌≤◌, true, false, ◌⊎◌, length, IfOk, IfErr, OnOk};
+ghost use Rattle.im_types.specs.Types.{Device, WrongLength, NotBlank, sizes_of};
+ghost use Rattle.im_disk.specs.{Moment.synced, Runs.Obeys, Runs.ObeysOrRefuses};
 ghost use Rattle.im_migration.specs.Migration.{IsBlank, IsNoPlace, IsPlace, LeavesAsAtStart};
 
 use im_disk::{DeviceFault, Disk};

@@ -1,15 +1,11 @@
 //! Prepares a memory for a new image, in other sizes if they are asked for.
-ghost use Rattle.std.specs.Prelude.{◌≡◌, ◌⊎◌, ◌≤◌, ◌<◌, IfOk, IfErr};
-ghost use Rattle.im_types.specs.declared.TheConstants.{LAST};
-ghost use Rattle.im_types.specs.declared.refusals.Refusal.TheVariants.{BadLimits, Device, NoMemory};
-ghost use Rattle.im_types.specs.Layout.{sizes_of};
-ghost use Rattle.im_image.specs.Headers.{seen};
-ghost use Rattle.im_image.specs.Reading.{HasSizes};
-ghost use Rattle.im_disk.specs.Since.{LeavesNow};
-ghost use Rattle.im_migration.specs.Migration.{GivesBackBlankOrLaid, IsLaidDown, IsNoPlace, MayRefusePlace};
-ghost use Rattle.im_migration.specs.Migration.{LeavesLaid, PlaceFails, UnwrittenOrDevice, moved_header};
-ghost use Rattle.im_migration.specs.Resizing.{FitsSizes, HasNoCopy, IsResized, sizes_asked};
+ghost use Rattle.std.specs.Prelude.{◌≡◌, ◌<◌, ◌≤◌, ◌⊎◌, IfOk, IfErr};
+ghost use Rattle.im_types.specs.Types.{Device, NoMemory, BadLimits, LAST, sizes_of};
+ghost use Rattle.{im_disk.specs.Since.LeavesNow, im_image.specs.Headers.seen, im_image.specs.Reading.HasSizes};
 ghost use Rattle.im_migration.specs.Copying.{IsWhole};
+ghost use Rattle.im_migration.specs.Migration.{GivesBackBlankOrLaid, IsLaidDown, IsNoPlace, LeavesLaid, MayRefusePlace};
+ghost use Rattle.im_migration.specs.Migration.{moved_header, PlaceFails, UnwrittenOrDevice};
+ghost use Rattle.im_migration.specs.Resizing.{FitsSizes, HasNoCopy, IsResized, sizes_asked};
 
 use crate::asked::Asked;
 use crate::misfits::Misfit;

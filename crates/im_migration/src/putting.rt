@@ -1,14 +1,10 @@
 //! Puts a memory into a new file that can become its image.
-ghost use Rattle.std.specs.Prelude.{◌≡◌, ◌⊎◌, ◌≤◌, IfErr, OnOk};
-ghost use Rattle.im_types.specs.declared.TheConstants.{LAST};
-ghost use Rattle.im_types.specs.declared.refusals.Refusal.TheVariants.{Device};
-ghost use Rattle.im_types.specs.Layout.{sizes_of};
-ghost use Rattle.im_disk.specs.Since.{LeavesNow};
-ghost use Rattle.im_disk.specs.Runs.{ObeysOrRefuses};
-ghost use Rattle.im_image.specs.Headers.{seen};
-ghost use Rattle.im_image.specs.Reading.{HasSizes};
+ghost use Rattle.std.specs.Prelude.{◌≡◌, ◌≤◌, ◌⊎◌, IfErr, OnOk};
+ghost use Rattle.im_types.specs.Types.{Device, LAST, sizes_of};
+ghost use Rattle.im_disk.specs.{Runs.ObeysOrRefuses, Since.LeavesNow};
+ghost use Rattle.im_image.specs.{Headers.seen, Reading.HasSizes};
 ghost use Rattle.im_migration.specs.Migration.{IsLaidDown, IsNoPlace, IsPlace, LeavesBlankOrLaidSince, MayRefusePlace};
-ghost use Rattle.im_migration.specs.Migration.{UnwrittenOrDevice, moved_header};
+ghost use Rattle.im_migration.specs.Migration.{moved_header, UnwrittenOrDevice};
 
 use crate::laying::lay_down;
 use crate::news::MoveNews;

@@ -1,14 +1,8 @@
 //! Gives a memory other numbers of cells and elements.
-ghost use Rattle.std.specs.Prelude.{◌≡◌, ◌⊎◌, ◌*◌, ◌<◌, ◌≤◌, ◌-◌, ℕ, [], length, replicate, None, true, false, IfOk};
-ghost use Rattle.std.specs.Prelude.{IfErr};
-ghost use Rattle.std.specs.Prelude.{IfSome, IfNone, OnOk, IsSome, slice_set};
-ghost use Rattle.std.specs.List.{sum_by};
-ghost use Rattle.im_types.specs.declared.TheConstants.{NONE, WINDOW};
-ghost use Rattle.im_types.specs.declared.records.CellRecord.TheVariants.{Free as FreeCell};
-ghost use Rattle.im_types.specs.declared.refusals.Refusal.TheVariants.{NoMemory};
-ghost use Rattle.im_types.specs.Contents.{held_at, new_window, waiters_at};
-ghost use Rattle.im_types.specs.Layout.{sizes_of};
-ghost use Rattle.im_migration.specs.Resizing.{FitsSizes, IsResized, fitted, lists_of, window_at};
+ghost use Rattle.std.specs.Prelude.{◌≡◌, ℕ, ◌-◌, ◌*◌, ◌<◌, ◌≤◌, true, false, ◌⊎◌, [], length, replicate, IfSome};
+ghost use Rattle.std.specs.Prelude.{IfNone, IfOk, IfErr, OnOk, IsSome, slice_set, None, sum_by};
+ghost use Rattle.im_types.specs.Types.{NoMemory, WINDOW, NONE, new_window, held_at, waiters_at, sizes_of, FreeCell};
+ghost use Rattle.im_migration.specs.Resizing.{FitsSizes, fitted, IsResized, lists_of, window_at};
 
 use crate::misfits::Misfit;
 use im_cell::CellRow;

@@ -1,18 +1,12 @@
 -- What was put into a new file means what the old one's dump was of.
-use Rattle.std.proofs.Common.{◌≡◌, ◌⊎◌, inl, inr, ⊎_elim, ℕ, List, [], ◌∙◌, ap, subst}
-use Rattle.std.specs.Prelude.{Some, Ok, Err, Result, MatchResult, IfOk}
-use Rattle.im_types.specs.Contents.{Contents}
-use Rattle.im_types.specs.Header.{Header, header_of}
-use Rattle.im_types.specs.Layout.{Sizes, sizes_of}
-use Rattle.im_disk.specs.declared.disk.Disk.{Ghosts}
-use Rattle.im_image.specs.Headers.{seen}
-use Rattle.im_dump.specs.declared.loading.Loaded.{Loaded}
-use Rattle.im_dump.specs.Dumping.{Dumps, IsDumpOf, MeansLoaded}
-use Rattle.im_migration.specs.declared.asked.Asked.{Asked}
-use Rattle.im_migration.specs.declared.resized.Resized.{Resized}
-use Rattle.im_migration.specs.Copying.{IsWhole}
+use Rattle.std.proofs.Common.{◌≡◌, ℕ, ◌⊎◌, List, [], IfOk, Some, Ok, Err, Result, MatchResult, ap, ◌∙◌, subst, inl, inr}
+use Rattle.std.proofs.Common.{⊎_elim}
+use Rattle.im_types.specs.Types.{Contents, Sizes, sizes_of, Header, header_of}
+use Rattle.{im_disk.specs.declared.Disk.Ghosts, im_image.specs.Headers.seen}
+use Rattle.im_migration.specs.{Copying.IsWhole, Resizing.IsResized, Resizing.sizes_asked}
+use Rattle.im_migration.specs.declared.{Asked.Asked, Resized.Resized}
 use Rattle.im_migration.specs.Migration.{BlankOrLaid, IsBlank, IsLaidDown, LeavesBlankOrLaid, moved_header}
-use Rattle.im_migration.specs.Resizing.{IsResized, sizes_asked}
+use Rattle.im_dump.specs.{declared.Loaded.Loaded, Dumping.Dumps, Dumping.IsDumpOf, Dumping.MeansLoaded}
 use Rattle.im_moves.specs.Moving.{LeavesBlankOrMoved, MeansMoved}
 
 -- what holds of a value, by what holds of a result

@@ -1,15 +1,10 @@
 -- What a new file means if it was made of the dump of an old one. (Own.)
-use Rattle.std.specs.Prelude.{◌⊎◌, List, ℕ, Ok}
-use Rattle.im_types.specs.Contents.{Contents}
-use Rattle.im_types.specs.Header.{header_of, layout_in}
-use Rattle.im_types.specs.Meaning.{Reached, Reads}
-use Rattle.im_disk.specs.declared.disk.Disk.{Ghosts}
-use Rattle.im_disk.specs.Since.{LeavesNow, LeavesWithin}
-use Rattle.im_dump.specs.declared.loading.Loaded.{Loaded}
-use Rattle.im_dump.specs.Dumping.{MeansLoaded}
-use Rattle.im_migration.specs.declared.asked.Asked.{Asked}
+use Rattle.std.specs.Prelude.{ℕ, ◌⊎◌, List, Ok}
+use Rattle.im_types.specs.Types.{Contents, header_of, layout_in, Reached, Reads}
+use Rattle.im_disk.specs.{declared.Disk.Ghosts, Since.LeavesNow, Since.LeavesWithin}
+use Rattle.im_migration.specs.{declared.Asked.Asked, Resizing.IsResized, Resizing.sizes_asked}
 use Rattle.im_migration.specs.Migration.{IsBlank, IsLaidDown, moved_header}
-use Rattle.im_migration.specs.Resizing.{IsResized, sizes_asked}
+use Rattle.im_dump.specs.{declared.Loaded.Loaded, Dumping.MeansLoaded}
 
 -- the file is an image of the sizes that are asked for, and means the old one's memory in them, after as many commands
 pub record MeansMoved (asked : Asked) (old file : List ℕ) : Type 0 where

@@ -5,18 +5,12 @@
 //! Contracts state the effect of a call on the cells by the definitions of `im_types`.
 #![tactic(auto)]
 
-ghost use Rattle.std.specs.Prelude.{◌≡◌, ◌≢◌, ◌<◌, ◌∷◌, [], ℕ, length, drop, slice_get, slice_set, Err, IsSome};
-ghost use Rattle.std.specs.Prelude.{MatchOption};
-ghost use Rattle.im_types.specs.declared.operations.Kind.TheVariants.{M};
-ghost use Rattle.im_types.specs.declared.operations.Reply.{Reply};
-ghost use Rattle.im_types.specs.declared.operations.Op.TheVariants.{Take, Put};
-ghost use Rattle.im_types.specs.declared.operations.Entry.TheVariants.{Answered};
-ghost use Rattle.im_types.specs.Act.{act};
+ghost use Rattle.std.specs.Prelude.{◌≡◌, ℕ, ◌<◌, ◌≢◌, [], ◌∷◌, length, drop, IsSome, slice_get, slice_set, MatchOption};
+ghost use Rattle.std.specs.Prelude.{Err};
+ghost use Rattle.im_types.specs.Types.{Reply, Answered, M, Take, Put, act};
+ghost use Rattle.im_arena.specs.Lists.{free, IsPopped, list_at, with_list};
 ghost use Rattle.im_cell.specs.Slots.{slot_at, with_cell};
-ghost use Rattle.im_arena.specs.Lists.{list_at, with_list, free, IsPopped};
-ghost use Rattle.im_istore.specs.Joined.{cells_of};
-ghost use Rattle.im_istore.specs.Agreement.{Agree};
-ghost use Rattle.im_istore.specs.Access.{access_in, replies_to};
+ghost use Rattle.im_istore.specs.{Access.access_in, Access.replies_to, Agreement.Agree, Joined.cells_of};
 ghost use Rattle.im_istore.specs.Records.{LeavesCells, LeavesRest};
 ghost use Rattle.im_mstore.specs.Access.{open_cell};
 

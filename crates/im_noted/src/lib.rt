@@ -5,7 +5,7 @@
 //! noted. A snapshot takes no bytes.
 #![tactic(auto)]
 
-ghost use Rattle.std.specs.Prelude.{◌≡◌, ◌∷◌, []};
+ghost use Rattle.std.specs.Prelude.{◌≡◌, [], ◌∷◌};
 
 use std::marker::Model;
 use std::snapshot::Snapshot;
@@ -26,8 +26,7 @@ enum NoteChain<T> {
 }
 
 impl<T> Model for NoteList<T> {
-    ghost use Rattle.std.specs.Prelude.{List, length};
-    ghost use Rattle.std.proofs.Common.{arith};
+    ghost use Rattle.std.{specs.Prelude.List, specs.Prelude.length, proofs.Common.arith};
 
     ghost Value = { List T };
 

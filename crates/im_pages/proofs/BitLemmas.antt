@@ -1,17 +1,15 @@
 -- Bits in words.
-use Rattle.std.proofs.Common.{◌≡◌, ◌≢◌, ⊎_elim, ℕ, zero, suc, ◌+◌, ◌-◌, ◌*◌, ◌/◌, ◌%◌, ◌^◌, ◌<◌, ◌≤◌, Bool, true}
-use Rattle.std.proofs.Common.{false, List, length, get_or, set, replicate, bit_and, bit_or, w64, eq-eqb, refl, sym}
-use Rattle.std.proofs.Common.{ap, ◌∙◌, arith, length-set, get_or-set_same, get_or-set_other}
+use Rattle.std.proofs.Common.{◌≡◌, ℕ, zero, suc, ◌+◌, ◌-◌, ◌*◌, ◌/◌, ◌%◌, ◌^◌, ◌<◌, ◌≤◌, min, max, Bool, true, false}
+use Rattle.std.proofs.Common.{◌||◌, ◌≢◌, List, length, get_or, set, replicate, ◌==◌, bit_and, bit_or, sym, refl, ap}
+use Rattle.std.proofs.Common.{◌∙◌, ⊎_elim, arith, length-set, get_or-set_other, get_or-set_same, ext_get_or, w64}
+use Rattle.std.proofs.Common.{eq-eqb}
+use Rattle.std.proofs.lemmas.Bool.{cases_eq, cases_lt, Decides.nat_tests}
+use Rattle.std.proofs.lemmas.List.{get_or-replicate, length-replicate}
+use Rattle.std.proofs.lemmas.Nat.{and_le_l, Bits.bit_at-lt, Bits.bit_at-trailing_zeros, Bits.bit_at-zero}
+use Rattle.std.proofs.lemmas.Nat.{Bits.bit_at_and, Bits.bit_at_mask_below, Bits.bit_at_mask_inside, Bits.bit_at_ones}
+use Rattle.std.proofs.lemmas.Nat.{Bits.bit_at_or, Bits.bit_at_set_other, Bits.bit_at_set_same, Bits.ones_shl}
 use Rattle.std.specs.Int.{bit_at, trailing_zeros}
-use Rattle.std.specs.Prelude.{◌==◌, ◌||◌, min, max}
-use Rattle.std.proofs.lemmas.Bool.{cases_eq, cases_lt}
-use Rattle.std.proofs.lemmas.Bool.Decides.{nat_tests}
-use Rattle.std.proofs.lemmas.List.{get_or-replicate, length-replicate, ext_get_or}
-use Rattle.std.proofs.lemmas.Nat.{and_le_l}
-use Rattle.std.proofs.lemmas.Nat.Bits.{bit_at-zero, bit_at-lt, bit_at_or, bit_at_and, bit_at_ones, bit_at_set_same}
-use Rattle.std.proofs.lemmas.Nat.Bits.{bit_at_set_other, bit_at_mask_inside, bit_at_mask_below, ones_shl}
-use Rattle.std.proofs.lemmas.Nat.Bits.{bit_at-trailing_zeros}
-use Rattle.im_pages.specs.Words.{is_set, bits_from, bits_of, AreClear, IsFirstSet}
+use Rattle.im_pages.specs.Words.{AreClear, bits_from, bits_of, is_set, IsFirstSet}
 
 -- ---- a list of bits
 

@@ -1,16 +1,14 @@
 -- A range of bits that is set word by word, and what a set with a range of pages more has.
-use Rattle.std.proofs.Common.{◌≡◌, ◌≢◌, ⊎_elim, ℕ, zero, suc, ◌+◌, ◌-◌, ◌*◌, ◌/◌, ◌%◌, ◌^◌, ◌<◌, ◌≤◌, Bool, true}
-use Rattle.std.proofs.Common.{false, List, length, get_or, set, bit_and, bit_or, eq-eqb, refl, sym, ap, ◌∙◌, arith}
-use Rattle.std.proofs.Common.{length-set, get_or-set_same, get_or-set_other}
-use Rattle.std.specs.Int.{bit_at}
-use Rattle.std.specs.Prelude.{◌==◌, min, max}
-use Rattle.std.proofs.lemmas.Bool.{cases_eq, cases_lt}
-use Rattle.std.proofs.lemmas.Nat.Bits.{bit_at-lt, bit_at_or, bit_at_and, bit_at_ones, bit_at_ones_above}
-use Rattle.std.proofs.lemmas.Nat.Bits.{bit_at_mask_inside, bit_at_mask_below, ones_shl, ones_shr}
-use Rattle.im_pages.specs.Words.{is_set, bits_of}
-use Rattle.im_pages.specs.PageSets.{has, with_page, with_pages, size_of, IsWithin}
-use Rattle.im_pages.proofs.BitLemmas.{length-bits, read, same_bits, at_word, at_other, old_word}
-use Rattle.im_pages.proofs.SetLemmas.{size-with, has-with, within-with}
+use Rattle.std.proofs.Common.{◌≡◌, ℕ, zero, suc, ◌+◌, ◌-◌, ◌*◌, ◌/◌, ◌%◌, ◌^◌, ◌<◌, ◌≤◌, min, max, Bool, true, false}
+use Rattle.std.proofs.Common.{◌≢◌, List, length, get_or, set, ◌==◌, bit_and, bit_or, sym, refl, ap, ◌∙◌, ⊎_elim, arith}
+use Rattle.std.proofs.Common.{length-set, get_or-set_other, get_or-set_same, eq-eqb}
+use Rattle.std.{proofs.lemmas.Bool.cases_eq, proofs.lemmas.Bool.cases_lt, specs.Int.bit_at}
+use Rattle.std.proofs.lemmas.Nat.Bits.{bit_at-lt, bit_at_and, bit_at_mask_below, bit_at_mask_inside, bit_at_ones}
+use Rattle.std.proofs.lemmas.Nat.Bits.{bit_at_ones_above, bit_at_or, ones_shl, ones_shr}
+use Rattle.im_pages.proofs.BitLemmas.{at_other, at_word, length-bits, old_word, read, same_bits}
+use Rattle.im_pages.proofs.SetLemmas.{has-with, size-with, within-with}
+use Rattle.im_pages.specs.PageSets.{has, IsWithin, size_of, with_page, with_pages}
+use Rattle.im_pages.specs.Words.{bits_of, is_set}
 
 -- ---- masks
 

@@ -1,14 +1,11 @@
 -- Sets of pages as lists of truth values.
-use Rattle.std.proofs.Common.{◌≡◌, ◌⊎◌, inl, inr, ⊎_elim, ℕ, zero, suc, ◌+◌, ◌-◌, ◌<◌, ◌≤◌, Bool, true, false}
-use Rattle.std.proofs.Common.{true≢false, List, [], ◌∷◌, length, get_or, drop, refl, sym, ap, subst, ◌∙◌, arith}
-use Rattle.std.proofs.Common.{length-drop, get_or-drop}
-use Rattle.std.specs.Prelude.{◌||◌}
-use Rattle.std.specs.List.{Contains}
-use Rattle.std.proofs.lemmas.Bool.{cases_lt}
-use Rattle.std.proofs.lemmas.List.{get_or_default, drop_all, drop_more}
-use Rattle.im_pages.specs.Words.{is_set, bits_of}
+use Rattle.std.proofs.Common.{◌≡◌, ℕ, zero, suc, ◌+◌, ◌-◌, ◌<◌, ◌≤◌, Bool, true, false, ◌||◌, ◌⊎◌, List, [], ◌∷◌}
+use Rattle.std.proofs.Common.{length, get_or, drop, Contains, sym, refl, ap, ◌∙◌, subst, inl, inr, ⊎_elim, true≢false}
+use Rattle.std.proofs.Common.{arith, length-drop, get_or-drop}
+use Rattle.std.proofs.lemmas.{Bool.cases_lt, List.drop_all, List.drop_more, List.get_or_default}
 use Rattle.im_pages.proofs.BitLemmas.{length-bits, read, same_bits}
-use Rattle.im_pages.specs.PageSets.{has, with_page, union, size_of, pages_of, pages_from, IsWithin, IsNext, HasNoneFrom}
+use Rattle.im_pages.specs.PageSets.{has, HasNoneFrom, IsNext, IsWithin, pages_from, pages_of, size_of, union, with_page}
+use Rattle.im_pages.specs.Words.{bits_of, is_set}
 
 -- ---- a page more
 

@@ -1,5 +1,5 @@
 -- Sets of pages: one truth value for each page, by the page's number. (Own.)
-use Rattle.std.specs.Prelude.{◌≡◌, ℕ, zero, suc, ◌+◌, ◌<◌, ◌≤◌, List, [], ◌∷◌, Bool, true, false, ◌||◌, drop, length}
+use Rattle.std.specs.Prelude.{◌≡◌, ℕ, zero, suc, ◌+◌, ◌<◌, ◌≤◌, Bool, true, false, ◌||◌, List, [], ◌∷◌, length, drop}
 use Rattle.std.specs.Prelude.{slice_index_or, slice_set}
 
 -- whether a page is in a set; a page past the set's end counts as being in it

@@ -1,8 +1,7 @@
 -- The page of an area that shows a record, and when the records of two memories agree on a page. (Own.)
 use Rattle.std.specs.Prelude.{◌≡◌, ℕ, ◌+◌, ◌*◌, ◌/◌, slice_get}
-use Rattle.im_types.specs.Layout.{layout_in_use, cell_record_bytes, node_record_bytes, session_record_bytes}
-use Rattle.im_types.specs.Layout.{on_a_page, pages_for}
-use Rattle.im_types.specs.Pages.{Records}
+use Rattle.im_types.specs.Types.{layout_in_use, cell_record_bytes, node_record_bytes, session_record_bytes, on_a_page}
+use Rattle.im_types.specs.Types.{pages_for, Records}
 
 -- the page that shows the cell at an address
 abbrev pub page_of_cell : ℕ → ℕ

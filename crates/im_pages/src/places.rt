@@ -1,7 +1,7 @@
 //! The page of an area that shows a record. The pages of cells come first, then those of waiter nodes, then those of
 //! sessions.
 ghost use Rattle.std.specs.Prelude.{◌≡◌, ◌*◌};
-ghost use Rattle.im_types.specs.Layout.{pages_for, cell_record_bytes, node_record_bytes, layout_in_use};
+ghost use Rattle.im_types.specs.Types.{layout_in_use, cell_record_bytes, node_record_bytes, pages_for};
 ghost use Rattle.im_pages.specs.Places as definition;
 
 use im_types::WINDOW;

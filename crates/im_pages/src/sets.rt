@@ -1,9 +1,9 @@
 //! Sets of pages.
-ghost use Rattle.std.specs.Prelude.{◌≡◌, ℕ, ◌+◌, ◌-◌, ◌<◌, ◌≤◌, length, replicate, true, false, MatchOption, IfOk};
-ghost use Rattle.std.specs.Prelude.{IfErr};
+ghost use Rattle.std.specs.Prelude.{◌≡◌, ℕ, ◌+◌, ◌-◌, ◌<◌, ◌≤◌, true, false, length, replicate, IfOk, IfErr};
+ghost use Rattle.std.specs.Prelude.{MatchOption};
+ghost use Rattle.im_types.specs.Types.{layout_in_use, sizes_of};
+ghost use Rattle.im_pages.specs.PageSets.{has, HasNoneFrom, IsNext, IsWithin, size_of, union, with_page, with_pages};
 ghost use Rattle.im_types.specs.Layout as layout;
-ghost use Rattle.im_types.specs.Layout.{layout_in_use, sizes_of};
-ghost use Rattle.im_pages.specs.PageSets.{has, with_page, with_pages, union, size_of, IsWithin, IsNext, HasNoneFrom};
 
 use crate::words::{fill_words, first_set, is_set, set_bit, set_bits, set_range};
 use im_types::layout::area_pages;
@@ -19,7 +19,7 @@ pub struct PageSet {
 }
 
 impl Model for PageSet {
-    ghost use Rattle.std.specs.Prelude.{List, Bool};
+    ghost use Rattle.std.specs.Prelude.{Bool, List};
     ghost use Rattle.im_pages.specs.Words.{bits_of, IsPacked};
 
     ghost Value = { List Bool };

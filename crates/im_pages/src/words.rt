@@ -1,7 +1,7 @@
 //! Bits in words of 64: bit n is bit n % 64 of word n / 64.
-ghost use Rattle.std.specs.Prelude.{◌≡◌, ℕ, ◌*◌, ◌-◌, ◌/◌, ◌<◌, ◌≤◌, ◌^◌, ◌==◌, ◌||◌, length, replicate};
-ghost use Rattle.std.specs.Prelude.{slice_index_or, true, MatchOption};
-ghost use Rattle.im_pages.specs.Words.{is_set, AreClear, IsFirstSet};
+ghost use Rattle.std.specs.Prelude.{◌≡◌, ℕ, ◌-◌, ◌*◌, ◌/◌, ◌^◌, ◌<◌, ◌≤◌, true, ◌||◌, length, replicate, ◌==◌};
+ghost use Rattle.std.specs.Prelude.{slice_index_or, MatchOption};
+ghost use Rattle.im_pages.specs.Words.{AreClear, is_set, IsFirstSet};
 
 /// Returns whether a bit is set.
 pub(crate) fn is_set(words: &[u64], at: usize) -> bool

@@ -1,11 +1,8 @@
 -- Messages and the items among them.
-use Rattle.std.proofs.Common.{◌≡◌, ◌-◌, Bool, true, false, List, [], ◌∷◌, ◌++◌, length, length-append, append_assoc}
-use Rattle.std.proofs.Common.{map, sym, refl, ap, ◌∙◌, Option, Some, None}
+use Rattle.std.proofs.Common.{◌≡◌, ◌-◌, Bool, true, false, List, [], ◌∷◌, ◌++◌, map, length, slice_get, Some, None}
+use Rattle.std.proofs.Common.{Option, remove, sym, refl, ap, ◌∙◌, append_assoc, length-append, take_at}
 use Rattle.std.proofs.Math.Nat.{add-sub_cancel}
-use Rattle.std.proofs.lemmas.List.{take_at}
-use Rattle.std.specs.List.{remove, slice_get}
-use Rattle.im_pipes.specs.declared.rule.PassLog.{PassLog}
-use Rattle.im_pipes.specs.Rule.{log, with_sent}
+use Rattle.im_pipes.specs.{declared.rule.PassLog.PassLog, Rule.log, Rule.with_sent}
 use Rattle.im_pipes.specs.Ends.{handed_of, items_of, messages_of}
 
 module _ {T : Type 0} where

@@ -1,12 +1,12 @@
 -- Each move keeps the rule of a pipe.
-use Rattle.std.proofs.Common.{◌≡◌, ◌≢◌, ℕ, zero, suc, true, false, true≢false, List, [], ◌∷◌, ◌++◌, length, set, sym}
-use Rattle.std.proofs.Common.{refl, ap, ◌∙◌, subst, ⊎_elim, append_assoc, Option}
+use Rattle.std.proofs.Common.{◌≡◌, ℕ, zero, suc, true, false, ◌≢◌, List, [], ◌∷◌, ◌++◌, length, set, Option, sym, refl}
+use Rattle.std.proofs.Common.{ap, ◌∙◌, subst, ⊎_elim, true≢false, append_assoc}
+use Rattle.atomic_table.proofs.Lists.{at_set, at_snoc}
+use Rattle.crossbeam_channel.specs.Fifo.{Forks, Learns, Merges, Pops, Pushes}
+use Rattle.im_pipes.specs.declared.rule.PassLog.{PassLog}
+use Rattle.im_pipes.specs.Rule.{Fits, IsRelayed, log, with_received, with_sent}
 use mathlib.Core.Option.{some, some-ne-none}
 use lib.ListN.{get_elem?}
-use Rattle.crossbeam_channel.specs.Fifo.{Pushes, Pops, Forks, Merges, Learns}
-use Rattle.atomic_table.proofs.Lists.{at_set, at_snoc}
-use Rattle.im_pipes.specs.declared.rule.PassLog.{PassLog}
-use Rattle.im_pipes.specs.Rule.{log, with_sent, with_received, Fits, IsRelayed}
 
 module _ {T : Type 0} where
   -- what wasn't in a list, and is with one element more, is that element

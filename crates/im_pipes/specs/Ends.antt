@@ -1,11 +1,8 @@
 -- What contracts see of an end of a pipe. (Own.)
-use Rattle.std.specs.Prelude.{◌≡◌, Bool, true, false, List, [], ◌∷◌, ◌++◌, ◌-◌, length, take, map, Option, Some, None}
-use Rattle.atomic_table.specs.Seated.{TableId}
-use Rattle.atomic_table.specs.declared.badge.Badge.{Badge}
-use Rattle.crossbeam_channel.specs.declared.flavors.array.Key.{Key}
-use Rattle.crossbeam_channel.specs.Claims.{Pass}
-use Rattle.im_pipes.specs.declared.ends.Received.{Received}
-use Rattle.im_pipes.specs.declared.ends.Received.TheVariants.{Item, End, Gone}
+use Rattle.std.specs.Prelude.{◌≡◌, ◌-◌, Bool, true, false, List, [], ◌∷◌, ◌++◌, map, length, take, Some, None, Option}
+use Rattle.atomic_table.specs.{declared.badge.Badge.Badge, Seated.TableId}
+use Rattle.crossbeam_channel.specs.{Claims.Pass, declared.flavors.array.Key.Key}
+use Rattle.im_pipes.specs.declared.ends.Received.{Received, TheVariants.End, TheVariants.Gone, TheVariants.Item}
 
 -- which pipe it is
 pub record PipeId (T : Type 0) : Type 0 where

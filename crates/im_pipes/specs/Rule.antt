@@ -1,8 +1,8 @@
 -- The rule of a pipe. (Own.)
 use Rattle.std.specs.Prelude.{◌≡◌, ℕ, Bool, true, List, [], ◌∷◌, ◌++◌, Option}
+use Rattle.im_pipes.specs.declared.rule.PassLog.{PassLog}
 use mathlib.Core.Option.{some}
 use lib.ListN.{get_elem?}
-use Rattle.im_pipes.specs.declared.rule.PassLog.{PassLog}
 
 module _ {T : Type 0} where
   -- whether a pass may send and may receive, and what was sent and received

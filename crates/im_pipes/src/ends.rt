@@ -1,12 +1,10 @@
 //! The two ends of a pipe.
-ghost use Rattle.std.specs.Prelude.{◌≡◌, ◌<◌, ◌++◌, ◌∷◌, [], true, false, IfOk, OnOk, IfErr, OnErr, IsOkUnless};
-ghost use Rattle.std.specs.Prelude.{MatchResult, MatchOption};
+ghost use Rattle.std.specs.Prelude.{◌≡◌, ◌<◌, true, false, [], ◌∷◌, ◌++◌, IfOk, IfErr, OnOk, OnErr, IsOkUnless};
+ghost use Rattle.std.specs.Prelude.{MatchOption, MatchResult};
+ghost use Rattle.crossbeam_channel.specs.{Claims.IsSeatAt, Claims.view, Ends.receives_on, Ends.sends_on};
+ghost use Rattle.im_types.specs.Types.{NoMemory};
+ghost use Rattle.im_pipes.specs.{Ends.AreNewEnds, Ends.Receives, Rule.with_received, Rule.with_sent};
 ghost use mathlib.Core.List.{IsPrefix};
-ghost use Rattle.crossbeam_channel.specs.Claims.{view, IsSeatAt};
-ghost use Rattle.crossbeam_channel.specs.Ends.{sends_on, receives_on};
-ghost use Rattle.im_types.specs.declared.refusals.Refusal.TheVariants.{NoMemory};
-ghost use Rattle.im_pipes.specs.Ends.{AreNewEnds, Receives};
-ghost use Rattle.im_pipes.specs.Rule.{with_sent, with_received};
 
 use crate::rule::{PassLog, SentInOrder, SentOne, Taken, TwoEnds, Whole};
 use arrayvec::ArrayVec;
@@ -27,11 +25,9 @@ pub struct Inlet<T: Drop> {
 }
 
 impl<T: Drop> Model for Inlet<T> {
-    ghost use Rattle.std.specs.Prelude.{◌≡◌, [], true, false};
-    ghost use Rattle.crossbeam_channel.specs.Claims.{view as known, IsSeatAt};
-    ghost use Rattle.crossbeam_channel.specs.Ends.{sends_on};
-    ghost use Rattle.im_pipes.specs.Ends.{PipeEnd, items_of, messages_of, pipe_of};
-    ghost use Rattle.im_pipes.specs.Rule.{log};
+    ghost use Rattle.std.specs.Prelude.{◌≡◌, true, false, []};
+    ghost use Rattle.crossbeam_channel.specs.{Claims.IsSeatAt, Claims.view as known, Ends.sends_on};
+    ghost use Rattle.im_pipes.specs.{Ends.items_of, Ends.messages_of, Ends.pipe_of, Ends.PipeEnd, Rule.log};
 
     ghost Value = { PipeEnd T };
 
@@ -50,11 +46,9 @@ pub struct FinishedInlet<T: Drop> {
 }
 
 impl<T: Drop> Model for FinishedInlet<T> {
-    ghost use Rattle.std.specs.Prelude.{◌≡◌, [], true, false};
-    ghost use Rattle.crossbeam_channel.specs.Claims.{view as known, IsSeatAt};
-    ghost use Rattle.crossbeam_channel.specs.Ends.{sends_on};
-    ghost use Rattle.im_pipes.specs.Ends.{PipeEnd, items_of, messages_of, pipe_of};
-    ghost use Rattle.im_pipes.specs.Rule.{log};
+    ghost use Rattle.std.specs.Prelude.{◌≡◌, true, false, []};
+    ghost use Rattle.crossbeam_channel.specs.{Claims.IsSeatAt, Claims.view as known, Ends.sends_on};
+    ghost use Rattle.im_pipes.specs.{Ends.items_of, Ends.messages_of, Ends.pipe_of, Ends.PipeEnd, Rule.log};
 
     ghost Value = { PipeEnd T };
 
@@ -75,10 +69,9 @@ pub struct Outlet<T: Drop> {
 }
 
 impl<T: Drop> Model for Outlet<T> {
-    ghost use Rattle.std.specs.Prelude.{◌≡◌, ◌++◌, [], true, false};
-    ghost use Rattle.crossbeam_channel.specs.Claims.{view as known, IsSeatAt};
-    ghost use Rattle.crossbeam_channel.specs.Ends.{receives_on};
-    ghost use Rattle.im_pipes.specs.Ends.{PipeEnd, handed_of, items_of, messages_of, pipe_of};
+    ghost use Rattle.std.specs.Prelude.{◌≡◌, true, false, [], ◌++◌};
+    ghost use Rattle.crossbeam_channel.specs.{Claims.IsSeatAt, Claims.view as known, Ends.receives_on};
+    ghost use Rattle.im_pipes.specs.Ends.{handed_of, items_of, messages_of, pipe_of, PipeEnd};
     ghost use Rattle.im_pipes.specs.Rule.{log};
 
     ghost Value = { PipeEnd T };

@@ -21,7 +21,7 @@ pub struct SentInOrder;
 
 impl<T> Protocol<Option<T>, PassLog<T>> for SentInOrder {
     ghost use Rattle.std.specs.Prelude.{true, []};
-    ghost use Rattle.im_pipes.specs.Rule.{log, IsRelayed};
+    ghost use Rattle.im_pipes.specs.Rule.{IsRelayed, log};
 
     ghost holds = { IsRelayed };
 

@@ -1,45 +1,29 @@
 -- What an operation comes to on slots and a queue is what it comes to on the cells that they make.
-use Rattle.std.proofs.Common.{◌≡◌, ◌≢◌, ⊎_elim, ℕ, zero, suc, ◌+◌, ◌-◌, ◌<◌, ◌≤◌, List, [], ◌∷◌, length, get_or, set}
-use Rattle.std.proofs.Common.{take, drop, Some, None, Bool, true, false, cond, refl, sym, ap, ◌∙◌, arith}
-use Rattle.std.specs.Prelude.{Option, ◌==◌, ◌||◌, not, option_map}
-use Rattle.std.specs.List.{list_any}
-use Rattle.std.proofs.lemmas.List.{get_or-set_same, get_or-set_other}
-use Rattle.std.proofs.lemmas.Bool.{cases_eq}
-use Rattle.std.proofs.lemmas.Bool.Decides.{nat_tests}
-use Rattle.im_types.proofs.Tests.{true_false}
-use denote.Enum.Bare.{sameb}
-use Rattle.im_types.specs.declared.operations.Waiter.{Waiter}
-use Rattle.im_types.specs.declared.operations.Block.{Block}
-use Rattle.im_types.specs.declared.operations.Kind.{Kind}
-use Rattle.im_types.specs.declared.operations.Kind.TheVariants.{I, M}
-use Rattle.im_types.specs.contracts.operations.Kind.{the_type as the_kind}
-use Rattle.im_types.specs.declared.operations.Entry.TheVariants.{Answered}
-use Rattle.im_types.specs.declared.operations.Reply.{Reply}
-use Rattle.im_types.specs.declared.operations.Reply.TheVariants.{Base, BadLength, NoCell, WrongKind, NoBlock}
-use Rattle.im_types.specs.declared.operations.Reply.TheVariants.{StillWaiting, Released, Cleared}
-use Rattle.im_types.specs.Contents.{CellState, Held, held_at, HasBlocks}
-use Rattle.im_types.specs.Act.{Served as ServedCell, Acted as ActedCells, at_cell, serve_cell, only_tells, same_kind}
-use Rattle.im_types.specs.Act.{allocate, allocate_at, unless_waited_for, release_block, emptied, reset_block}
-use Rattle.im_types.specs.Act.{block_with_base, is_waiting_cell}
-use Rattle.im_types.specs.Place.{place, fill, change_each}
-use Rattle.im_laws.proofs.Tests.{or_left, or_right}
-use Rattle.im_laws.proofs.PlaceLemmas.{get_or-fill, get_or-change_each, place-free}
-use Rattle.im_plain.specs.declared.cells.Content.{Content}
-use Rattle.im_plain.specs.declared.cells.Content.TheVariants.{Empty as HasNothing, Full as HasValue}
-use Rattle.im_plain.specs.declared.cells.Content.TheVariants.{Clashed as HasClash}
-use Rattle.im_plain.specs.declared.cells.PlainSlot.{PlainSlot}
-use Rattle.im_plain.specs.declared.queue.Deferred.{Deferred}
-use Rattle.im_plain.specs.declared.effects.CellEffect.{CellEffect}
-use Rattle.im_plain.specs.declared.acts.Effect.{Effect}
-use Rattle.im_plain.specs.Waiting.{waiting_at, without, parked, with_asker, each_given}
-use Rattle.im_plain.specs.Joined.{state_with, emptied_slot, plain_held, plain_cells, lets_wait, lets_wait_at, QueueFits}
-use Rattle.im_laws.specs.Blocks.{TellsOnly}
+use Rattle.std.proofs.Common.{◌≡◌, ℕ, zero, suc, ◌+◌, ◌-◌, ◌<◌, ◌≤◌, Bool, true, false, cond, not, ◌||◌, ◌≢◌, List, []}
+use Rattle.std.proofs.Common.{◌∷◌, length, get_or, take, drop, set, ◌==◌, Some, None, Option, option_map, sym, refl, ap}
+use Rattle.std.proofs.Common.{◌∙◌, ⊎_elim, arith, get_or-set_other, get_or-set_same}
+use Rattle.std.{proofs.lemmas.Bool.cases_eq, proofs.lemmas.Bool.Decides.nat_tests, specs.List.list_any}
+use Rattle.im_types.specs.Types.{Kind, Reply, Waiter, Block, Answered, I, M, Base, BadLength, NoCell, WrongKind}
+use Rattle.im_types.specs.Types.{Released, NoBlock, StillWaiting, Cleared, CellState, Held, held_at, HasBlocks, place}
+use Rattle.im_types.specs.Types.{fill, change_each, ServedCell, Acted as ActedCells, only_tells, same_kind, serve_cell}
+use Rattle.im_types.specs.Types.{at_cell, allocate_at, allocate, block_with_base, is_waiting_cell, unless_waited_for}
+use Rattle.im_types.specs.Types.{release_block, emptied, reset_block}
+use Rattle.im_types.{proofs.Tests.true_false, specs.contracts.operations.Kind.the_type as the_kind}
+use Rattle.im_laws.proofs.PlaceLemmas.{get_or-change_each, get_or-fill, place-free}
+use Rattle.im_laws.{proofs.Tests.or_left, proofs.Tests.or_right, specs.Blocks.TellsOnly}
+use Rattle.im_plain.proofs.JoinedLemmas.{held_at-None, held_at-plain_cells, held_at-Some, length-plain_cells}
+use Rattle.im_plain.proofs.JoinedLemmas.{NobodyWaits, place-plain_cells, plain_cells-emptied, plain_cells-fill}
+use Rattle.im_plain.proofs.JoinedLemmas.{plain_cells-set}
+use Rattle.im_plain.proofs.QueueLemmas.{waiting_at-parked, waiting_at-parked_other, waiting_at-without}
+use Rattle.im_plain.proofs.QueueLemmas.{waiting_at-without_other}
 use Rattle.im_plain.specs.CellEffects.{AreWaiting, HasCellEffect, HasEffect, IsUnwaited}
-use Rattle.im_plain.proofs.QueueLemmas.{waiting_at-without, waiting_at-without_other, waiting_at-parked}
-use Rattle.im_plain.proofs.QueueLemmas.{waiting_at-parked_other}
-use Rattle.im_plain.proofs.JoinedLemmas.{NobodyWaits, held_at-plain_cells, held_at-None, held_at-Some}
-use Rattle.im_plain.proofs.JoinedLemmas.{length-plain_cells}
-use Rattle.im_plain.proofs.JoinedLemmas.{place-plain_cells, plain_cells-fill, plain_cells-emptied, plain_cells-set}
+use Rattle.im_plain.specs.declared.{acts.Effect.Effect, cells.PlainSlot.PlainSlot, queue.Deferred.Deferred}
+use Rattle.im_plain.specs.declared.cells.Content.{Content, TheVariants.Clashed as HasClash}
+use Rattle.im_plain.specs.declared.cells.Content.{TheVariants.Empty as HasNothing, TheVariants.Full as HasValue}
+use Rattle.im_plain.specs.declared.effects.CellEffect.{CellEffect}
+use Rattle.im_plain.specs.Joined.{emptied_slot, lets_wait, lets_wait_at, plain_cells, plain_held, QueueFits, state_with}
+use Rattle.im_plain.specs.Waiting.{each_given, parked, waiting_at, with_asker, without}
+use denote.Enum.Bare.{sameb}
 
 -- a test that fails of all fails of each
 none_of : {X : Type 0} (p : X → Bool) (d : X) → p d ≡ false → (xs : List X) (base n : ℕ)

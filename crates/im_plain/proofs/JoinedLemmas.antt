@@ -1,21 +1,15 @@
 -- Slots and a queue, seen as the cells of a memory.
-use Rattle.std.proofs.Common.{◌≡◌, ◌≢◌, ⊎_elim, ℕ, zero, suc, ◌+◌, ◌<◌, ◌≤◌, List, [], ◌∷◌, length, get_or, set, Some}
-use Rattle.std.proofs.Common.{None, false, cond, refl, sym, ap, ◌∙◌, arith, length-set, zero-add}
-use Rattle.std.specs.Prelude.{Option, option_map}
-use Rattle.std.proofs.lemmas.List.{get_or-set_same, get_or-set_other}
+use Rattle.std.proofs.Common.{◌≡◌, ℕ, zero, suc, ◌+◌, ◌<◌, ◌≤◌, false, cond, ◌≢◌, List, [], ◌∷◌, length, get_or, set}
+use Rattle.std.proofs.Common.{Some, None, Option, option_map, sym, refl, ap, ◌∙◌, ⊎_elim, zero-add, arith, length-set}
+use Rattle.std.proofs.Common.{get_or-set_other, get_or-set_same}
 use Rattle.std.proofs.lemmas.Bool.{cases_eq}
-use Rattle.im_types.specs.declared.operations.Waiter.{Waiter}
-use Rattle.im_types.specs.Contents.{Empty, Held, held_at, waiters_in, waiters_at}
-use Rattle.im_types.specs.Place.{begins_free, place, fill, change_each}
-use Rattle.im_types.specs.Act.{emptied}
-use Rattle.im_plain.specs.declared.cells.Content.{Content}
-use Rattle.im_plain.specs.declared.cells.Content.TheVariants.{Empty as HasNothing, Full as HasValue}
-use Rattle.im_plain.specs.declared.cells.Content.TheVariants.{Clashed as HasClash}
-use Rattle.im_plain.specs.declared.cells.PlainSlot.{PlainSlot}
-use Rattle.im_plain.specs.declared.queue.Deferred.{Deferred}
-use Rattle.im_plain.specs.Waiting.{waiting_at}
-use Rattle.im_plain.specs.Joined.{state_with, emptied_slot, plain_held, plain_cells_from, plain_cells, lets_wait}
-use Rattle.im_plain.specs.Joined.{lets_wait_at, QueueFits}
+use Rattle.im_types.specs.Types.{Waiter, Empty, Held, held_at, waiters_in, waiters_at, begins_free, place, fill}
+use Rattle.im_types.specs.Types.{change_each, emptied}
+use Rattle.im_plain.specs.declared.cells.Content.{Content, TheVariants.Clashed as HasClash}
+use Rattle.im_plain.specs.declared.cells.Content.{TheVariants.Empty as HasNothing, TheVariants.Full as HasValue}
+use Rattle.im_plain.specs.{declared.cells.PlainSlot.PlainSlot, declared.queue.Deferred.Deferred, Waiting.waiting_at}
+use Rattle.im_plain.specs.Joined.{emptied_slot, lets_wait, lets_wait_at, plain_cells, plain_cells_from, plain_held}
+use Rattle.im_plain.specs.Joined.{QueueFits, state_with}
 
 get_or-plain_cells_from : (k : ℕ) (slots : List (Option PlainSlot)) (queue : List Deferred) (a : ℕ)
     → get_or (plain_cells_from k slots queue) a None ≡ plain_held (get_or slots a None) (waiting_at (k + a) queue)

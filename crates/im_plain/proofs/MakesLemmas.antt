@@ -1,28 +1,15 @@
 -- Slots, a queue and windows go on making a memory.
-use Rattle.std.proofs.Common.{◌≡◌, ℕ, zero, suc, ◌*◌, ◌≤◌, List, [], ◌∷◌, ◌++◌, length, take, set, replicate, None}
-use Rattle.std.proofs.Common.{Ok, Err, refl, sym, ap, ◌∙◌, subst, arith}
-use Rattle.std.specs.Prelude.{Option, Result, OnOk, IfErr, slice_get}
-use Rattle.std.proofs.Math.Seq.{take-length}
-use Rattle.std.proofs.lemmas.List.{take-append-le, length-replicate}
-use Rattle.im_types.specs.declared.TheConstants.{WINDOW, MAX_CELLS, MAX_ELEMENTS}
-use Rattle.im_types.specs.declared.refusals.Refusal.{Refusal}
-use Rattle.im_types.specs.declared.commands.Request.{Request}
-use Rattle.im_types.specs.declared.commands.Command.TheVariants.{Request as Asks, Confirm}
-use Rattle.im_types.specs.declared.commands.Judged.TheVariants.{Fresh}
-use Rattle.im_types.specs.Contents.{Held, Window, Contents, new_window, empty_contents}
-use Rattle.im_types.specs.Window.{judge, note, answer_each, confirm_window}
-use Rattle.im_types.specs.Act.{Acted as ActedCells, act}
-use Rattle.im_types.specs.Step.{asker, serve, step, step_request, step_confirm}
-use Rattle.im_types.specs.Memory.{IsMemory}
-use Rattle.im_plain.specs.declared.cells.PlainSlot.{PlainSlot}
-use Rattle.im_plain.specs.declared.queue.Deferred.{Deferred}
-use Rattle.im_plain.specs.declared.acts.Effect.{Effect}
-use Rattle.im_plain.specs.Waiting.{waiting_at, without, each_given}
-use Rattle.im_plain.specs.Joined.{plain_cells_from, plain_cells, QueueFits}
-use Rattle.im_plain.specs.CellEffects.{HasEffect}
-use Rattle.im_plain.specs.MakesPlain.{plain_contents, MakesPlain}
-use Rattle.im_plain.proofs.JoinedLemmas.{length-plain_cells}
-use Rattle.im_laws.proofs.MemoryLemmas.{step-memory, empty-memory}
+use Rattle.std.proofs.Common.{◌≡◌, ℕ, zero, suc, ◌*◌, ◌≤◌, List, [], ◌∷◌, ◌++◌, length, take, set, replicate, IfErr}
+use Rattle.std.proofs.Common.{OnOk, slice_get, None, Ok, Err, Option, Result, sym, refl, ap, ◌∙◌, subst, arith}
+use Rattle.std.proofs.{lemmas.List.length-replicate, lemmas.List.take-append-le, Math.Seq.take-length}
+use Rattle.im_types.specs.Types.{Request, Asks, Confirm, Fresh, Refusal, MAX_CELLS, MAX_ELEMENTS, WINDOW, Held, Window}
+use Rattle.im_types.specs.Types.{Contents, new_window, empty_contents, IsMemory, Acted as ActedCells, act, judge, note}
+use Rattle.im_types.specs.Types.{answer_each, confirm_window, asker, serve, step_request, step_confirm, step}
+use Rattle.im_laws.proofs.MemoryLemmas.{empty-memory, step-memory}
+use Rattle.im_plain.{proofs.JoinedLemmas.length-plain_cells, specs.Joined.plain_cells, specs.Joined.plain_cells_from}
+use Rattle.im_plain.{specs.Joined.QueueFits, specs.Waiting.each_given, specs.Waiting.waiting_at, specs.Waiting.without}
+use Rattle.im_plain.specs.{CellEffects.HasEffect, MakesPlain.MakesPlain, MakesPlain.plain_contents}
+use Rattle.im_plain.specs.declared.{acts.Effect.Effect, cells.PlainSlot.PlainSlot, queue.Deferred.Deferred}
 
 -- the counts of a memory are those of its slots and windows
 own-IsMemory : (cells elements : ℕ) (slots : List (Option PlainSlot)) (queue : List Deferred) (windows : List Window)

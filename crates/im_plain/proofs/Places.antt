@@ -1,12 +1,10 @@
 -- What the loops over the cells need.
-use Rattle.std.proofs.Common.{◌≡◌, ℕ, zero, suc, ◌+◌, ◌-◌, ◌<◌, ◌≤◌, List, [], ◌∷◌, length, get_or, set, take, drop}
-use Rattle.std.proofs.Common.{Some, None, true, false, cond, refl, sym, ap, ◌∙◌, arith, add-one, length-drop}
-use Rattle.std.proofs.Common.{zero-add, suc-add}
-use Rattle.std.specs.Prelude.{Option, option_map, is_some}
+use Rattle.std.proofs.Common.{◌≡◌, ℕ, zero, suc, ◌+◌, ◌-◌, ◌<◌, ◌≤◌, true, false, cond, List, [], ◌∷◌, length, get_or}
+use Rattle.std.proofs.Common.{take, drop, set, is_some, Some, None, Option, option_map, sym, refl, ap, ◌∙◌, suc-add}
+use Rattle.std.proofs.Common.{zero-add, add-one, arith, length-drop}
 use Rattle.std.proofs.Math.Seq.{drop-cons}
-use Rattle.im_types.specs.Place.{begins_free, place, fill, change_each}
-use Rattle.im_laws.proofs.FillLemmas.{fill-more}
-use Rattle.im_laws.proofs.BlockLemmas.{length-fill, length-change_each}
+use Rattle.im_types.specs.Types.{begins_free, place, fill, change_each}
+use Rattle.im_laws.proofs.{BlockLemmas.length-change_each, BlockLemmas.length-fill, FillLemmas.fill-more}
 
 pub begins_free-nothing : (X : Type 0) (n : ℕ) → 0 < n → begins_free {X = X} n [] ≡ false
 begins_free-nothing X zero h = absurd (omega arith)

@@ -1,13 +1,10 @@
 -- Those that wait at a cell, found in the one queue.
-use Rattle.std.proofs.Common.{◌≡◌, ◌≢◌, ℕ, zero, suc, List, [], ◌∷◌, ◌++◌, drop, Bool, true, false, cond, refl, sym}
-use Rattle.std.proofs.Common.{ap, ◌∙◌, arith}
-use Rattle.std.specs.Prelude.{◌==◌}
+use Rattle.std.proofs.Common.{◌≡◌, ℕ, zero, suc, Bool, true, false, cond, ◌≢◌, List, [], ◌∷◌, ◌++◌, drop, ◌==◌, sym}
+use Rattle.std.proofs.Common.{refl, ap, ◌∙◌, arith}
 use Rattle.std.proofs.lemmas.Bool.Decides.{nat_tests}
-use Rattle.im_types.specs.declared.operations.Waiter.{Waiter}
-use Rattle.im_types.specs.declared.operations.Entry.{Entry}
-use Rattle.im_types.specs.declared.operations.Entry.TheVariants.{Waiting, Answered}
+use Rattle.im_types.specs.Types.{Entry, Waiter, Waiting, Answered}
 use Rattle.im_plain.specs.declared.queue.Deferred.{Deferred}
-use Rattle.im_plain.specs.Waiting.{waiting_at, without, parked, with_asker}
+use Rattle.im_plain.specs.Waiting.{parked, waiting_at, with_asker, without}
 
 -- one more that waits, if it is here
 abbrev pub and_waits : Bool → Waiter → List Waiter → List Waiter

@@ -1,14 +1,9 @@
 -- Those that are given a value, one after another.
-use Rattle.std.proofs.Common.{◌≡◌, ℕ, zero, suc, ◌+◌, ◌-◌, ◌<◌, List, [], ◌∷◌, take, drop, Some, None, refl, sym, ap}
-use Rattle.std.proofs.Common.{◌∙◌, arith}
-use Rattle.std.specs.Prelude.{Option, slice_get}
-use Rattle.im_types.specs.declared.operations.Waiter.{Waiter}
-use Rattle.im_types.specs.declared.operations.Reply.TheVariants.{Value}
-use Rattle.im_types.specs.Contents.{Window}
-use Rattle.im_types.specs.Window.{answer, answer_each}
-use Rattle.im_plain.specs.declared.queue.Deferred.{Deferred}
-use Rattle.im_plain.specs.Waiting.{waiting_at, without, each_given}
+use Rattle.std.proofs.Common.{◌≡◌, ℕ, zero, suc, ◌+◌, ◌-◌, ◌<◌, List, [], ◌∷◌, take, drop, slice_get, Some, None}
+use Rattle.std.proofs.Common.{Option, sym, refl, ap, ◌∙◌, arith}
+use Rattle.im_types.specs.Types.{Waiter, Value, Window, answer, answer_each}
 use Rattle.im_plain.proofs.QueueLemmas.{waiting_at-without, without-one}
+use Rattle.im_plain.specs.{declared.queue.Deferred.Deferred, Waiting.each_given, Waiting.waiting_at, Waiting.without}
 
 -- the windows after the first of those that wait, if there is one, is given the value
 abbrev pub answer_first : List Window → ℕ → Option Waiter → List Window

@@ -1,30 +1,17 @@
 -- The queue never runs out of room: each request in it has a Waiting entry of its own, and a window has few entries.
-use Rattle.std.proofs.Common.{◌≡◌, ⊎_elim, ℕ, suc, ◌<◌, ◌≤◌, List, [], ◌∷◌, length, Ok, Bool, true, false, cond, sym}
-use Rattle.std.proofs.Common.{ap, ◌∙◌, arith}
-use Rattle.std.specs.Prelude.{Option, ◌==◌}
-use Rattle.std.proofs.lemmas.Bool.{cases_eq}
-use Rattle.std.proofs.lemmas.Bool.Decides.{nat_tests}
-use Rattle.im_types.specs.declared.operations.Reply.TheVariants.{Stored}
-use Rattle.im_types.specs.declared.operations.Waiter.{Waiter}
-use Rattle.im_types.specs.declared.operations.Kept.{Kept}
-use Rattle.im_types.specs.declared.commands.Request.{Request}
-use Rattle.im_types.specs.declared.commands.Judged.TheVariants.{Fresh}
-use Rattle.im_types.specs.Contents.{Held, Window, held_at, kept_for}
-use Rattle.im_types.specs.Window.{judge, answer}
-use Rattle.im_types.specs.Agreement.{same_waiter, times, waits_in, WaitersAgree}
-use Rattle.im_laws.proofs.Tests.{true_or_false}
+use Rattle.std.proofs.Common.{◌≡◌, ℕ, suc, ◌<◌, ◌≤◌, Bool, true, false, cond, List, [], ◌∷◌, length, ◌==◌, Ok, Option}
+use Rattle.std.proofs.Common.{sym, ap, ◌∙◌, ⊎_elim, arith}
+use Rattle.std.proofs.lemmas.Bool.{cases_eq, Decides.nat_tests}
+use Rattle.im_types.specs.Types.{Waiter, Kept, Stored, Request, Fresh, Held, Window, held_at, kept_for, same_waiter}
+use Rattle.im_types.specs.Types.{times, waits_in, WaitersAgree, judge, answer}
 use Rattle.im_laws.proofs.AgreementLemmas.{one_if, same_waiter-equal, same_waiter-self}
-use Rattle.im_laws.proofs.StepLemmas.{judge-fresh, answer-other}
-use Rattle.im_laws.proofs.StepAgrees.{one_if-true, one_if-most}
-use Rattle.im_laws.proofs.WaitingCounts.{waiting_counts, waiting_counts-less, waiting_counts-answer, AwaitsOne}
+use Rattle.im_laws.proofs.{StepAgrees.one_if-most, StepAgrees.one_if-true, Tests.true_or_false}
+use Rattle.im_laws.proofs.StepLemmas.{answer-other, judge-fresh}
+use Rattle.im_laws.proofs.WaitingCounts.{AwaitsOne, waiting_counts, waiting_counts-answer, waiting_counts-less}
 use Rattle.im_laws.proofs.WaitingCounts.{waits_in-AwaitsOne}
-use Rattle.im_plain.specs.declared.cells.PlainSlot.{PlainSlot}
-use Rattle.im_plain.specs.declared.queue.Deferred.{Deferred}
-use Rattle.im_plain.specs.Waiting.{waiting_at}
-use Rattle.im_plain.specs.Joined.{plain_cells, QueueFits}
-use Rattle.im_plain.specs.MakesPlain.{MakesPlain}
-use Rattle.im_plain.proofs.QueueLemmas.{and_waits}
-use Rattle.im_plain.proofs.JoinedLemmas.{waiters_at-plain_cells}
+use Rattle.im_plain.proofs.{JoinedLemmas.waiters_at-plain_cells, QueueLemmas.and_waits}
+use Rattle.im_plain.specs.declared.{cells.PlainSlot.PlainSlot, queue.Deferred.Deferred}
+use Rattle.im_plain.specs.{Joined.plain_cells, Joined.QueueFits, MakesPlain.MakesPlain, Waiting.waiting_at}
 
 -- among those that wait at a cell
 times-first : (d : Deferred) (queue : List Deferred) → times d.waiter (waiting_at d.address (d ∷ queue))

@@ -1,14 +1,7 @@
 -- Windows by element.
-use Rattle.std.proofs.Common.{◌≡◌, ℕ, zero, suc, ◌<◌, ◌≤◌, List, [], ◌∷◌, length, get_or, set, Some, Ok, Err, refl}
-use Rattle.std.proofs.Common.{ap, ◌∙◌, arith}
-use Rattle.std.specs.Prelude.{slice_get, Result, MatchResult, IfErr}
-use Rattle.im_types.specs.declared.refusals.Refusal.{Refusal}
-use Rattle.im_types.specs.Contents.{Window}
-use Rattle.im_types.specs.Window.{confirm_window}
-use Rattle.im_types.specs.declared.operations.Kept.{Kept}
-use Rattle.im_types.specs.declared.operations.Reply.{Reply}
-use Rattle.im_types.specs.declared.operations.Entry.TheVariants.{Answered}
-use Rattle.im_types.specs.Window.{answer_at}
+use Rattle.std.proofs.Common.{◌≡◌, ℕ, zero, suc, ◌<◌, ◌≤◌, List, [], ◌∷◌, length, get_or, set, IfErr, slice_get, Some}
+use Rattle.std.proofs.Common.{Ok, Err, Result, MatchResult, refl, ap, ◌∙◌, arith}
+use Rattle.im_types.specs.Types.{Reply, Kept, Answered, Refusal, Window, answer_at, confirm_window}
 
 pub slice_get-get_or : {X : Type 0} (xs : List X) (i : ℕ) (d : X) → i < length xs → slice_get xs i
     ≡ Some (get_or xs i d)

@@ -1,21 +1,13 @@
 -- The effect of an operation on slots and a queue. (Own.)
-use Rattle.std.specs.Prelude.{◌≡◌, ℕ, List, [], false, Option, Some, drop, take, length}
+use Rattle.std.specs.Prelude.{◌≡◌, ℕ, false, List, [], length, take, drop, Some, Option}
 use Rattle.std.specs.List.{list_any}
-use Rattle.im_types.specs.declared.operations.Waiter.{Waiter}
-use Rattle.im_types.specs.declared.operations.Op.{Op}
-use Rattle.im_types.specs.declared.operations.Op.TheVariants.{Alloc, Release, Reset, Fetch, Store, Take, Put}
-use Rattle.im_types.specs.declared.operations.Reply.TheVariants.{NoCell}
-use Rattle.im_types.specs.declared.operations.Block.{Block}
-use Rattle.im_types.specs.Contents.{CellState, Held, held_at}
-use Rattle.im_types.specs.Act.{Served as ServedCell, Acted as ActedCells, tells, fetch, store, take_from, put}
-use Rattle.im_types.specs.Act.{block_with_base, is_waiting_cell}
-use Rattle.im_plain.specs.declared.cells.Content.{Content}
-use Rattle.im_plain.specs.declared.cells.PlainSlot.{PlainSlot}
-use Rattle.im_plain.specs.declared.queue.Deferred.{Deferred}
-use Rattle.im_plain.specs.declared.effects.CellEffect.{CellEffect}
-use Rattle.im_plain.specs.declared.acts.Effect.{Effect}
-use Rattle.im_plain.specs.Waiting.{waiting_at, without, with_asker, each_given}
-use Rattle.im_plain.specs.Joined.{state_with, plain_cells, lets_wait, QueueFits}
+use Rattle.im_types.specs.Types.{Op, Waiter, Block, Alloc, Release, Reset, Fetch, Store, Take, Put, NoCell, CellState}
+use Rattle.im_types.specs.Types.{Held, held_at, ServedCell, tells, fetch, store, take_from, put, Acted as ActedCells}
+use Rattle.im_types.specs.Types.{block_with_base, is_waiting_cell}
+use Rattle.im_plain.specs.declared.{acts.Effect.Effect, effects.CellEffect.CellEffect, queue.Deferred.Deferred}
+use Rattle.im_plain.specs.declared.cells.{Content.Content, PlainSlot.PlainSlot}
+use Rattle.im_plain.specs.Joined.{lets_wait, plain_cells, QueueFits, state_with}
+use Rattle.im_plain.specs.Waiting.{each_given, waiting_at, with_asker, without}
 
 -- the effect of an operation on the cell at its address
 abbrev pub access_of : Waiter → Op → CellState → ServedCell

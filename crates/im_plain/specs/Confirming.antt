@@ -1,7 +1,6 @@
 -- Confirmations on one window. (Own.)
-use Rattle.std.specs.Prelude.{ℕ, ◌-◌, max, drop, Bool, Result, Ok, Err, nat_lt}
-use Rattle.im_types.specs.declared.refusals.Refusal.{Refusal}
-use Rattle.im_types.specs.Contents.{Window}
+use Rattle.std.specs.Prelude.{ℕ, ◌-◌, max, Bool, drop, nat_lt, Ok, Err, Result}
+use Rattle.im_types.specs.Types.{Refusal, Window}
 
 -- the window without its entries below a number
 abbrev pub window_from : ℕ → Window → Window

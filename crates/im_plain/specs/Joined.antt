@@ -1,17 +1,9 @@
 -- The cells of a memory, made of the slots by address and of one queue of all waiting requests. (Own.)
-use Rattle.std.specs.Prelude.{◌≡◌, ℕ, suc, List, [], ◌∷◌, Bool, true, false, Option, None, Some, slice_index_or}
-use Rattle.im_types.specs.declared.operations.Waiter.{Waiter}
-use Rattle.im_types.specs.Contents.{CellState, Empty, Full, Clashed, Held}
-use Rattle.im_plain.specs.declared.cells.Content.{Content}
-use Rattle.im_plain.specs.declared.cells.Content.TheVariants.{
-  Empty as HasNothing,
-  Full as HasValue,
-  Clashed as
-      HasClash,
-}
-use Rattle.im_plain.specs.declared.cells.PlainSlot.{PlainSlot}
-use Rattle.im_plain.specs.declared.queue.Deferred.{Deferred}
-use Rattle.im_plain.specs.Waiting.{waiting_at}
+use Rattle.std.specs.Prelude.{◌≡◌, ℕ, suc, Bool, true, false, List, [], ◌∷◌, slice_index_or, Some, None, Option}
+use Rattle.im_types.specs.Types.{Waiter, CellState, Empty, Full, Clashed, Held}
+use Rattle.im_plain.specs.declared.cells.Content.{Content, TheVariants.Clashed as HasClash}
+use Rattle.im_plain.specs.declared.cells.Content.{TheVariants.Empty as HasNothing, TheVariants.Full as HasValue}
+use Rattle.im_plain.specs.{declared.cells.PlainSlot.PlainSlot, declared.queue.Deferred.Deferred, Waiting.waiting_at}
 
 -- a cell's state, from its content and the requests that wait there
 abbrev pub state_with : Content → List Waiter → CellState

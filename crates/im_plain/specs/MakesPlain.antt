@@ -1,10 +1,7 @@
 -- What makes slots, a queue and windows a memory. (Own.)
-use Rattle.std.specs.Prelude.{ℕ, ◌*◌, ◌≤◌, List, Option, length}
-use Rattle.im_types.specs.declared.TheConstants.{WINDOW, MAX_CELLS, MAX_ELEMENTS}
-use Rattle.im_types.specs.Contents.{Window, Contents}
-use Rattle.im_types.specs.Memory.{IsMemory}
-use Rattle.im_plain.specs.declared.cells.PlainSlot.{PlainSlot}
-use Rattle.im_plain.specs.declared.queue.Deferred.{Deferred}
+use Rattle.std.specs.Prelude.{ℕ, ◌*◌, ◌≤◌, List, length, Option}
+use Rattle.im_types.specs.Types.{MAX_CELLS, MAX_ELEMENTS, WINDOW, Window, Contents, IsMemory}
+use Rattle.im_plain.specs.declared.{cells.PlainSlot.PlainSlot, queue.Deferred.Deferred}
 use Rattle.im_plain.specs.Joined.{plain_cells, QueueFits}
 
 -- the memory that slots, a queue and windows stand for

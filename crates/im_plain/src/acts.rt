@@ -1,13 +1,11 @@
 //! Operations on the cells and on the queue of all that wait. A command of the memory calls `act`.
-ghost use Rattle.std.specs.Prelude.{◌≡◌, ◌+◌, ◌<◌, ◌≤◌, IfErr, IfOk, length, List, take, drop, vec_len, vec_capacity};
+ghost use Rattle.std.specs.Prelude.{◌≡◌, ◌+◌, ◌<◌, ◌≤◌, List, length, take, drop, IfOk, IfErr, vec_len, vec_capacity};
 ghost use Rattle.std.specs.List.{list_any};
-ghost use Rattle.im_types.specs.declared.operations.Waiter.{Waiter};
-ghost use Rattle.im_types.specs.Contents.{held_at, HasBlocks};
-ghost use Rattle.im_types.specs.Act.{act, allocate, release_block, reset_block, block_with_base, at_cell};
-ghost use Rattle.im_types.specs.Act.{has_waiter, is_waiting_cell};
+ghost use Rattle.im_types.specs.Types.{Waiter, held_at, HasBlocks, at_cell, allocate, block_with_base, has_waiter};
+ghost use Rattle.im_types.specs.Types.{is_waiting_cell, release_block, reset_block, act};
 ghost use Rattle.im_laws.specs.Blocks.{TellsOnly};
-ghost use Rattle.im_plain.specs.Joined.{state_with, plain_cells, QueueFits};
 ghost use Rattle.im_plain.specs.CellEffects.{access_of, HasEffect, IsUnwaited};
+ghost use Rattle.im_plain.specs.Joined.{plain_cells, QueueFits, state_with};
 
 use crate::cells::{Content, PlainSlot, empty, fill, place, slot_at};
 use crate::effects::access;

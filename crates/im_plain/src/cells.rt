@@ -1,9 +1,7 @@
 //! The cells by address, without the requests that wait for them.
-ghost use Rattle.std.specs.Prelude.{◌≡◌, ℕ, ◌+◌, ◌<◌, ◌≤◌, length, List, Some, None, IfSome, slice_index_or};
-ghost use Rattle.im_types.specs.declared.operations.Waiter.{Waiter};
-ghost use Rattle.im_plain.specs.Joined.{state_with, emptied_slot};
-ghost use Rattle.im_types.specs.Presences.{presence_of};
-ghost use Rattle.im_types.specs.Place.{begins_free, place, fill, change_each};
+ghost use Rattle.std.specs.Prelude.{◌≡◌, ℕ, ◌+◌, ◌<◌, ◌≤◌, List, length, IfSome, slice_index_or, Some, None};
+ghost use Rattle.im_types.specs.Types.{Waiter, presence_of, begins_free, place, fill, change_each};
+ghost use Rattle.im_plain.specs.Joined.{emptied_slot, state_with};
 
 use im_types::{Block, Cell, MAX_CELLS};
 

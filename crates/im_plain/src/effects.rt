@@ -1,6 +1,6 @@
 //! The effect of an operation on one cell, by the cell's content and how many requests wait there. `acts` calls it.
 ghost use Rattle.std.specs.Prelude.{◌≡◌, ℕ};
-ghost use Rattle.im_types.specs.Act.{fetch, store, take_from, put};
+ghost use Rattle.im_types.specs.Types.{fetch, store, take_from, put};
 ghost use Rattle.im_plain.specs.CellEffects.{access_of, GivesEffect};
 
 use crate::cells::Content;

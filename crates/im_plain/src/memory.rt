@@ -1,15 +1,10 @@
 //! A memory, and one command on it.
-ghost use Rattle.std.specs.Prelude.{◌≡◌, ◌≤◌, List, length, vec_capacity, IfOk, IfErr, OnErr, Ok, None, replicate};
-ghost use Rattle.std.specs.Prelude.{slice_get};
-ghost use Rattle.im_types.specs.declared.commands.Judged.TheVariants.{Fresh};
-ghost use Rattle.im_types.specs.Contents.{empty_contents, new_window, held_at, block_at, waiters_at, kept_for};
-ghost use Rattle.im_types.specs.Window.{judge, ask, bounds};
-ghost use Rattle.im_types.specs.Step.{step, serve, asker, acceptance};
-ghost use Rattle.im_types.specs.Act.{act};
-ghost use Rattle.im_types.specs.Agreement.{WaitingAgrees, KeepsEntries};
-ghost use Rattle.im_types.specs.Memory.{IsMemory};
-ghost use Rattle.im_types.specs.Presences.{presence_in};
-ghost use Rattle.im_plain.specs.MakesPlain.{plain_contents, MakesPlain};
+ghost use Rattle.std.specs.Prelude.{◌≡◌, ◌≤◌, List, length, replicate, IfOk, IfErr, OnErr, slice_get, None, Ok};
+ghost use Rattle.std.specs.Prelude.{vec_capacity};
+ghost use Rattle.im_types.specs.Types.{Fresh, new_window, held_at, waiters_at, kept_for, block_at, empty_contents};
+ghost use Rattle.im_types.specs.Types.{presence_in, IsMemory, WaitingAgrees, KeepsEntries, act, judge, ask, bounds};
+ghost use Rattle.im_types.specs.Types.{asker, serve, step, acceptance};
+ghost use Rattle.im_plain.specs.MakesPlain.{MakesPlain, plain_contents};
 
 use crate::acts::act;
 use crate::cells::{PlainSlot, presence_of, slot_at};
@@ -44,11 +39,11 @@ impl Drop for PlainMemory {
 
 impl Model for PlainMemory {
     ghost use Rattle.std.specs.Prelude.{vec_capacity};
-    ghost use Rattle.im_types.specs.Contents.{Contents};
+    ghost use Rattle.im_types.specs.Types.{Contents};
 
     ghost Value = { Contents };
 
-    ghost use Rattle.im_plain.specs.MakesPlain.{plain_contents, MakesPlain};
+    ghost use Rattle.im_plain.specs.MakesPlain.{MakesPlain, plain_contents};
 
     ghost view = { λ m. plain_contents m.slots.items m.queue.items m.windows.items };
 

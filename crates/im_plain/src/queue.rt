@@ -1,10 +1,7 @@
 //! All waiting requests, in their order of arrival.
-ghost use Rattle.std.specs.Prelude.{◌≡◌, ◌+◌, ◌<◌, ◌≤◌, ◌++◌, ◌∷◌, [], List, length, slice_get, slice_index_or};
-ghost use Rattle.std.specs.Prelude.{vec_len, vec_capacity, Some, None, IfSome};
-ghost use Rattle.std.specs.Option.{IfNone};
-ghost use Rattle.std.specs.List.{remove};
-ghost use Rattle.im_plain.specs.declared.queue.Deferred.{Deferred};
-ghost use Rattle.im_plain.specs.Waiting.{waiting_at, without, parked};
+ghost use Rattle.std.specs.Prelude.{◌≡◌, ◌+◌, ◌<◌, ◌≤◌, List, [], ◌∷◌, ◌++◌, length, IfSome, IfNone, slice_get};
+ghost use Rattle.std.specs.Prelude.{slice_index_or, Some, None, vec_len, vec_capacity, remove};
+ghost use Rattle.im_plain.specs.{declared.queue.Deferred.Deferred, Waiting.parked, Waiting.waiting_at, Waiting.without};
 
 use im_types::{Entry, Waiter};
 

@@ -1,13 +1,13 @@
 //! The windows of kept replies, by element.
-ghost use Rattle.std.specs.Prelude.{◌≡◌, ◌-◌, ◌<◌, ◌≤◌, ◌^◌, List, ◌++◌, length, OnOk, OnErr, IfOk, IfErr, MatchResult};
-ghost use Rattle.std.specs.Prelude.{Some, Ok, Err, take, drop, slice_get, slice_set, slice_index_or, vec_len};
+ghost use Rattle.std.specs.Prelude.{◌≡◌, ◌-◌, ◌^◌, ◌<◌, ◌≤◌, List, ◌++◌, length, take, drop, IfOk, IfErr, OnOk, OnErr};
+ghost use Rattle.std.specs.Prelude.{slice_get, slice_index_or, slice_set, MatchResult, Some, Ok, Err, vec_len};
 ghost use Rattle.std.specs.Prelude.{vec_capacity};
 ghost use Rattle.std.specs.List.{list_any};
-ghost use Rattle.im_types.specs.Contents.{Window, new_window, kept_under, kept_for};
-ghost use Rattle.im_types.specs.Window.{next_number, judge_window, judge, confirm_window, ask_window, ask, bounds_of};
-ghost use Rattle.im_types.specs.Window.{bounds, note_in, note, answer_in, answer, answer_each, is_waiting};
-ghost use Rattle.im_plain.specs.Waiting.{waiting_at, without, each_given};
-ghost use Rattle.im_plain.specs.Confirming.{window_from, drops_entry};
+ghost use Rattle.im_types.specs.Types.{Window, new_window, kept_under, kept_for, next_number, judge_window, judge};
+ghost use Rattle.im_types.specs.Types.{note_in, note, answer_in, answer, answer_each, is_waiting, confirm_window};
+ghost use Rattle.im_types.specs.Types.{ask_window, ask, bounds_of, bounds};
+ghost use Rattle.im_plain.specs.Confirming.{drops_entry, window_from};
+ghost use Rattle.im_plain.specs.Waiting.{each_given, waiting_at, without};
 
 use crate::queue::{Deferred, pop_first};
 use im_types::{Entry, Judged, Kept, LAST, Op, Refusal, Reply, Request, WINDOW, Waiter};
@@ -23,8 +23,7 @@ pub struct KeptWindow {
 
 impl Model for KeptWindow {
     ghost use Rattle.std.specs.Prelude.{◌≤◌, vec_capacity};
-    ghost use Rattle.im_types.specs.declared.TheConstants.{WINDOW};
-    ghost use Rattle.im_types.specs.Contents.{Window};
+    ghost use Rattle.im_types.specs.Types.{WINDOW, Window};
 
     ghost Value = { Window };
 

@@ -1,20 +1,11 @@
 -- The tests of a plan on a memory decide whether it fits.
-use Rattle.std.proofs.Common.{◌≡◌, ℕ, zero, suc, ◌≤◌, List, [], ◌∷◌, Some, None, Bool, true, false, cond, refl, sym}
-use Rattle.std.proofs.Common.{ap, ◌∙◌, subst, arith, IsTrue}
-use Rattle.std.specs.Prelude.{Option, ◌↔◌, slice_get, is_some, nat_lt}
-use Rattle.std.proofs.lemmas.Option.{none-some, same_Some}
-use Rattle.std.proofs.lemmas.Bool.Decides.{nat_tests}
-use Rattle.im_types.specs.declared.TheConstants.{LAST}
-use Rattle.im_types.specs.declared.operations.Kind.{Kind}
-use Rattle.im_types.specs.declared.operations.Kind.TheVariants.{I, M}
-use Rattle.im_types.specs.declared.commands.Request.{Request}
-use Rattle.im_types.specs.Contents.{CellState, Empty, Full, Clashed, Held, Window, Contents, held_at}
-use Rattle.im_types.specs.Act.{same_kind}
-use Rattle.im_types.specs.Window.{next_number, bounds, bounds_of}
-use Rattle.im_types.specs.Agreement.{address_of}
-use Rattle.im_types.specs.Plan.{FitsPlan}
+use Rattle.std.proofs.Common.{◌≡◌, ℕ, zero, suc, ◌≤◌, Bool, true, false, cond, ◌↔◌, List, [], ◌∷◌, is_some, IsTrue}
+use Rattle.std.proofs.Common.{nat_lt, slice_get, Some, None, Option, sym, refl, ap, ◌∙◌, subst, arith}
+use Rattle.std.proofs.lemmas.{Bool.Decides.nat_tests, Option.none-some, Option.same_Some}
+use Rattle.im_types.specs.Types.{Kind, I, M, Request, LAST, CellState, Empty, Full, Clashed, Held, Window, Contents}
+use Rattle.im_types.specs.Types.{held_at, address_of, same_kind, next_number, bounds_of, bounds, FitsPlan}
 use Rattle.im_laws.proofs.Tests.{true_false}
-use Rattle.im_planning.specs.Fitting.{number_fits, is_empty, cell_fits, request_fits, all_fit}
+use Rattle.im_planning.specs.Fitting.{all_fit, cell_fits, is_empty, number_fits, request_fits}
 
 -- one request
 pub record Fits (m : Contents) (r : Request) : Type 0 where

@@ -1,19 +1,12 @@
 -- The index of a plan decides what the plan has, and what makes one.
-use Rattle.std.proofs.Common.{◌≡◌, ℕ, zero, suc, List, [], ◌∷◌, Some, None, Bool, true, false, cond, refl}
-use Rattle.std.proofs.Common.{sym, ap, ◌∙◌, arith, IsTrue}
-use Rattle.std.specs.Prelude.{Option, ◌↔◌, ◌==◌, ◌&&◌, slice_get, is_some, drop}
+use Rattle.std.proofs.Common.{◌≡◌, ℕ, zero, suc, Bool, true, false, cond, ◌&&◌, ◌↔◌, List, [], ◌∷◌, drop, is_some}
+use Rattle.std.proofs.Common.{IsTrue, ◌==◌, slice_get, Some, None, Option, sym, refl, ap, ◌∙◌, arith}
 use Rattle.std.proofs.lemmas.Option.{none-some, same_Some}
-use Rattle.im_types.specs.declared.operations.Op.{Op}
-use Rattle.im_types.specs.declared.commands.Request.{Request}
-use Rattle.im_types.specs.Window.{same_op}
-use Rattle.im_types.specs.Step.{asker}
-use Rattle.im_types.specs.Plan.{stored_by, planned_value, is_planned, IsPlan}
-use Rattle.im_laws.proofs.Tests.{true_false, and_both, test-self, eq_by_test}
-use Rattle.im_laws.proofs.OpLemmas.{same_op-self, same_op-equal}
-use Rattle.im_plans.specs.Runs.{IsInPlan}
-use Rattle.im_plans.proofs.PlanLemmas.{stored-by_store, planned_value-stored}
-use Rattle.im_planning.specs.Making.{Key, has_key, op_under, is_op}
-use Rattle.im_planning.specs.Begins.{StandsBefore}
+use Rattle.im_types.specs.Types.{Op, Request, same_op, asker, stored_by, planned_value, is_planned, IsPlan}
+use Rattle.im_laws.proofs.OpLemmas.{same_op-equal, same_op-self}
+use Rattle.im_laws.proofs.Tests.{and_both, eq_by_test, test-self, true_false}
+use Rattle.im_plans.{proofs.PlanLemmas.planned_value-stored, proofs.PlanLemmas.stored-by_store, specs.Runs.IsInPlan}
+use Rattle.im_planning.specs.{Begins.StandsBefore, Making.has_key, Making.is_op, Making.Key, Making.op_under}
 
 abbrev pub key_of : Request → Key
 key_of r = (r.element, r.number)

@@ -1,44 +1,26 @@
 -- The tests of a plan on a memory decide whether it is under way there.
-use Rattle.std.proofs.Common.{◌≡◌, ℕ, zero, suc, ◌<◌, ◌≤◌, List, [], ◌∷◌, Some, None, Bool, true, false, cond}
-use Rattle.std.proofs.Common.{refl, sym, ap, ◌∙◌, subst, arith, IsTrue}
-use Rattle.std.specs.Prelude.{Option, ◌↔◌, slice_get, is_some, nat_lt}
+use Rattle.std.proofs.Common.{◌≡◌, ℕ, zero, suc, ◌<◌, ◌≤◌, Bool, true, false, cond, ◌↔◌, List, [], ◌∷◌, is_some, IsTrue}
+use Rattle.std.proofs.Common.{nat_lt, slice_get, Some, None, Option, sym, refl, ap, ◌∙◌, subst, arith}
+use Rattle.std.proofs.lemmas.{Bool.Decides.nat_tests, Option.none-some, Option.same_Some}
 use Rattle.std.specs.List.{AllByRecursion}
-use Rattle.std.proofs.lemmas.Option.{none-some, same_Some}
-use Rattle.std.proofs.lemmas.Bool.Decides.{nat_tests}
-use Rattle.im_types.specs.declared.TheConstants.{LAST}
-use Rattle.im_types.specs.declared.operations.Op.{Op}
-use Rattle.im_types.specs.declared.operations.Op.TheVariants.{Alloc, Release, Reset, Fetch, Store, Take, Put}
-use Rattle.im_types.specs.declared.operations.Kind.{Kind}
-use Rattle.im_types.specs.declared.operations.Kind.TheVariants.{I, M}
-use Rattle.im_types.specs.declared.operations.Reply.{Reply}
-use Rattle.im_types.specs.declared.operations.Reply.TheVariants.{Base, NoSpace, BadLength, Value, Stored, Clash}
-use Rattle.im_types.specs.declared.operations.Reply.TheVariants.{NoCell, WrongKind, Released, NoBlock, StillWaiting}
-use Rattle.im_types.specs.declared.operations.Reply.TheVariants.{Cleared}
-use Rattle.im_types.specs.declared.operations.Entry.{Entry}
-use Rattle.im_types.specs.declared.operations.Entry.TheVariants.{Waiting, Answered}
-use Rattle.im_types.specs.declared.operations.Waiter.{Waiter}
-use Rattle.im_types.specs.declared.operations.Kept.{Kept}
-use Rattle.im_types.specs.declared.commands.Request.{Request}
-use Rattle.im_types.specs.Contents.{CellState, Empty, Full, Clashed, Held, Window, Contents, held_at, waiters_of}
-use Rattle.im_types.specs.Contents.{waiters_in, waiters_at, kept_for}
-use Rattle.im_types.specs.Presences.{presence_of}
-use Rattle.im_types.specs.Act.{same_kind}
-use Rattle.im_types.specs.Window.{next_number, same_op, bounds, bounds_of}
-use Rattle.im_types.specs.Step.{asker}
-use Rattle.im_types.specs.Agreement.{same_waiter, address_of}
-use Rattle.im_types.specs.Plan.{planned_value, fetched, in_block, result_of, is_planned, IsPlan}
+use Rattle.im_types.specs.Types.{Entry, Kind, Op, Reply, Waiter, Kept, Waiting, Answered, I, M, Alloc, Release, Reset}
+use Rattle.im_types.specs.Types.{Fetch, Store, Take, Put, Base, NoSpace, BadLength, Value, Stored, Clash, NoCell}
+use Rattle.im_types.specs.Types.{WrongKind, Released, NoBlock, StillWaiting, Cleared, Request, LAST, CellState, Empty}
+use Rattle.im_types.specs.Types.{Full, Clashed, Held, Window, Contents, held_at, waiters_of, waiters_in, waiters_at}
+use Rattle.im_types.specs.Types.{kept_for, presence_of, same_waiter, address_of, same_kind, next_number, same_op}
+use Rattle.im_types.specs.Types.{bounds_of, bounds, asker, planned_value, fetched, in_block, result_of, is_planned}
+use Rattle.im_types.specs.Types.{IsPlan}
 use Rattle.im_types.proofs.Tests.{false_true}
-use Rattle.im_laws.proofs.Tests.{test-self, eq_by_test}
-use Rattle.im_laws.proofs.OpLemmas.{same_op-self, same_op-equal}
-use Rattle.im_laws.proofs.AgreementLemmas.{same_waiter-self}
-use Rattle.im_plans.specs.Runs.{IsInPlan, IsResultOrWaits, IsTaken}
-use Rattle.im_plans.specs.UnderWay.{fetch_by, IsUnstored, IsCellOf, ToStore, StoredBy, IsPlanUnderWay}
+use Rattle.im_laws.proofs.{AgreementLemmas.same_waiter-self, Tests.eq_by_test, Tests.test-self}
+use Rattle.im_laws.proofs.OpLemmas.{same_op-equal, same_op-self}
 use Rattle.im_plans.proofs.PlanLemmas.{planned_value-store, planned_value-stored, same_store}
-use Rattle.im_planning.specs.Progress.{number_may_be, was_served, is_no_cell, is_wrong_kind, is_stored_reply, is_value}
-use Rattle.im_planning.specs.Progress.{is_answer, is_result, has_result, kept_fits, is_fetch_in, all_fetch, first_fits}
-use Rattle.im_planning.specs.Progress.{may_be_empty, may_be_full, is_planned_value, empty_fits, tag_fits}
-use Rattle.im_planning.specs.Progress.{is_done, entry_fits, held_fits, goes_on, all_go_on}
+use Rattle.im_plans.specs.Runs.{IsInPlan, IsResultOrWaits, IsTaken}
+use Rattle.im_plans.specs.UnderWay.{fetch_by, IsCellOf, IsPlanUnderWay, IsUnstored, StoredBy, ToStore}
 use Rattle.im_planning.proofs.MakingLemmas.{in_plan}
+use Rattle.im_planning.specs.Progress.{all_fetch, all_go_on, empty_fits, entry_fits, first_fits, goes_on, has_result}
+use Rattle.im_planning.specs.Progress.{held_fits, is_answer, is_done, is_fetch_in, is_no_cell, is_planned_value}
+use Rattle.im_planning.specs.Progress.{is_result, is_stored_reply, is_value, is_wrong_kind, kept_fits, may_be_empty}
+use Rattle.im_planning.specs.Progress.{may_be_full, number_may_be, tag_fits, was_served}
 
 -- both tests of two
 cond-both : (b c : Bool) → cond b c false ≡ true → (b ≡ true) × (c ≡ true)

@@ -1,8 +1,6 @@
 -- What may stand before a plan, and an index that follows one.
-use Rattle.std.specs.Prelude.{◌≡◌, ℕ, List, ◌∷◌, true, Option, None, is_some}
-use Rattle.im_types.specs.declared.operations.Op.{Op}
-use Rattle.im_types.specs.declared.commands.Request.{Request}
-use Rattle.im_types.specs.Plan.{stored_by, planned_value, is_planned}
+use Rattle.std.specs.Prelude.{◌≡◌, ℕ, true, List, ◌∷◌, is_some, None, Option}
+use Rattle.im_types.specs.Types.{Op, Request, stored_by, planned_value, is_planned}
 use Rattle.im_planning.specs.Making.{Key, op_under}
 
 -- a request that may stand before those of a plan

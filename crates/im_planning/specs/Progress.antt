@@ -1,29 +1,12 @@
 -- Tests whether a plan is under way in a memory. (Own.)
-use Rattle.std.specs.Prelude.{ℕ, List, [], ◌∷◌, Bool, true, false, Option, None, Some, Result, Ok, Err, nat_lt, ◌==◌}
-use Rattle.std.specs.Prelude.{slice_get, if◌then◌else◌}
-use Rattle.im_types.specs.declared.TheConstants.{LAST}
-use Rattle.im_types.specs.declared.operations.Op.{Op}
-use Rattle.im_types.specs.declared.operations.Op.TheVariants.{Fetch, Store}
-use Rattle.im_types.specs.declared.operations.Kind.TheVariants.{I}
-use Rattle.im_types.specs.declared.operations.Reply.{Reply}
-use Rattle.im_types.specs.declared.operations.Reply.TheVariants.{Value, Stored, NoCell, WrongKind}
-use Rattle.im_types.specs.declared.operations.Entry.{Entry}
-use Rattle.im_types.specs.declared.operations.Entry.TheVariants.{Waiting, Answered}
-use Rattle.im_types.specs.declared.operations.Waiter.{Waiter}
-use Rattle.im_types.specs.declared.operations.Kept.{Kept}
-use Rattle.im_types.specs.declared.commands.Request.{Request}
-use Rattle.im_types.specs.declared.refusals.Refusal.{Refusal}
-use Rattle.im_types.specs.declared.cells.Cell.{Cell}
-use Rattle.im_types.specs.declared.cells.Cell.TheVariants.{Empty as IsEmpty, Waiting as IsWaiting, Full as IsFull}
-use Rattle.im_types.specs.declared.cells.Cell.TheVariants.{Clashed as IsClashed}
-use Rattle.im_types.specs.Contents.{Held, Contents, held_at, waiters_at, kept_for}
-use Rattle.im_types.specs.Presences.{presence_of}
-use Rattle.im_types.specs.Act.{same_kind}
-use Rattle.im_types.specs.Window.{same_op, bounds}
-use Rattle.im_types.specs.Step.{asker}
-use Rattle.im_types.specs.Agreement.{same_waiter, address_of}
-use Rattle.im_types.specs.Plan.{planned_value}
-use Rattle.im_planning.specs.Making.{op_under, is_op}
+use Rattle.std.specs.Prelude.{ℕ, Bool, true, false, List, [], ◌∷◌, if◌then◌else◌, nat_lt, ◌==◌, slice_get, Some, None}
+use Rattle.std.specs.Prelude.{Ok, Err, Option, Result}
+use Rattle.im_types.specs.Types.{Entry, Op, Reply, Waiter, Kept, Waiting, Answered, I, Fetch, Store, Value, Stored}
+use Rattle.im_types.specs.Types.{NoCell, WrongKind, Request, Refusal, LAST, Held, Contents, held_at, waiters_at}
+use Rattle.im_types.specs.Types.{kept_for, presence_of, same_waiter, address_of, Cell, CellEmpty as IsEmpty}
+use Rattle.im_types.specs.Types.{CellWaiting as IsWaiting, CellFull as IsFull, CellClashed as IsClashed, same_kind}
+use Rattle.im_types.specs.Types.{same_op, bounds, asker, planned_value}
+use Rattle.im_planning.specs.Making.{is_op, op_under}
 
 -- ---- numbers
 

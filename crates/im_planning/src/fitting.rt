@@ -1,11 +1,7 @@
 //! Whether a plan fits a memory.
-ghost use Rattle.std.specs.Prelude.{◌≡◌, ◌↔◌, Option, IsTrue, option_map};
-ghost use Rattle.im_types.specs.Contents.{Held, held_at};
-ghost use Rattle.im_types.specs.Window.{bounds};
-ghost use Rattle.im_types.specs.Agreement.{address_of};
-ghost use Rattle.im_types.specs.Plan.{FitsPlan};
-ghost use Rattle.im_types.specs.Presences.{presence_in};
-ghost use Rattle.im_planning.specs.Fitting.{number_fits, cell_fits, request_fits, all_fit};
+ghost use Rattle.std.specs.Prelude.{◌≡◌, ◌↔◌, IsTrue, Option, option_map};
+ghost use Rattle.im_types.specs.Types.{Held, held_at, presence_in, address_of, bounds, FitsPlan};
+ghost use Rattle.im_planning.specs.Fitting.{all_fit, cell_fits, number_fits, request_fits};
 
 use crate::plan::Plan;
 use im_memory::Memory;

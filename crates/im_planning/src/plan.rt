@@ -1,14 +1,10 @@
 //! A plan: fetches and stores that may be served in any order.
-ghost use Rattle.std.specs.Prelude.{◌≡◌, ◌↔◌, ◌⊎◌, ◌∷◌, [], List, ℕ, IsTrue, IfOk, OnOk, IfErr};
-ghost use Rattle.std.specs.Ordering.{nat_cmp};
-ghost use Rattle.std.specs.BTreeMap.{get};
-ghost use Rattle.im_types.specs.declared.refusals.Refusal.TheVariants.{NoMemory, BadPlan};
-ghost use Rattle.im_types.specs.declared.commands.Request.{Request as Asked};
-ghost use Rattle.im_types.specs.Plan.{planned_value, is_planned, IsPlan};
-ghost use Rattle.im_types.specs.Window.{same_op};
+ghost use Rattle.std.specs.Prelude.{◌≡◌, ℕ, ◌⊎◌, ◌↔◌, List, [], ◌∷◌, IfOk, IfErr, OnOk, IsTrue};
+ghost use Rattle.std.specs.{BTreeMap.get, Ordering.nat_cmp};
+ghost use Rattle.im_types.specs.Types.{Request as Asked, NoMemory, BadPlan, same_op, planned_value, is_planned, IsPlan};
 ghost use Rattle.im_plans.specs.Runs.{IsInPlan};
-ghost use Rattle.im_planning.specs.Making.{key_cmp, op_under, is_op};
-ghost use Rattle.im_planning.specs.Begins.{StandsFirst, StandsBefore, IndexesPlan};
+ghost use Rattle.im_planning.specs.Begins.{IndexesPlan, StandsBefore, StandsFirst};
+ghost use Rattle.im_planning.specs.Making.{is_op, key_cmp, op_under};
 
 use im_types::{Op, Refusal, Request};
 use std::alloc::Global;
@@ -25,11 +21,8 @@ pub struct Plan {
 }
 
 impl Model for Plan {
-    ghost use Rattle.std.specs.Prelude.{◌≡◌, ℕ, List};
-    ghost use Rattle.std.specs.BTreeMap.{get};
-    ghost use Rattle.std.specs.Ordering.{nat_cmp};
-    ghost use Rattle.im_types.specs.declared.commands.Request.{Request};
-    ghost use Rattle.im_types.specs.Plan.{planned_value, IsPlan};
+    ghost use Rattle.std.specs.{Prelude.◌≡◌, Prelude.ℕ, Prelude.List, BTreeMap.get, Ordering.nat_cmp};
+    ghost use Rattle.im_types.specs.Types.{Request, planned_value, IsPlan};
     ghost use Rattle.im_planning.specs.Making.{Key, key_cmp, op_under};
 
     ghost Value = { List Request };

@@ -2,12 +2,11 @@
 //!
 //! Each request is tested by itself, against the memory and the values that the plan stores. So the test takes no
 //! memory (decision 530).
-ghost use Rattle.std.specs.Prelude.{◌≡◌, ◌↔◌, Option, Some, IsTrue, option_map};
-ghost use Rattle.im_types.specs.Contents.{Held};
-ghost use Rattle.im_types.specs.Window.{bounds, same_op};
+ghost use Rattle.std.specs.Prelude.{◌≡◌, ◌↔◌, IsTrue, Some, Option, option_map};
+ghost use Rattle.im_types.specs.Types.{Held, same_op, bounds};
 ghost use Rattle.im_plans.specs.UnderWay.{IsPlanUnderWay};
-ghost use Rattle.im_planning.specs.Progress.{number_may_be, is_value, is_answer, is_result, kept_fits, entry_fits};
-ghost use Rattle.im_planning.specs.Progress.{goes_on, all_go_on};
+ghost use Rattle.im_planning.specs.Progress.{all_go_on, entry_fits, goes_on, is_answer, is_result, is_value, kept_fits};
+ghost use Rattle.im_planning.specs.Progress.{number_may_be};
 
 use crate::fitting::address;
 use crate::plan::Plan;

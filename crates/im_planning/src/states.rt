@@ -1,11 +1,8 @@
 //! Whether a cell is as a plan that is under way has it.
 ghost use Rattle.std.specs.Prelude.{◌≡◌, Option, option_map};
-ghost use Rattle.im_types.specs.Contents.{Held, held_at, waiters_at};
-ghost use Rattle.im_types.specs.Step.{asker};
-ghost use Rattle.im_types.specs.Agreement.{address_of, same_waiter};
-ghost use Rattle.im_types.specs.Presences.{presence_in};
-ghost use Rattle.im_planning.specs.Progress.{is_done, is_fetch_in, all_fetch, first_fits, may_be_empty, may_be_full};
-ghost use Rattle.im_planning.specs.Progress.{is_planned_value, empty_fits, full_fits, tag_fits, held_fits};
+ghost use Rattle.im_types.specs.Types.{Held, held_at, waiters_at, presence_in, same_waiter, address_of, asker};
+ghost use Rattle.im_planning.specs.Progress.{all_fetch, empty_fits, first_fits, full_fits, held_fits, is_done};
+ghost use Rattle.im_planning.specs.Progress.{is_fetch_in, is_planned_value, may_be_empty, may_be_full, tag_fits};
 
 use crate::fitting::address;
 use crate::plan::Plan;

@@ -1,26 +1,13 @@
 -- The laws of planned runs from a memory in which the plan is under way, over any number of stops.
-use Rattle.std.proofs.Common.{◌≡◌, List, [], ◌∷◌, None, Ok, refl, sym, ap, ◌∙◌, subst}
-use Rattle.std.specs.Prelude.{Option}
+use Rattle.std.proofs.Common.{◌≡◌, List, [], ◌∷◌, None, Ok, Option, sym, refl, ap, ◌∙◌, subst}
 use Rattle.std.specs.List.{AllByRecursion}
-use Rattle.im_types.specs.declared.operations.Op.{Op}
-use Rattle.im_types.specs.declared.operations.Entry.{Entry}
-use Rattle.im_types.specs.declared.operations.Entry.TheVariants.{Waiting}
-use Rattle.im_types.specs.declared.commands.Request.{Request}
-use Rattle.im_types.specs.declared.commands.Command.{Command}
-use Rattle.im_types.specs.declared.commands.Call.{Call}
-use Rattle.im_types.specs.declared.commands.Call.TheVariants.{Command as Commands}
-use Rattle.im_types.specs.declared.commands.Line.{Line}
-use Rattle.im_types.specs.Contents.{Contents}
-use Rattle.im_types.specs.Window.{ask}
-use Rattle.im_types.specs.Step.{asker, step}
-use Rattle.im_types.specs.Run.{after}
-use Rattle.im_types.specs.Trace.{answer_to, contents_after, IsLegal, end_of}
-use Rattle.im_types.specs.Plan.{result_of}
-use Rattle.im_plans.specs.Runs.{IsInPlan, IsPlannedCall, IsPlannedRun, IsResultOrWaits, TellsResults}
-use Rattle.im_plans.specs.Runs.{HasServed, entry_for}
-use Rattle.im_plans.specs.UnderWay.{PlanGoesOn, Traces, end_of_runs, AreLegal, AreRunsOf, IsKeptAfter, HaveServed}
-use Rattle.im_plans.proofs.Laws.{planned-told, planned-kept, planned-waits, planned-served}
+use Rattle.im_types.specs.Types.{Entry, Op, Waiting, Request, Command, Call, Line, Commands, Contents, ask, asker, step}
+use Rattle.im_types.specs.Types.{after, result_of, answer_to, contents_after, IsLegal, end_of}
+use Rattle.im_plans.proofs.Laws.{planned-kept, planned-served, planned-told, planned-waits}
 use Rattle.im_plans.proofs.UnderWayLemmas.{goes-on, result-stays}
+use Rattle.im_plans.specs.Runs.{entry_for, HasServed, IsInPlan, IsPlannedCall, IsPlannedRun, IsResultOrWaits}
+use Rattle.im_plans.specs.Runs.{TellsResults}
+use Rattle.im_plans.specs.UnderWay.{AreLegal, AreRunsOf, end_of_runs, HaveServed, IsKeptAfter, PlanGoesOn, Traces}
 
 -- ---- one run
 

@@ -1,40 +1,19 @@
 -- A plan that is under way: from its beginning, and all through its runs.
-use Rattle.std.proofs.Common.{◌≡◌, ◌⊎◌, inl, inr, ℕ, ◌<◌, ◌≤◌, List, [], ◌∷◌, Some, None, true, refl, sym, ap, ◌∙◌}
-use Rattle.std.proofs.Common.{subst}
-use Rattle.std.proofs.Common.{arith}
-use Rattle.std.specs.Prelude.{Option, ◌↔◌, slice_get, is_some}
-use Rattle.std.specs.List.{AllByRecursion}
-use Rattle.std.proofs.lemmas.Option.{same_Some}
-use Rattle.im_types.specs.declared.operations.Op.{Op}
-use Rattle.im_types.specs.declared.operations.Op.TheVariants.{Alloc, Release, Reset, Fetch, Store, Take, Put}
-use Rattle.im_types.specs.declared.operations.Kind.{Kind}
-use Rattle.im_types.specs.declared.operations.Kind.TheVariants.{I, M}
-use Rattle.im_types.specs.declared.operations.Entry.TheVariants.{Waiting}
-use Rattle.im_types.specs.declared.operations.Waiter.{Waiter}
-use Rattle.im_types.specs.declared.operations.Kept.{Kept}
-use Rattle.im_types.specs.declared.commands.Request.{Request}
-use Rattle.im_types.specs.declared.commands.Call.{Call}
-use Rattle.im_types.specs.declared.commands.Call.TheVariants.{Command as Commands, Collect}
-use Rattle.im_types.specs.declared.commands.Line.{Line}
-use Rattle.im_types.specs.Contents.{CellState, Empty, Full, Held, Window, Contents, held_at, waiters_of, waiters_in}
-use Rattle.im_types.specs.Contents.{block_at}
-use Rattle.im_types.specs.Window.{next_number, bounds_of}
-use Rattle.im_types.specs.Step.{asker, step}
-use Rattle.im_types.specs.Trace.{contents_after, end_of}
-use Rattle.im_types.specs.Agreement.{times, awaiting, address_of, WaitingAgrees}
-use Rattle.im_types.specs.Plan.{planned_value, fetched, result_of, FitsPlan}
-use Rattle.im_laws.proofs.Tests.{below_or_from}
-use Rattle.im_laws.proofs.ForgetLemmas.{after-no_less}
-use Rattle.im_laws.proofs.MemoryLemmas.{bounds-window}
-use Rattle.im_laws.proofs.WaiterLemmas.{waiting-WaitsAt, listed-WaitsAt, WaitsAt-listed}
+use Rattle.std.proofs.Common.{◌≡◌, ℕ, ◌<◌, ◌≤◌, true, ◌⊎◌, ◌↔◌, List, [], ◌∷◌, is_some, slice_get, Some, None, Option}
+use Rattle.std.proofs.Common.{sym, refl, ap, ◌∙◌, subst, inl, inr, arith}
+use Rattle.std.{proofs.lemmas.Option.same_Some, specs.List.AllByRecursion}
+use Rattle.im_types.specs.Types.{Kind, Op, Waiter, Kept, Waiting, I, M, Alloc, Release, Reset, Fetch, Store, Take, Put}
+use Rattle.im_types.specs.Types.{Request, Call, Line, Commands, Collect, CellState, Empty, Full, Held, Window, Contents}
+use Rattle.im_types.specs.Types.{held_at, waiters_of, waiters_in, block_at, times, awaiting, address_of, WaitingAgrees}
+use Rattle.im_types.specs.Types.{next_number, bounds_of, asker, step, planned_value, fetched, result_of, FitsPlan}
+use Rattle.im_types.specs.Types.{contents_after, end_of}
+use Rattle.im_laws.proofs.{ForgetLemmas.after-no_less, MemoryLemmas.bounds-window, Tests.below_or_from}
+use Rattle.im_laws.proofs.WaiterLemmas.{listed-WaitsAt, waiting-WaitsAt, WaitsAt-listed}
+use Rattle.im_plans.proofs.Invariant.{CellIs, IsUnderPlan, StoredBy as WasStored, Unstored, untaken}
+use Rattle.im_plans.proofs.{PlanLemmas.in_block-same, PlannedRuns.end-under_plan, Taken.kept-taken}
+use Rattle.im_plans.proofs.Waiters.{all-times, AreAlone, end-alone, first-listed, times-all, waiting_at}
 use Rattle.im_plans.specs.Runs.{IsInPlan, IsPlannedRun, IsResultOrWaits, IsTaken}
-use Rattle.im_plans.specs.UnderWay.{fetch_by, IsCellOf, ToStore, StoredBy, IsPlanUnderWay, IsPlanUnserved, PlanGoesOn}
-use Rattle.im_plans.proofs.PlanLemmas.{in_block-same}
-use Rattle.im_plans.proofs.Taken.{kept-taken}
-use Rattle.im_plans.proofs.Invariant.{untaken, CellIs, Unstored, StoredBy as WasStored, IsUnderPlan}
-use Rattle.im_plans.proofs.PlannedRuns.{end-under_plan}
-use Rattle.im_plans.proofs.Waiters.{first-listed, all-times, times-all, waiting_at}
-use Rattle.im_plans.proofs.Waiters.{AreAlone, end-alone}
+use Rattle.im_plans.specs.UnderWay.{fetch_by, IsCellOf, IsPlanUnderWay, IsPlanUnserved, PlanGoesOn, StoredBy, ToStore}
 
 -- ---- what doesn't change
 

@@ -1,40 +1,20 @@
 -- The values of full I cells, all through planned runs and at their end.
-use Rattle.std.proofs.Common.{◌≡◌, ◌≢◌, ⊎_elim, ℕ, List, [], ◌∷◌, Some, None, Ok, Err, true, false, cond, refl}
-use Rattle.std.proofs.Common.{sym, ap, ◌∙◌, subst}
-use Rattle.std.specs.Prelude.{Option, Result, option_map}
+use Rattle.std.proofs.Common.{◌≡◌, ℕ, true, false, cond, ◌≢◌, List, [], ◌∷◌, Some, None, Ok, Err, Option, Result}
+use Rattle.std.proofs.Common.{option_map, sym, refl, ap, ◌∙◌, subst, ⊎_elim}
 use Rattle.std.proofs.lemmas.Option.{none-some, same_Some}
-use Rattle.im_types.specs.declared.operations.Op.{Op}
-use Rattle.im_types.specs.declared.operations.Op.TheVariants.{Alloc, Release, Reset, Fetch, Store, Take, Put}
-use Rattle.im_types.specs.declared.operations.Kind.{Kind}
-use Rattle.im_types.specs.declared.operations.Kind.TheVariants.{I, M}
-use Rattle.im_types.specs.declared.operations.Block.{Block}
-use Rattle.im_types.specs.declared.operations.Reply.TheVariants.{WrongKind}
-use Rattle.im_types.specs.declared.operations.Waiter.{Waiter}
-use Rattle.im_types.specs.declared.commands.Request.{Request}
-use Rattle.im_types.specs.declared.commands.Command.TheVariants.{Request as Asks, Confirm}
-use Rattle.im_types.specs.declared.commands.Call.{Call}
-use Rattle.im_types.specs.declared.commands.Call.TheVariants.{Command as Commands, Collect}
-use Rattle.im_types.specs.declared.commands.Judged.{Judged}
-use Rattle.im_types.specs.declared.commands.Judged.TheVariants.{Fresh, Repeat}
-use Rattle.im_types.specs.declared.commands.Line.{Line}
-use Rattle.im_types.specs.declared.refusals.Refusal.{Refusal}
-use Rattle.im_types.specs.Contents.{CellState, Empty, Full, Clashed, Held, Contents, held_at, full_value, full_in}
-use Rattle.im_types.specs.Contents.{full_at, block_at}
-use Rattle.im_types.specs.Act.{Served, only_tells, fetch, store, same_kind, serve_cell, at_cell, act}
-use Rattle.im_types.specs.Window.{judge}
-use Rattle.im_types.specs.Step.{asker, step_request}
-use Rattle.im_types.specs.Trace.{contents_after, end_of}
-use Rattle.im_types.specs.Agreement.{address_of}
-use Rattle.im_types.specs.Plan.{planned_value, is_planned, IsPlan}
-use Rattle.im_laws.proofs.AgreementLemmas.{held_at-set, held_at-within}
-use Rattle.im_laws.proofs.JudgeLemmas.{confirm-cells}
-use Rattle.im_plans.specs.Runs.{IsInPlan, IsPlannedCall, IsPlannedRun, HasServed}
-use Rattle.im_plans.specs.UnderWay.{IsCellOf, ToStore, StoredBy, PlanGoesOn, Traces, end_of_runs, AreRunsOf}
-use Rattle.im_plans.specs.UnderWay.{HaveServed, value_in_end}
-use Rattle.im_plans.proofs.PlanLemmas.{planned_value-store, IsStored, planned_value-stored}
-use Rattle.im_plans.proofs.PlannedRuns.{end-under_plan}
-use Rattle.im_plans.proofs.UnderWayLemmas.{goes-under}
+use Rattle.im_types.specs.Types.{Kind, Op, Waiter, Block, I, M, Alloc, Release, Reset, Fetch, Store, Take, Put}
+use Rattle.im_types.specs.Types.{WrongKind, Request, Judged, Call, Line, Asks, Confirm, Fresh, Repeat, Commands}
+use Rattle.im_types.specs.Types.{Collect, Refusal, CellState, Empty, Full, Clashed, Held, Contents, held_at, full_value}
+use Rattle.im_types.specs.Types.{full_in, full_at, block_at, address_of, ServedCell as Served, fetch, store, only_tells}
+use Rattle.im_types.specs.Types.{same_kind, serve_cell, at_cell, act, judge, asker, step_request, planned_value}
+use Rattle.im_types.specs.Types.{is_planned, IsPlan, contents_after, end_of}
+use Rattle.im_laws.proofs.{AgreementLemmas.held_at-set, AgreementLemmas.held_at-within, JudgeLemmas.confirm-cells}
+use Rattle.im_plans.proofs.PlanLemmas.{IsStored, planned_value-store, planned_value-stored}
+use Rattle.im_plans.proofs.{PlannedRuns.end-under_plan, UnderWayLemmas.goes-under}
 use Rattle.im_plans.proofs.UnderWayLaws.{next-runs, runs-go_on}
+use Rattle.im_plans.specs.Runs.{HasServed, IsInPlan, IsPlannedCall, IsPlannedRun}
+use Rattle.im_plans.specs.UnderWay.{AreRunsOf, end_of_runs, HaveServed, IsCellOf, PlanGoesOn, StoredBy, ToStore, Traces}
+use Rattle.im_plans.specs.UnderWay.{value_in_end}
 
 -- ---- one operation on an I cell
 

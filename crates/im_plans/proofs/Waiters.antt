@@ -1,39 +1,20 @@
 -- Only fetches of the plan wait for a cell that the plan names, all through a planned run.
-use Rattle.std.proofs.Common.{◌≡◌, ◌⊎◌, inl, inr, ⊎_elim, ℕ, suc, ◌+◌, ◌≤◌, List, [], ◌∷◌, Some, None, Ok, Err}
-use Rattle.std.proofs.Common.{Bool, true, false, cond, refl, sym, ap, ◌∙◌, subst, arith}
-use Rattle.std.specs.Prelude.{Option, Result, slice_get}
+use Rattle.std.proofs.Common.{◌≡◌, ℕ, suc, ◌+◌, ◌≤◌, Bool, true, false, cond, ◌⊎◌, List, [], ◌∷◌, slice_get, Some, None}
+use Rattle.std.proofs.Common.{Ok, Err, Option, Result, sym, refl, ap, ◌∙◌, subst, inl, inr, ⊎_elim, arith}
+use Rattle.std.proofs.lemmas.{Bool.cases_eq, Option.none-some, Option.same_Some}
 use Rattle.std.specs.List.{AllByRecursion}
-use Rattle.std.proofs.lemmas.Bool.{cases_eq}
-use Rattle.std.proofs.lemmas.Option.{none-some, same_Some}
-use Rattle.im_types.specs.declared.operations.Op.{Op}
-use Rattle.im_types.specs.declared.operations.Op.TheVariants.{Fetch}
-use Rattle.im_types.specs.declared.operations.Entry.TheVariants.{Waiting}
-use Rattle.im_types.specs.declared.operations.Waiter.{Waiter}
-use Rattle.im_types.specs.declared.operations.Kept.{Kept}
-use Rattle.im_types.specs.declared.commands.Request.{Request}
-use Rattle.im_types.specs.declared.commands.Command.{Command}
-use Rattle.im_types.specs.declared.commands.Command.TheVariants.{Request as Asks, Confirm}
-use Rattle.im_types.specs.declared.commands.Call.{Call}
-use Rattle.im_types.specs.declared.commands.Call.TheVariants.{Command as Commands, Collect}
-use Rattle.im_types.specs.declared.commands.Line.{Line}
-use Rattle.im_types.specs.declared.refusals.Refusal.{Refusal}
-use Rattle.im_types.specs.Contents.{Window, Contents, kept_for}
-use Rattle.im_types.specs.Window.{next_number, bounds_of, bounds, confirm_window, is_waiting}
-use Rattle.im_types.specs.Act.{act}
-use Rattle.im_types.specs.Step.{asker, step, step_request, step_confirm, is_accepted}
-use Rattle.im_types.specs.Trace.{contents_after, end_of}
-use Rattle.im_types.specs.Agreement.{StaysOrIsAnswered, drops, same_waiter, times, address_of, WaitingAgrees}
+use Rattle.im_types.specs.Types.{Op, Waiter, Kept, Waiting, Fetch, Request, Command, Call, Line, Asks, Confirm}
+use Rattle.im_types.specs.Types.{Commands, Collect, Refusal, Window, Contents, kept_for, same_waiter, times, address_of}
+use Rattle.im_types.specs.Types.{WaitingAgrees, StaysOrIsAnswered, drops, act, next_number, is_waiting, confirm_window}
+use Rattle.im_types.specs.Types.{bounds_of, bounds, asker, step_request, step_confirm, step, is_accepted}
+use Rattle.im_types.specs.Types.{contents_after, end_of}
+use Rattle.im_laws.proofs.AcceptLemmas.{accepted-fresh, accepted-takes_next, same_bounds, unaccepted-leaves}
+use Rattle.im_laws.proofs.{AgreementLemmas.same_waiter-equal, AgreementLemmas.same_waiter-self, EntryLemmas.told-kept}
+use Rattle.im_laws.proofs.{JudgeLemmas.bounds-kept, JudgeLemmas.kept_for-confirmed, RunAgrees.step-agrees}
+use Rattle.im_laws.proofs.{RunAgrees.step-keeps, Tests.true_false, Tests.true_or_false, WindowLemmas.kept_for-window}
 use Rattle.im_laws.specs.Windows.{TakesNextNumber}
-use Rattle.im_laws.proofs.Tests.{true_or_false, true_false}
-use Rattle.im_laws.proofs.WindowLemmas.{kept_for-window}
-use Rattle.im_laws.proofs.AgreementLemmas.{same_waiter-equal, same_waiter-self}
-use Rattle.im_laws.proofs.AcceptLemmas.{same_bounds, accepted-fresh, accepted-takes_next, unaccepted-leaves}
-use Rattle.im_laws.proofs.EntryLemmas.{told-kept}
-use Rattle.im_laws.proofs.RunAgrees.{step-agrees, step-keeps}
-use Rattle.im_laws.proofs.JudgeLemmas.{bounds-kept, kept_for-confirmed}
-use Rattle.im_plans.specs.Runs.{IsInPlan, IsPlannedCall, IsPlannedRun, IsTaken}
-use Rattle.im_plans.specs.UnderWay.{fetch_by}
-use Rattle.im_plans.proofs.Taken.{bounds-taken, request-taken, kept-taken}
+use Rattle.im_plans.proofs.Taken.{bounds-taken, kept-taken, request-taken}
+use Rattle.im_plans.specs.{Runs.IsInPlan, Runs.IsPlannedCall, Runs.IsPlannedRun, Runs.IsTaken, UnderWay.fetch_by}
 
 -- ---- lists of requests that wait
 

@@ -1,14 +1,7 @@
 -- A plan, and its results. (Own.)
-use Rattle.std.specs.Prelude.{ℕ, List, [], ◌∷◌, Option, map}
-use Rattle.im_types.specs.declared.operations.Op.{Op}
-use Rattle.im_types.specs.declared.operations.Op.TheVariants.{Alloc, Fetch, Store}
-use Rattle.im_types.specs.declared.operations.Kind.TheVariants.{I}
-use Rattle.im_types.specs.declared.operations.Reply.{Reply}
-use Rattle.im_types.specs.declared.commands.Request.{Request}
-use Rattle.im_types.specs.declared.commands.Command.TheVariants.{Request as Asks}
-use Rattle.im_types.specs.Contents.{Contents, empty_contents}
-use Rattle.im_types.specs.Run.{after}
-use Rattle.im_types.specs.Plan.{result_of}
+use Rattle.std.specs.Prelude.{ℕ, List, [], ◌∷◌, map, Option}
+use Rattle.im_types.specs.Types.{Op, Reply, I, Alloc, Fetch, Store, Request, Asks, Contents, empty_contents, after}
+use Rattle.im_types.specs.Types.{result_of}
 
 -- a request of an element, under a number
 abbrev pub example_request : ℕ → ℕ → Op → Request

@@ -1,22 +1,10 @@
 -- Memories in which a part of a plan is done. (Own.)
-use Rattle.std.specs.Prelude.{◌≡◌, ◌≤◌, ℕ, List, [], ◌∷◌, true, Option, None, Some, Ok, slice_get, is_some}
+use Rattle.std.specs.Prelude.{◌≡◌, ℕ, ◌≤◌, true, List, [], ◌∷◌, is_some, slice_get, Some, None, Ok, Option}
 use Rattle.std.specs.List.{AllByRecursion}
-use Rattle.im_types.specs.declared.TheConstants.{LAST}
-use Rattle.im_types.specs.declared.operations.Op.TheVariants.{Fetch, Store}
-use Rattle.im_types.specs.declared.operations.Kind.TheVariants.{I}
-use Rattle.im_types.specs.declared.operations.Entry.{Entry}
-use Rattle.im_types.specs.declared.operations.Waiter.{Waiter}
-use Rattle.im_types.specs.declared.operations.Kept.{Kept}
-use Rattle.im_types.specs.declared.commands.Request.{Request}
-use Rattle.im_types.specs.declared.commands.Line.{Line}
-use Rattle.im_types.specs.Contents.{CellState, Empty, Full, Held, Window, Contents, held_at, kept_for}
-use Rattle.im_types.specs.Contents.{full_value, full_in}
-use Rattle.im_types.specs.Window.{ask}
-use Rattle.im_types.specs.Step.{asker}
-use Rattle.im_types.specs.Trace.{IsLegal, end_of}
-use Rattle.im_types.specs.Agreement.{address_of, WaitingAgrees}
-use Rattle.im_types.specs.Plan.{result_of, IsPlan}
-use Rattle.im_plans.specs.Runs.{IsInPlan, IsPlannedRun, IsResultOrWaits, IsTaken, HasServed}
+use Rattle.im_types.specs.Types.{Entry, Waiter, Kept, I, Fetch, Store, Request, Line, LAST, CellState, Empty, Full}
+use Rattle.im_types.specs.Types.{Held, Window, Contents, held_at, kept_for, full_value, full_in, address_of}
+use Rattle.im_types.specs.Types.{WaitingAgrees, ask, asker, result_of, IsPlan, IsLegal, end_of}
+use Rattle.im_plans.specs.Runs.{HasServed, IsInPlan, IsPlannedRun, IsResultOrWaits, IsTaken}
 
 -- a fetch of this address, under this number
 abbrev pub fetch_by : ℕ → Waiter → Request

@@ -5,22 +5,13 @@
 
 mod under_way;
 
-ghost use Rattle.std.specs.Prelude.{◌≡◌, ◌↔◌, ◌++◌, ◌∷◌, [], List, None, Some};
+ghost use Rattle.std.specs.Prelude.{◌≡◌, ◌↔◌, List, [], ◌∷◌, ◌++◌, Some, None};
 ghost use Rattle.std.specs.List.{AllByRecursion};
-ghost use Rattle.im_types.specs.declared.operations.Reply.TheVariants.{Value, Stored, NoCell};
-ghost use Rattle.im_types.specs.declared.operations.Entry.{Entry};
-ghost use Rattle.im_types.specs.declared.operations.Entry.TheVariants.{Waiting};
-ghost use Rattle.im_types.specs.declared.commands.Request.{Request};
-ghost use Rattle.im_types.specs.declared.commands.Command.TheVariants.{Request as Asks};
-ghost use Rattle.im_types.specs.declared.commands.Outcome.TheVariants.{Entry as Tells};
-ghost use Rattle.im_types.specs.declared.commands.Call.TheVariants.{Command as Commands};
-ghost use Rattle.im_types.specs.declared.commands.Line.{Line};
-ghost use Rattle.im_types.specs.Contents.{Contents};
-ghost use Rattle.im_types.specs.Trace.{IsLegal, end_of};
-ghost use Rattle.im_types.specs.Plan.{result_of};
-ghost use Rattle.im_plans.specs.Example.{two_cells, a_plan, results_of};
-ghost use Rattle.im_plans.specs.Runs.{Starts, IsPlannedCall, IsPlannedRun, EndsWith, IsResultOrWaits, TellsResults};
-ghost use Rattle.im_plans.specs.Runs.{HasServed, end_entry};
+ghost use Rattle.im_types.specs.Types.{Entry, Waiting, Value, Stored, NoCell, Request, Line, Asks, Tells, Commands};
+ghost use Rattle.im_types.specs.Types.{Contents, result_of, IsLegal, end_of};
+ghost use Rattle.im_plans.specs.Example.{a_plan, results_of, two_cells};
+ghost use Rattle.im_plans.specs.Runs.{end_entry, EndsWith, HasServed, IsPlannedCall, IsPlannedRun, IsResultOrWaits};
+ghost use Rattle.im_plans.specs.Runs.{Starts, TellsResults};
 
 pub use under_way::{plan_stays_under_way, stopped_plan_has_one_end, stopped_runs_tell_results};
 

@@ -1,22 +1,12 @@
 //! Laws of planned runs that were stopped and gone on with: runs of one plan, each from the memory where the one before
 //! stopped. Each function here does nothing, and its contract is a law.
-ghost use Rattle.std.specs.Prelude.{◌≡◌, ◌↔◌, ℕ, List, None};
-ghost use Rattle.std.specs.List.{AllByRecursion};
-ghost use Rattle.im_types.specs.declared.operations.Op.{Op};
-ghost use Rattle.im_types.specs.declared.operations.Entry.{Entry};
-ghost use Rattle.im_types.specs.declared.operations.Entry.TheVariants.{Waiting};
-ghost use Rattle.im_types.specs.declared.commands.Request.{Request};
-ghost use Rattle.im_types.specs.declared.commands.Command.{Command};
-ghost use Rattle.im_types.specs.declared.commands.Call.{Call};
-ghost use Rattle.im_types.specs.declared.commands.Call.TheVariants.{Command as Commands};
-ghost use Rattle.im_types.specs.Contents.{Contents, held_at, full_at};
-ghost use Rattle.im_types.specs.Run.{after};
-ghost use Rattle.im_types.specs.Trace.{contents_after};
-ghost use Rattle.im_types.specs.Agreement.{WaitingAgrees};
-ghost use Rattle.im_types.specs.Plan.{planned_value, result_of, FitsPlan};
-ghost use Rattle.im_plans.specs.Runs.{IsPlannedCall, IsResultOrWaits, TellsResults, end_entry};
-ghost use Rattle.im_plans.specs.UnderWay.{IsPlanUnderWay, IsPlanUnserved, PlanGoesOn, Traces, AreRunsOf, AreLegal};
-ghost use Rattle.im_plans.specs.UnderWay.{IsKeptAfter, HaveServed, end_of_runs, value_in_end};
+ghost use Rattle.std.specs.{Prelude.◌≡◌, Prelude.ℕ, Prelude.◌↔◌, Prelude.List, Prelude.None, List.AllByRecursion};
+ghost use Rattle.im_types.specs.Types.{Entry, Op, Waiting, Request, Command, Call, Commands, Contents, held_at};
+ghost use Rattle.im_types.specs.Types.{full_at, WaitingAgrees, after, planned_value, result_of, FitsPlan};
+ghost use Rattle.im_types.specs.Types.{contents_after};
+ghost use Rattle.im_plans.specs.Runs.{end_entry, IsPlannedCall, IsResultOrWaits, TellsResults};
+ghost use Rattle.im_plans.specs.UnderWay.{AreLegal, AreRunsOf, end_of_runs, HaveServed, IsKeptAfter, IsPlanUnderWay};
+ghost use Rattle.im_plans.specs.UnderWay.{IsPlanUnserved, PlanGoesOn, Traces, value_in_end};
 
 /// A plan that fits a memory is one that is under way there, with nothing of it served yet. It stays under way after
 /// each call of a planned run, so in each memory that a stop leaves, and over any number of runs. Its results stay as

@@ -1,14 +1,10 @@
 -- How the program ends.
-use Rattle.std.proofs.Common.{◌≡◌, inl, ℕ, Bool, List, refl, sym, ◌∙◌, ap, subst, arith}
-use Rattle.std.specs.Prelude.{Option, None, Some, unwrap_or}
-use Rattle.im_disk.specs.declared.disk.Disk.{Ghosts as DiskGhosts}
-use Rattle.im_disk.specs.declared.file.FileDisk.{FileDisk}
-use Rattle.im_disk.specs.declared.start.Start.{Ghosts}
-use Rattle.im_filters.specs.declared.telling.Telling.{Telling}
-use Rattle.im_program.specs.Ending.{EndsAs, Ended, EndedBy, EndedOn}
+use Rattle.std.proofs.Common.{◌≡◌, ℕ, Bool, List, Some, None, Option, unwrap_or, sym, refl, ap, ◌∙◌, subst, inl, arith}
+use Rattle.im_disk.specs.declared.{Disk.Ghosts as DiskGhosts, FileDisk.FileDisk, Start.Ghosts}
+use Rattle.{im_filters.specs.declared.Telling.Telling, im_words.specs.declared.CommandLine.CommandLine}
+use Rattle.im_words.specs.Words.{asks_statuses, asks_task, asks_telling, Task, task_of_work}
 use Rattle.im_program.proofs.ToldLemmas.{nothing_done}
-use Rattle.im_words.specs.declared.words.CommandLine.{CommandLine}
-use Rattle.im_words.specs.Words.{Task, asks_statuses, asks_task, asks_telling, task_of_work}
+use Rattle.im_program.specs.Ending.{Ended, EndedBy, EndedOn, EndsAs}
 
 same_task : (a b : Task) → Some a ≡ Some b → a ≡ b
 same_task a b is = ap (λ (o : Option Task). unwrap_or o a) is

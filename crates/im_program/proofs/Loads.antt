@@ -1,29 +1,17 @@
 -- What is dumped, and what a new file is given of a text.
-use Rattle.std.proofs.Common.{◌≡◌, ◌⊎◌, inl, inr, ⊎_elim, ℕ, List, [], ◌∷◌, ◌∙◌, ap, subst, arith}
-use Rattle.std.specs.Prelude.{Option, codes}
+use Rattle.std.proofs.Common.{◌≡◌, ℕ, ◌⊎◌, List, [], ◌∷◌, codes, Option, ap, ◌∙◌, subst, inl, inr, ⊎_elim, arith}
 use Rattle.std.specs.Io.KnownBytes.{Appends, Keeps}
-use Rattle.im_types.specs.Header.{Header, header_of}
-use Rattle.im_types.specs.Layout.{Sizes, sizes_of}
-use Rattle.im_disk.specs.declared.file.FileDisk.{FileDisk}
-use Rattle.im_disk.specs.declared.start.Start.{Ghosts}
-use Rattle.im_disk.specs.Account.{IsHonest}
-use Rattle.im_disk.specs.File.{account_of}
-use Rattle.im_disk.specs.Moment.{Left, LeftSince}
-use Rattle.im_disk.specs.Since.{Leaves, LeavesNow}
-use Rattle.im_image.specs.Headers.{seen}
-use Rattle.im_dump.specs.declared.loading.Loaded.{Loaded}
-use Rattle.im_dump.specs.Dump.{dump_text}
-use Rattle.im_dump.specs.Dumping.{Dumps, IsDumpOf}
-use Rattle.im_migration.specs.declared.asked.Asked.{Asked}
-use Rattle.im_migration.specs.declared.resized.Resized.{Resized}
-use Rattle.im_migration.specs.Copying.{IsWhole}
+use Rattle.im_types.specs.Types.{Sizes, sizes_of, Header, header_of}
+use Rattle.im_disk.specs.{Account.IsHonest, declared.FileDisk.FileDisk, declared.Start.Ghosts, File.account_of}
+use Rattle.im_disk.specs.{Moment.Left, Moment.LeftSince, Since.Leaves, Since.LeavesNow}
+use Rattle.{im_image.specs.Headers.seen, im_text.proofs.PrintingLemmas.appends_kept}
+use Rattle.im_migration.specs.{Copying.IsWhole, Resizing.IsResized, Resizing.sizes_asked}
+use Rattle.im_migration.specs.declared.{Asked.Asked, Resized.Resized}
 use Rattle.im_migration.specs.Migration.{BlankOrLaid, IsBlank, IsLaidDown, moved_header}
-use Rattle.im_migration.specs.Resizing.{IsResized, sizes_asked}
-use Rattle.im_text.proofs.PrintingLemmas.{appends_kept}
-use Rattle.im_program.specs.Loading.{IsPutInto, IsReadied, LoadedFrom, MeansLoad}
-use Rattle.im_program.specs.Moving.{BeginsNew, counted_line}
-use Rattle.im_program.specs.Sources.{IsTextOf}
+use Rattle.im_dump.specs.{declared.Loaded.Loaded, Dump.dump_text, Dumping.Dumps, Dumping.IsDumpOf}
 use Rattle.im_program.proofs.MovedLemmas.{was_left}
+use Rattle.im_program.specs.Loading.{IsPutInto, IsReadied, LoadedFrom, MeansLoad}
+use Rattle.im_program.specs.{Moving.BeginsNew, Moving.counted_line, Sources.IsTextOf}
 
 -- a dump that was written is there as it was written
 pub dumps_kept : (file : List ℕ) (was mid is : Option (List ℕ)) → Dumps file was mid → Keeps mid is → Dumps file was is

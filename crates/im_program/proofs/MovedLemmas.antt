@@ -1,19 +1,14 @@
 -- What a new file is given of an old one.
-use Rattle.std.proofs.Common.{◌≡◌, ◌⊎◌, inl, inr, ⊎_elim, ℕ, zero, suc, List, [], ◌∷◌, get_or, replicate, refl, sym, ◌∙◌, ap, subst, arith}
-use Rattle.std.specs.Prelude.{Option}
+use Rattle.std.proofs.Common.{◌≡◌, ℕ, zero, suc, ◌⊎◌, List, [], ◌∷◌, get_or, replicate, Option, sym, refl, ap, ◌∙◌}
+use Rattle.std.proofs.Common.{subst, inl, inr, ⊎_elim, arith}
 use Rattle.std.specs.Io.KnownBytes.{Appends, Keeps}
-use Rattle.im_types.specs.Bytes.{open_gate, zeros}
-use Rattle.im_types.specs.Layout.{Layout}
-use Rattle.im_disk.specs.declared.file.FileDisk.{FileDisk}
-use Rattle.im_disk.specs.declared.start.Start.{Ghosts}
-use Rattle.im_disk.specs.Account.{IsHonest}
-use Rattle.im_disk.specs.File.{account_of}
-use Rattle.im_disk.specs.Moment.{Moment, Left, LeftSince}
-use Rattle.im_disk.specs.Since.{Leaves, LeavesNow, ReadsOnly}
+use Rattle.im_types.specs.Types.{Layout, open_gate, zeros}
 use Rattle.im_disk.proofs.SinceLemmas.{left_settled, reads_then}
+use Rattle.im_disk.specs.{Account.IsHonest, declared.FileDisk.FileDisk, declared.Start.Ghosts, File.account_of}
+use Rattle.im_disk.specs.{Moment.Left, Moment.LeftSince, Moment.Moment, Since.Leaves, Since.LeavesNow, Since.ReadsOnly}
 use Rattle.im_migration.specs.Migration.{HasCountIn, IsBlank}
 use Rattle.im_text.proofs.PrintingLemmas.{appends_kept}
-use Rattle.im_program.specs.Moving.{BeginsNew, BeginsOld, MovedFrom, TellsCount, counted_line}
+use Rattle.im_program.specs.Moving.{BeginsNew, BeginsOld, counted_line, MovedFrom, TellsCount}
 
 -- the count that was printed is there as it was written
 pub told_count : (l : Layout) (word old : List ℕ) (was mid is : Option (List ℕ)) (count : ℕ) → HasCountIn l old count

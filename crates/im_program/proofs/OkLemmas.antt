@@ -1,6 +1,5 @@
 -- What holds of a result or of an option, if there is a value.
-use Rattle.std.proofs.Common.{Option, None, Some, IfSome}
-use Rattle.std.specs.Prelude.{Result, Ok, Err, IfOk}
+use Rattle.std.proofs.Common.{IfSome, IfOk, Some, None, Ok, Err, Option, Result}
 
 module _ {A E : Type 0} (P Q : A → Type 0) where
   pub ok_then : (r : Result A E) → ((a : A) → P a → Q a) → IfOk r P → IfOk r Q

@@ -1,5 +1,5 @@
 -- A run's trace, given that the image was opened.
-use Rattle.std.proofs.Common.{Option, None, Some, IfSome, IsSome}
+use Rattle.std.proofs.Common.{IfSome, IsSome, Some, None, Option}
 
 -- what holds of a value with the other one holds of it with some
 module _ {A B : Type 0} (P : A → Type 0) (Q : A → B → Type 0) where

@@ -1,9 +1,7 @@
 -- A text, and where it was read.
-use Rattle.std.proofs.Common.{◌≡◌, ◌⊎◌, inl, inr, ℕ, Bool, true, false, List, sym, subst}
-use Rattle.std.specs.Prelude.{Option, None, Some, IfSome, Result, Ok, Err, IfOk, if◌then◌else◌}
-use Rattle.im_disk.specs.declared.disk.Disk.{Ghosts as DiskGhosts}
-use Rattle.im_disk.specs.Moment.{Moment}
-use Rattle.im_words.specs.Words.{Task}
+use Rattle.std.proofs.Common.{◌≡◌, ℕ, Bool, true, false, ◌⊎◌, List, IfSome, IfOk, if◌then◌else◌, Some, None, Ok, Err}
+use Rattle.std.proofs.Common.{Option, Result, sym, subst, inl, inr}
+use Rattle.{im_disk.specs.declared.Disk.Ghosts as DiskGhosts, im_disk.specs.Moment.Moment, im_words.specs.Words.Task}
 use Rattle.im_program.specs.Sources.{IsTextOf}
 use Rattle.im_program.specs.Working.{MakesImage, ScriptServed, ScriptServes, TextServed, WasDone}
 

@@ -1,18 +1,13 @@
 -- Work on a disk that was told to a writer. (Own.)
-use Rattle.std.proofs.Common.{◌≡◌, ◌⊎◌, inl, inr, ℕ, List, [], IfSome, sym, subst}
-use Rattle.std.specs.Prelude.{if◌then◌else◌, is_ok, IfNone, OnOk, Option, None, Some, Result, Ok, Err}
+use Rattle.std.proofs.Common.{◌≡◌, ℕ, ◌⊎◌, List, [], IfSome, IfNone, is_ok, if◌then◌else◌, OnOk, Some, None, Ok, Err}
+use Rattle.std.proofs.Common.{Option, Result, sym, subst, inl, inr}
 use Rattle.std.specs.Io.KnownBytes.{Appends}
-use Rattle.im_disk.specs.declared.disk.Disk.{Ghosts as DiskGhosts}
-use Rattle.im_disk.specs.declared.file.FileDisk.{FileDisk}
-use Rattle.im_disk.specs.declared.start.Start.{Ghosts}
-use Rattle.im_text.specs.Printing.{Begins}
-use Rattle.im_filters.specs.declared.telling.Telling.{Telling}
-use Rattle.im_filters.specs.Tellings.{ToldIn, sifted}
-use Rattle.im_filters.proofs.ToldLemmas.{told_in}
-use Rattle.im_program.specs.Places.{IsOldOf, IsOpenAt, file_of}
-use Rattle.im_program.specs.Told.{TaskTold}
+use Rattle.im_disk.specs.declared.{Disk.Ghosts as DiskGhosts, FileDisk.FileDisk, Start.Ghosts}
+use Rattle.{im_text.specs.Printing.Begins, im_filters.proofs.ToldLemmas.told_in}
+use Rattle.im_filters.specs.{declared.Telling.Telling, Tellings.sifted, Tellings.ToldIn}
+use Rattle.im_words.specs.Words.{demonstration, Task}
+use Rattle.im_program.specs.{Places.file_of, Places.IsOldOf, Places.IsOpenAt, Told.TaskTold}
 use Rattle.im_program.specs.Working.{DoneOn, HasMoved, IsOfTwo, WasDone}
-use Rattle.im_words.specs.Words.{Task, demonstration}
 
 -- what the work comes to under a premise, if a disk was opened
 told_if : {D T E : Type 0} (premise : D → Type 0)

@@ -1,30 +1,19 @@
 -- What a sieve tells of a trace. (Own.)
-use Rattle.std.proofs.Common.{◌≡◌, ◌∙◌, ℕ, zero, suc, false, true, List, [], ◌++◌, length, refl, sym, ap, subst}
-use Rattle.std.proofs.Common.{take}
-use Rattle.std.specs.Prelude.{codes, decimal, OnOk, IsOk, Option, None, Some, Result, Ok, Err, slice_get}
-use Rattle.std.specs.Io.KnownBytes.{Appends}
-use Rattle.std.proofs.KnownBytes.{Appends-nil}
-use Rattle.im_types.proofs.Tests.{false_true}
-use Rattle.im_types.specs.declared.commands.Command.TheVariants.{Request as Asks, Confirm}
-use Rattle.im_types.specs.declared.commands.Outcome.{Outcome}
-use Rattle.im_types.specs.declared.commands.Outcome.TheVariants.{Entry as Tells, Confirmed}
-use Rattle.im_types.specs.declared.commands.Call.{Call}
-use Rattle.im_types.specs.declared.commands.Call.TheVariants.{Command as Commands, Collect}
-use Rattle.im_types.specs.declared.commands.Line.{Line}
-use Rattle.im_types.specs.declared.refusals.Refusal.{Refusal}
-use Rattle.im_types.specs.Refusals.{number_of}
-use Rattle.im_text.specs.Printing.{Begins}
-use Rattle.im_filters.specs.declared.telling.Telling.{Telling}
-use Rattle.im_filters.specs.declared.telling.Telling.TheVariants.{Calls}
-use Rattle.im_filters.specs.Tellings.{IsCallTold, IsSaid, IsSifted, sifted}
+use Rattle.std.proofs.Common.{◌≡◌, ℕ, zero, suc, true, false, List, [], ◌++◌, length, take, OnOk, IsOk, slice_get, Some}
+use Rattle.std.proofs.Common.{None, Ok, Err, codes, decimal, Option, Result, sym, refl, ap, ◌∙◌, subst}
+use Rattle.std.{proofs.KnownBytes.Appends-nil, specs.Io.KnownBytes.Appends}
+use Rattle.im_types.specs.Types.{Outcome, Call, Line, Asks, Confirm, Tells, Confirmed, Commands, Collect, Refusal}
+use Rattle.im_types.specs.Types.{number_of}
+use Rattle.{im_types.proofs.Tests.false_true, im_text.specs.Printing.Begins, im_filters.proofs.LineLemmas.entry_words}
 use Rattle.im_filters.proofs.CallLemmas.{collect_told, confirm_told, refusal_said, request_told}
-use Rattle.im_filters.proofs.LineLemmas.{entry_words}
 use Rattle.im_filters.proofs.TextLemmas.{sifted_begins, sifted_both, sifted_whole}
-use Rattle.im_run.specs.Tracing.{BeginsMarked, IsMarkedText, IsTraceText, Since, TraceState, WritesMarked, call_text}
-use Rattle.im_run.specs.Tracing.{marked_line, outcome_text, trace_lines, trace_text, unmarked}
+use Rattle.im_filters.specs.declared.Telling.{Telling, TheVariants.Calls}
+use Rattle.im_filters.specs.Tellings.{IsCallTold, IsSaid, IsSifted, sifted}
 use Rattle.im_run.proofs.TracingLemmas.{none_stands}
-use Rattle.im_program.specs.Traced.{AreObjects, BeginsTraced, IsTracedAs, WritesTraced, object_with, members_of_call}
-use Rattle.im_program.specs.Traced.{outcome_operand, outcome_word}
+use Rattle.im_run.specs.Tracing.{BeginsMarked, call_text, IsMarkedText, IsTraceText, marked_line, outcome_text, Since}
+use Rattle.im_run.specs.Tracing.{trace_lines, trace_text, TraceState, unmarked, WritesMarked}
+use Rattle.im_program.specs.Traced.{AreObjects, BeginsTraced, IsTracedAs, members_of_call, object_with, outcome_operand}
+use Rattle.im_program.specs.Traced.{outcome_word, WritesTraced}
 
 said : (answer : Result Outcome Refusal) → IsSaid (outcome_text answer) (outcome_word answer) (outcome_operand answer)
 said (Ok (Tells entry)) = let w = entry_words entry in record { head = w.head; tail = w.tail; ends = w.ends }

@@ -1,8 +1,7 @@
 -- A transfer is a task that opens two files.
-use Rattle.std.proofs.Common.{◌≡◌, ◌⊎◌, inl, inr, ℕ, List, refl}
-use Rattle.im_migration.specs.declared.asked.Asked.{Asked}
-use Rattle.im_words.specs.declared.words.Transfer.{Transfer}
-use Rattle.im_words.specs.declared.words.Transfer.TheVariants.{Migrate, Copy}
+use Rattle.std.proofs.Common.{◌≡◌, ℕ, ◌⊎◌, List, refl, inl, inr}
+use Rattle.im_migration.specs.declared.Asked.{Asked}
+use Rattle.im_words.specs.declared.Transfer.{TheVariants.Copy, TheVariants.Migrate, Transfer}
 use Rattle.im_words.specs.Words.{copy, migrate, task_of_transfer}
 use Rattle.im_program.specs.Working.{IsOfTwo}
 

@@ -1,13 +1,10 @@
 -- How the program ends. (Own.)
-use Rattle.std.specs.Prelude.{◌≡◌, ◌≢◌, ◌⊎◌, ◌≤◌, ℕ, Bool, true, false, List, Option, Some, IsSome}
+use Rattle.std.specs.Prelude.{◌≡◌, ℕ, ◌≤◌, Bool, true, false, ◌≢◌, ◌⊎◌, List, IsSome, Some, Option}
 use Rattle.clap.specs.Words.{takes}
-use Rattle.im_disk.specs.declared.disk.Disk.{Ghosts as DiskGhosts}
-use Rattle.im_disk.specs.declared.file.FileDisk.{FileDisk}
-use Rattle.im_disk.specs.declared.start.Start.{Ghosts}
-use Rattle.im_filters.specs.declared.telling.Telling.{Telling}
+use Rattle.im_disk.specs.declared.{Disk.Ghosts as DiskGhosts, FileDisk.FileDisk, Start.Ghosts}
+use Rattle.{im_filters.specs.declared.Telling.Telling, im_words.specs.declared.CommandLine.CommandLine}
+use Rattle.im_words.specs.Words.{asks_statuses, asks_task, asks_telling, asks_wait, imem_app, Task, task_of_work}
 use Rattle.im_program.specs.Told.{TaskTold}
-use Rattle.im_words.specs.declared.words.CommandLine.{CommandLine}
-use Rattle.im_words.specs.Words.{Task, asks_statuses, asks_task, asks_telling, asks_wait, imem_app, task_of_work}
 
 -- The exit status of work with this status: the same, but 1, 4 or 5 for a refusal if refusals are told apart.
 pub record EndsAs (statuses : Bool) (status result : ℕ) : Type 0 where

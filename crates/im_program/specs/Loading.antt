@@ -1,25 +1,13 @@
 -- What a new file is given of the text of a dump. (Own.)
-use Rattle.std.specs.Prelude.{◌≡◌, ◌⊎◌, ℕ, List, ◌∷◌, Option, codes}
+use Rattle.std.specs.Prelude.{◌≡◌, ℕ, ◌⊎◌, List, ◌∷◌, codes, Option}
 use Rattle.std.specs.Io.KnownBytes.{Appends}
-use Rattle.im_types.specs.declared.refusals.Refusal.{Refusal}
-use Rattle.im_types.specs.declared.refusals.Refusal.TheVariants.{BadLimits, BadScript, NoMemory}
-use Rattle.im_types.specs.Contents.{Contents}
-use Rattle.im_types.specs.Layout.{sizes_of}
-use Rattle.im_disk.specs.declared.file.FileDisk.{FileDisk}
-use Rattle.im_disk.specs.declared.start.Start.{Ghosts}
-use Rattle.im_disk.specs.Account.{IsHonest}
-use Rattle.im_disk.specs.File.{account_of}
-use Rattle.im_disk.specs.Moment.{Moment, Left, LeftSince}
-use Rattle.im_disk.specs.Since.{LeavesNow}
-use Rattle.im_image.specs.Headers.{seen}
-use Rattle.im_dump.specs.declared.loading.Loaded.{Loaded}
-use Rattle.im_dump.specs.Dumping.{IsDumpOf}
-use Rattle.im_migration.specs.declared.asked.Asked.{Asked}
-use Rattle.im_migration.specs.declared.resized.Resized.{Resized}
+use Rattle.im_types.specs.Types.{Refusal, NoMemory, BadLimits, BadScript, Contents, sizes_of}
+use Rattle.im_disk.specs.{Account.IsHonest, declared.FileDisk.FileDisk, declared.Start.Ghosts, File.account_of}
+use Rattle.im_disk.specs.{Moment.Left, Moment.LeftSince, Moment.Moment, Since.LeavesNow}
+use Rattle.{im_image.specs.Headers.seen, im_dump.specs.declared.Loaded.Loaded, im_dump.specs.Dumping.IsDumpOf}
+use Rattle.im_migration.specs.{declared.Asked.Asked, declared.Resized.Resized, Resizing.IsResized, Resizing.sizes_asked}
 use Rattle.im_migration.specs.Migration.{IsBlank, IsLaidDown, MayRefusePlace, moved_header}
-use Rattle.im_migration.specs.Resizing.{IsResized, sizes_asked}
-use Rattle.im_program.specs.Moving.{counted_line}
-use Rattle.im_program.specs.Sources.{IsTextOf}
+use Rattle.im_program.specs.{Moving.counted_line, Sources.IsTextOf}
 
 -- the file is an image of the sizes that are asked for, and means what was loaded, after as many commands
 pub record MeansLoad (asked : Asked) (l : Loaded) (file : List ℕ) : Type 0 where

@@ -1,17 +1,12 @@
 -- What a new file is given of an old one. (Own.)
-use Rattle.std.specs.Prelude.{◌≡◌, ◌⊎◌, ℕ, List, [], ◌∷◌, ◌++◌, Option, codes, decimal, replicate}
+use Rattle.std.specs.Prelude.{◌≡◌, ℕ, ◌⊎◌, List, [], ◌∷◌, ◌++◌, replicate, codes, decimal, Option}
 use Rattle.std.specs.Io.KnownBytes.{Appends}
-use Rattle.im_types.specs.Layout.{Layout, layout_1, layout_in_use}
-use Rattle.im_disk.specs.declared.file.FileDisk.{FileDisk}
-use Rattle.im_disk.specs.declared.start.Start.{Ghosts}
-use Rattle.im_disk.specs.Account.{IsHonest}
-use Rattle.im_disk.specs.File.{account_of}
-use Rattle.im_disk.specs.Moment.{Left, LeftSince}
-use Rattle.im_disk.specs.Since.{LeavesNow, ReadsOnly}
-use Rattle.im_text.specs.Texts.{line_feed}
+use Rattle.im_types.specs.Types.{Layout, layout_1, layout_in_use}
+use Rattle.im_disk.specs.{Account.IsHonest, declared.FileDisk.FileDisk, declared.Start.Ghosts, File.account_of}
+use Rattle.im_disk.specs.{Moment.Left, Moment.LeftSince, Since.LeavesNow, Since.ReadsOnly}
+use Rattle.im_migration.specs.{Copying.MeansCopy, declared.Asked.Asked}
 use Rattle.im_migration.specs.Migration.{HasCountIn, IsBlank, MeansSame}
-use Rattle.im_migration.specs.Copying.{MeansCopy}
-use Rattle.im_migration.specs.declared.asked.Asked.{Asked}
+use Rattle.im_text.specs.Texts.{line_feed}
 
 -- WORD COUNT
 abbrev pub counted_line : List ℕ → ℕ → List ℕ

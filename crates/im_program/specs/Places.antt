@@ -1,8 +1,8 @@
 -- At which path a file was opened. (Own.)
 use Rattle.std.specs.Prelude.{◌≡◌, ℕ, List, []}
-use Rattle.im_disk.specs.declared.disk.Disk.{Ghosts as DiskGhosts}
+use Rattle.im_disk.specs.declared.Disk.{Ghosts as DiskGhosts}
+use Rattle.im_words.specs.Words.{copy, demonstration, dump, format, inspect, load, migrate, run, serial, serve, Task}
 use Rattle.im_program.specs.Working.{IsOfTwo}
-use Rattle.im_words.specs.Words.{Task, demonstration, format, serial, run, serve, inspect, migrate, copy, dump, load}
 
 -- The disk's file was opened at this path, if it is honest: the path that its start names is this one.
 abbrev pub IsOpenAt : {D : Type 0} → DiskGhosts D → List ℕ → List ℕ → D → Type 0

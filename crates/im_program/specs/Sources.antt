@@ -1,6 +1,5 @@
 -- Where the program reads a text: from a file, or from standard input. (Own.)
-use Rattle.std.specs.Prelude.{◌≡◌, ℕ, List, Option, None, IfSome, codes, if◌then◌else◌}
-use Rattle.std.specs.Str.{bytes_eq}
+use Rattle.std.specs.Prelude.{◌≡◌, ℕ, List, IfSome, if◌then◌else◌, None, codes, bytes_eq, Option}
 
 -- The bytes at a path, where they are known: those that the input gives for the path "-". Of a file nothing is known.
 abbrev pub bytes_at : List ℕ → Option (List ℕ) → Option (List ℕ)

@@ -1,14 +1,9 @@
 -- What work comes to that is told to a writer. (Own.)
-use Rattle.std.specs.Prelude.{◌≡◌, ◌⊎◌, ℕ, List, Option, IfSome, IfNone}
-use Rattle.im_disk.specs.declared.disk.Disk.{Ghosts as DiskGhosts}
-use Rattle.im_disk.specs.declared.file.FileDisk.{FileDisk}
-use Rattle.im_disk.specs.declared.start.Start.{Ghosts}
-use Rattle.im_disk.specs.Moment.{Moment}
-use Rattle.im_filters.specs.declared.telling.Telling.{Telling}
-use Rattle.im_filters.specs.Tellings.{ToldIn}
-use Rattle.im_words.specs.declared.words.CommandLine.{CommandLine}
-use Rattle.im_words.specs.Words.{Task, demonstration, task_of_work}
-use Rattle.im_program.specs.Places.{IsOldOf, IsOpenAt, file_of}
+use Rattle.std.specs.Prelude.{◌≡◌, ℕ, ◌⊎◌, List, IfSome, IfNone, Option}
+use Rattle.im_disk.specs.declared.{Disk.Ghosts as DiskGhosts, FileDisk.FileDisk, Start.Ghosts}
+use Rattle.{im_disk.specs.Moment.Moment, im_filters.specs.declared.Telling.Telling, im_filters.specs.Tellings.ToldIn}
+use Rattle.im_words.specs.{declared.CommandLine.CommandLine, Words.demonstration, Words.Task, Words.task_of_work}
+use Rattle.im_program.specs.Places.{file_of, IsOldOf, IsOpenAt}
 use Rattle.im_program.specs.Working.{DoneOn, HasMoved, IsOfTwo}
 
 -- a task was done on this disk, if one was opened and is honest, and told to a writer

@@ -1,19 +1,12 @@
 -- The trace of a run as objects of JSON. (Own.)
-use Rattle.std.specs.Prelude.{◌≡◌, ℕ, zero, suc, Bool, true, false, List, [], ◌++◌, length, codes, decimal}
-use Rattle.std.specs.Prelude.{Option, None, Some, Result, Ok, Err, slice_get}
+use Rattle.std.specs.Prelude.{◌≡◌, ℕ, zero, suc, Bool, true, false, List, [], ◌++◌, length, slice_get, Some, None, Ok}
+use Rattle.std.specs.Prelude.{Err, codes, decimal, Option, Result}
 use Rattle.std.specs.Io.KnownBytes.{Appends}
-use Rattle.im_types.specs.declared.commands.Command.TheVariants.{Request as Asks, Confirm}
-use Rattle.im_types.specs.declared.commands.Outcome.{Outcome}
-use Rattle.im_types.specs.declared.commands.Outcome.TheVariants.{Entry as Tells, Confirmed}
-use Rattle.im_types.specs.declared.commands.Call.{Call}
-use Rattle.im_types.specs.declared.commands.Call.TheVariants.{Command as Commands, Collect}
-use Rattle.im_types.specs.declared.commands.Line.{Line}
-use Rattle.im_types.specs.declared.refusals.Refusal.{Refusal}
-use Rattle.im_types.specs.Refusals.{number_of}
-use Rattle.im_text.specs.Printing.{Begins}
+use Rattle.im_types.specs.Types.{Outcome, Call, Line, Asks, Confirm, Tells, Confirmed, Commands, Collect, Refusal}
+use Rattle.im_types.specs.Types.{number_of}
+use Rattle.{im_text.specs.Printing.Begins, im_filters.specs.Objects.entry_operand, im_filters.specs.Objects.entry_word}
 use Rattle.im_filters.specs.Calls.{answered_members, asking_members, mark_members, noting_members}
-use Rattle.im_filters.specs.Objects.{entry_operand, entry_word}
-use Rattle.im_run.specs.Tracing.{MayStand, Since, TraceState, trace_lines, trace_text}
+use Rattle.im_run.specs.Tracing.{MayStand, Since, trace_lines, trace_text, TraceState}
 
 -- the members of a call: its element, its number, its word and what it asks for
 abbrev pub members_of_call : Call → List ℕ

@@ -1,30 +1,15 @@
 -- The result of each kind of work. (Own.)
-use Rattle.std.specs.Prelude.{◌≡◌, ℕ, Bool, true, false, List, [], Option, None, Some, IfSome, IfOk, Result}
-use Rattle.im_types.specs.Layout.{Sizes}
-use Rattle.im_types.specs.Sizes.{AreLimits}
-use Rattle.im_disk.specs.declared.disk.Disk.{Ghosts as DiskGhosts}
-use Rattle.im_disk.specs.declared.file.FileDisk.{FileDisk}
-use Rattle.im_disk.specs.declared.start.Start.{Ghosts}
-use Rattle.im_disk.specs.Moment.{Moment}
-use Rattle.im_disk.specs.Since.{LeavesNow, ReadsOnly}
-use Rattle.im_image.specs.Fresh.{new_image}
-use Rattle.im_report.specs.Look.{ShowsView}
-use Rattle.im_serial.specs.Once.{SerialOnceOn}
-use Rattle.im_serial.specs.Serving.{SerialOn}
-use Rattle.im_dialogue.specs.Backups.{Backup}
-use Rattle.im_dialogue.specs.Dialogue.{TalkedFrom}
-use Rattle.im_dialogue.specs.Talk.{Outputs, outputs, with_input}
-use Rattle.im_run.specs.Once.{RunsWhen}
-use Rattle.im_run.specs.Tracing.{TraceState}
-use Rattle.im_dump.specs.Dumping.{Dumps}
-use Rattle.im_program.specs.Loading.{LoadedFrom}
+use Rattle.std.specs.Prelude.{◌≡◌, ℕ, Bool, true, false, List, [], IfSome, IfOk, Some, None, Option, Result}
+use Rattle.{im_types.specs.Types.AreLimits, im_types.specs.Types.Sizes, im_image.specs.Fresh.new_image}
+use Rattle.{im_report.specs.Look.ShowsView, im_dump.specs.Dumping.Dumps, im_serial.specs.Once.SerialOnceOn}
+use Rattle.{im_serial.specs.Serving.SerialOn, im_run.specs.Once.RunsWhen, im_run.specs.Tracing.TraceState}
+use Rattle.im_disk.specs.declared.{Disk.Ghosts as DiskGhosts, FileDisk.FileDisk, Start.Ghosts}
+use Rattle.im_disk.specs.{Moment.Moment, Since.LeavesNow, Since.ReadsOnly}
+use Rattle.im_dialogue.specs.{Backups.Backup, Dialogue.TalkedFrom, Talk.Outputs, Talk.outputs, Talk.with_input}
+use Rattle.im_words.specs.declared.{Loading.Loading, ScriptRun.ScriptRun, Serving.Serving, Talking.Talking}
+use Rattle.im_words.specs.Words.{copy, demonstration, dump, format, inspect, load, migrate, run, serial, serve, Task}
+use Rattle.im_program.specs.{Loading.LoadedFrom, Sources.bytes_at, Sources.IsTextOf}
 use Rattle.im_program.specs.Moving.{CopiedFrom, MigratedFrom}
-use Rattle.im_program.specs.Sources.{IsTextOf, bytes_at}
-use Rattle.im_words.specs.declared.words.Loading.{Loading}
-use Rattle.im_words.specs.declared.words.ScriptRun.{ScriptRun}
-use Rattle.im_words.specs.declared.words.Serving.{Serving}
-use Rattle.im_words.specs.declared.words.Talking.{Talking}
-use Rattle.im_words.specs.Words.{Task, demonstration, format, serial, run, serve, inspect, migrate, copy, dump, load}
 
 -- each file that a crash leaves on this disk is the new image of these sizes, byte for byte
 abbrev pub HoldsNewImage : {D : Type 0} → DiskGhosts D → Sizes → D → Type 0

@@ -1,10 +1,8 @@
 //! Keeps the backups of a dialogue in a folder.
-ghost use Rattle.std.specs.Prelude.{◌≡◌, ◌≤◌, ◌++◌, ◌∷◌, [], true, codes, IfOk, IfSome, OnErr, OnOk, string_bytes};
-ghost use Rattle.im_types.specs.declared.TheConstants.{LAST};
-ghost use Rattle.im_types.specs.Layout.{sizes_of};
-ghost use Rattle.im_image.specs.Reading.{HasSizes};
+ghost use Rattle.std.specs.Prelude.{◌≡◌, ◌≤◌, true, [], ◌∷◌, ◌++◌, IfSome, IfOk, OnOk, OnErr, string_bytes, codes};
+ghost use Rattle.im_types.specs.Types.{LAST, sizes_of};
+ghost use Rattle.{im_image.specs.Reading.HasSizes, im_dialogue.specs.Backups.bytes_of};
 ghost use Rattle.im_migration.specs.Migration.{LeavesLaid, moved_header};
-ghost use Rattle.im_dialogue.specs.Backups.{bytes_of};
 ghost use Rattle.im_program.specs.Places.{IsOpenAt};
 
 use crate::descriptors::Descriptors;

@@ -1,10 +1,9 @@
 //! Copies an image to a new file, in other sizes if they are asked for.
-ghost use Rattle.std.specs.Prelude.{◌≡◌, ◌≤◌, codes, IfOk, IfErr, OnErr, OnOk};
+ghost use Rattle.std.specs.Prelude.{◌≡◌, ◌≤◌, IfOk, IfErr, OnOk, OnErr, codes};
 ghost use Rattle.std.specs.Io.KnownBytes.{Keeps};
 ghost use Rattle.im_disk.specs.Runs.{ReadsAlone};
 ghost use Rattle.im_migration.specs.Copying.{MayRefuseCopy, MayRefuseSource};
-ghost use Rattle.im_program.specs.Moving.{CopiedFrom};
-ghost use Rattle.im_program.specs.Places.{IsOpenAt};
+ghost use Rattle.im_program.specs.{Moving.CopiedFrom, Places.IsOpenAt};
 
 use crate::hand::AtHand;
 use crate::moving::{place_at, print_counted, source_at};

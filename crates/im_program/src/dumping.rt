@@ -1,10 +1,8 @@
 //! Prints the dump of an image.
 ghost use Rattle.std.specs.Prelude.{◌≡◌, ◌≤◌, [], IfOk, IfErr, OnErr};
 ghost use Rattle.std.specs.Io.KnownBytes.{Keeps};
-ghost use Rattle.im_types.specs.declared.refusals.Refusal.TheVariants.{Device};
-ghost use Rattle.im_disk.specs.Since.{ReadsOnly};
-ghost use Rattle.im_disk.specs.Runs.{ReadsAlone};
-ghost use Rattle.im_dump.specs.Dumping.{Dumps};
+ghost use Rattle.{im_types.specs.Types.Device, im_dump.specs.Dumping.Dumps};
+ghost use Rattle.im_disk.specs.{Runs.ReadsAlone, Since.ReadsOnly};
 ghost use Rattle.im_program.specs.Places.{IsOpenAt};
 
 use crate::hand::AtHand;

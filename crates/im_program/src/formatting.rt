@@ -1,10 +1,7 @@
 //! Makes an image.
-ghost use Rattle.std.specs.Prelude.{◌≡◌, ◌⊎◌, ◌≤◌, ◌↔◌, IsOk, IfOk, IfErr};
-ghost use Rattle.im_types.specs.declared.refusals.Refusal.TheVariants.{Device, NoMemory, WrongLength};
-ghost use Rattle.im_types.specs.Layout.{sizes_of};
-ghost use Rattle.im_types.specs.Sizes.{AreLimits};
-ghost use Rattle.im_program.specs.Places.{IsOpenAt};
-ghost use Rattle.im_program.specs.Working.{WasFormatted, WasMade};
+ghost use Rattle.std.specs.Prelude.{◌≡◌, ◌≤◌, ◌⊎◌, ◌↔◌, IfOk, IfErr, IsOk};
+ghost use Rattle.im_types.specs.Types.{Device, NoMemory, WrongLength, AreLimits, sizes_of};
+ghost use Rattle.im_program.specs.{Places.IsOpenAt, Working.WasFormatted, Working.WasMade};
 
 use crate::hand::AtHand;
 use crate::opening::{format_reason, give_up, refusal_of};

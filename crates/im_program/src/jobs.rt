@@ -1,8 +1,7 @@
 //! Does the work of one thread on one file.
-ghost use Rattle.std.specs.Prelude.{◌≡◌, ◌⊎◌, ◌≤◌, IfOk, IfSome, IfNone};
+ghost use Rattle.std.specs.Prelude.{◌≡◌, ◌≤◌, ◌⊎◌, IfSome, IfNone, IfOk};
 ghost use Rattle.im_words.specs.Words.{task_of_job};
-ghost use Rattle.im_program.specs.Places.{IsOpenAt, file_of};
-ghost use Rattle.im_program.specs.Working.{MakesImage, WasDone};
+ghost use Rattle.im_program.specs.{Places.file_of, Places.IsOpenAt, Working.MakesImage, Working.WasDone};
 
 use crate::advice::tell_what_there_is;
 use crate::backups::Folder;

@@ -1,14 +1,10 @@
 //! Makes an image of the text of a dump.
-ghost use Rattle.std.specs.Prelude.{◌≡◌, ◌⊎◌, ◌≤◌, ℕ, List, IfOk, IfErr, OnErr};
+ghost use Rattle.std.specs.Prelude.{◌≡◌, ℕ, ◌≤◌, ◌⊎◌, List, IfOk, IfErr, OnErr};
 ghost use Rattle.std.specs.Io.KnownBytes.{Keeps};
-ghost use Rattle.im_types.specs.declared.refusals.Refusal.TheVariants.{BadLimits, NoMemory};
-ghost use Rattle.im_dump.specs.Dumping.{IsDumpOf};
-ghost use Rattle.im_migration.specs.Copying.{IsWhole};
-ghost use Rattle.im_migration.specs.Migration.{MayRefusePlace};
-ghost use Rattle.im_program.specs.Loading.{IsReadied, IsPutInto, MayRefuseLoad, MayRefuseText};
-ghost use Rattle.im_program.specs.Places.{IsOpenAt};
-ghost use Rattle.im_program.specs.Sources.{IsTextOf, bytes_at};
-ghost use Rattle.im_program.specs.Working.{WasLoaded};
+ghost use Rattle.{im_types.specs.Types.NoMemory, im_types.specs.Types.BadLimits, im_dump.specs.Dumping.IsDumpOf};
+ghost use Rattle.im_migration.specs.{Copying.IsWhole, Migration.MayRefusePlace};
+ghost use Rattle.im_program.specs.Loading.{IsPutInto, IsReadied, MayRefuseLoad, MayRefuseText};
+ghost use Rattle.im_program.specs.{Places.IsOpenAt, Sources.bytes_at, Sources.IsTextOf, Working.WasLoaded};
 
 use crate::descriptors::Descriptors;
 use crate::hand::AtHand;

@@ -1,9 +1,7 @@
 //! Prints what an image means.
 ghost use Rattle.std.specs.Prelude.{◌≡◌, ◌≤◌, [], IfOk, IfErr, OnErr};
 ghost use Rattle.std.specs.Io.KnownBytes.{Keeps};
-ghost use Rattle.im_types.specs.declared.refusals.Refusal.TheVariants.{Device};
-ghost use Rattle.im_disk.specs.Since.{ReadsOnly};
-ghost use Rattle.im_report.specs.Look.{ShowsView};
+ghost use Rattle.{im_types.specs.Types.Device, im_disk.specs.Since.ReadsOnly, im_report.specs.Look.ShowsView};
 ghost use Rattle.im_program.specs.Places.{IsOpenAt};
 
 use crate::hand::AtHand;

@@ -1,14 +1,11 @@
 //! Moves an image of the first layout version to a new file.
-ghost use Rattle.std.specs.Prelude.{◌≡◌, ◌≤◌, codes, IfOk, IfErr, OnOk, OnErr, string_bytes};
+ghost use Rattle.std.specs.Prelude.{◌≡◌, ◌≤◌, IfOk, IfErr, OnOk, OnErr, string_bytes, codes};
 ghost use Rattle.std.specs.Io.KnownBytes.{Appends, Keeps};
-ghost use Rattle.im_types.specs.declared.refusals.Refusal.TheVariants.{Device};
-ghost use Rattle.im_types.specs.Layout.{layout_1};
-ghost use Rattle.im_disk.specs.Since.{LeavesNow};
-ghost use Rattle.im_disk.specs.Runs.{ReadsAlone};
-ghost use Rattle.im_image.specs.Headers.{MayRefuseImage};
+ghost use Rattle.{im_types.specs.Types.Device, im_types.specs.Types.layout_1, im_image.specs.Headers.MayRefuseImage};
+ghost use Rattle.im_disk.specs.{Runs.ReadsAlone, Since.LeavesNow};
 ghost use Rattle.im_migration.specs.Migration.{LeavesBlankOrSame, MeansSame};
+ghost use Rattle.im_program.specs.Moving.{BeginsNew, BeginsOld, counted_line, MigratedFrom, TellsCount};
 ghost use Rattle.im_program.specs.Places.{IsOpenAt};
-ghost use Rattle.im_program.specs.Moving.{BeginsNew, BeginsOld, MigratedFrom, TellsCount, counted_line};
 
 use crate::hand::AtHand;
 use crate::opening::{image_to_read, is_one_file, reason_of};

@@ -1,10 +1,7 @@
 //! Why a file wasn't made, opened or written, in the words for a person; and how it is given up.
-ghost use Rattle.std.specs.Prelude.{◌≡◌, [], false, not, IfOk, IfErr};
-ghost use Rattle.im_types.specs.declared.refusals.Refusal.{Refusal};
-ghost use Rattle.im_disk.specs.File.{has_failed_sync};
-ghost use Rattle.im_files.specs.Notes.{is_unneeded};
-ghost use Rattle.im_program.specs.Moving.{BeginsOld};
-ghost use Rattle.im_program.specs.Places.{IsOpenAt};
+ghost use Rattle.std.specs.Prelude.{◌≡◌, false, not, [], IfOk, IfErr};
+ghost use Rattle.{im_types.specs.Types.Refusal, im_disk.specs.File.has_failed_sync, im_files.specs.Notes.is_unneeded};
+ghost use Rattle.im_program.specs.{Moving.BeginsOld, Places.IsOpenAt};
 
 use crate::mounts::has_turned_read_only;
 use im_damage::Damage;

@@ -1,10 +1,9 @@
 //! Runs a script, the requests of each element by threads of its own.
-ghost use Rattle.std.specs.Prelude.{◌≡◌, ◌⊎◌, ◌≤◌, IfOk, IfErr, OnErr, IfSome, IfNone, IsSome, is_some, true};
+ghost use Rattle.std.specs.Prelude.{◌≡◌, ◌≤◌, true, ◌⊎◌, is_some, IfSome, IfNone, IfOk, IfErr, OnErr, IsSome};
 ghost use Rattle.std.specs.Io.KnownBytes.{Keeps};
-ghost use Rattle.im_types.specs.declared.refusals.Refusal.TheVariants.{BadScript, Device, NoMemory};
+ghost use Rattle.im_types.specs.Types.{Device, NoMemory, BadScript};
 ghost use Rattle.im_run.specs.Once.{RunsWhen};
-ghost use Rattle.im_program.specs.Places.{IsOpenAt};
-ghost use Rattle.im_program.specs.Working.{RanAs, WasRun};
+ghost use Rattle.im_program.specs.{Places.IsOpenAt, Working.RanAs, Working.WasRun};
 
 use crate::console::Console;
 use crate::hand::AtHand;

@@ -1,8 +1,7 @@
 //! Reads the text of a script.
-ghost use Rattle.std.specs.Prelude.{◌≡◌, ◌⊎◌, IfErr, IfOk, codes};
-ghost use Rattle.std.specs.Str.{bytes_eq};
-ghost use Rattle.im_types.specs.declared.refusals.Refusal.TheVariants.{BadScript, NoMemory};
-ghost use Rattle.im_program.specs.Sources.{IsTextOf, bytes_at};
+ghost use Rattle.std.specs.Prelude.{◌≡◌, ◌⊎◌, IfOk, IfErr, codes, bytes_eq};
+ghost use Rattle.im_types.specs.Types.{NoMemory, BadScript};
+ghost use Rattle.im_program.specs.Sources.{bytes_at, IsTextOf};
 
 use crate::descriptors::Descriptors;
 use im_script::{Script, ScriptFault, TextFault, read_script, read_script_with_glances, read_text};

@@ -1,9 +1,8 @@
 //! Serves the requests of a script in their order.
-ghost use Rattle.std.specs.Prelude.{◌≡◌, ◌⊎◌, ◌≤◌, IfOk, IfErr, OnErr};
+ghost use Rattle.std.specs.Prelude.{◌≡◌, ◌≤◌, ◌⊎◌, IfOk, IfErr, OnErr};
 ghost use Rattle.std.specs.Io.KnownBytes.{Keeps};
-ghost use Rattle.im_types.specs.declared.refusals.Refusal.TheVariants.{BadScript, Device, NoMemory};
-ghost use Rattle.im_program.specs.Places.{IsOpenAt};
-ghost use Rattle.im_program.specs.Working.{WasScriptServed, WasTextServed};
+ghost use Rattle.im_types.specs.Types.{Device, NoMemory, BadScript};
+ghost use Rattle.im_program.specs.{Places.IsOpenAt, Working.WasScriptServed, Working.WasTextServed};
 
 use crate::hand::AtHand;
 use crate::opening::image_at;

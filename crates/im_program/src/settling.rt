@@ -1,7 +1,6 @@
 //! Leaves the note of a failed sync, and prints which call on a file failed.
 ghost use Rattle.std.specs.Prelude.{◌≡◌, not, IfSome};
-ghost use Rattle.im_disk.specs.Failing.{is_of_sync};
-ghost use Rattle.im_files.specs.Notes.{is_unneeded};
+ghost use Rattle.{im_disk.specs.Failing.is_of_sync, im_files.specs.Notes.is_unneeded};
 ghost use Rattle.im_program.specs.Places.{IsOpenAt};
 
 use crate::console::Console;

@@ -1,8 +1,7 @@
 //! The backups that were kept, as contracts know them.
 ghost use Rattle.std.specs.Prelude.{◌≡◌, ◌∷◌};
-ghost use Rattle.im_types.specs.Layout.{sizes_of};
+ghost use Rattle.{im_types.specs.Types.sizes_of, im_dialogue.specs.Backups.bytes_of};
 ghost use Rattle.im_migration.specs.Migration.{LeavesLaid, moved_header};
-ghost use Rattle.im_dialogue.specs.Backups.{bytes_of};
 
 use im_dialogue::BackupName;
 use im_disk::{Disk, FileDisk, Start};

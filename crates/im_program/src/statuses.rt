@@ -1,8 +1,7 @@
 //! The status that the program ends with.
-ghost use Rattle.std.specs.Prelude.{◌≡◌, ◌≢◌, ◌⊎◌, ◌≤◌, Some, true, false};
-ghost use Rattle.im_damage.specs.declared.damage.Damage.{Damage};
+ghost use Rattle.std.specs.Prelude.{◌≡◌, ◌≤◌, true, false, ◌≢◌, ◌⊎◌, Some};
+ghost use Rattle.{im_types.specs.Types.Refusal, im_damage.specs.declared.Damage.Damage};
 ghost use Rattle.im_text.specs.Statuses.{status_of_image};
-ghost use Rattle.im_types.specs.declared.refusals.Refusal.{Refusal};
 
 use im_text::{PathFault, Reason};
 

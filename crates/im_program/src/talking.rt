@@ -1,11 +1,8 @@
 //! Serves a dialogue.
-ghost use Rattle.std.specs.Prelude.{◌≡◌, ◌≤◌, IfOk, IfErr, OnErr};
-ghost use Rattle.std.specs.Io.KnownBytes.{Keeps};
-ghost use Rattle.im_types.specs.declared.refusals.Refusal.TheVariants.{Device};
-ghost use Rattle.im_dialogue.specs.Dialogue.{TalkUnopened, Talked, TalkedFrom};
-ghost use Rattle.im_dialogue.specs.Talk.{outputs};
-ghost use Rattle.im_program.specs.Places.{IsOpenAt};
-ghost use Rattle.im_program.specs.Working.{WasTalked};
+ghost use Rattle.std.specs.{Prelude.◌≡◌, Prelude.◌≤◌, Prelude.IfOk, Prelude.IfErr, Prelude.OnErr, Io.KnownBytes.Keeps};
+ghost use Rattle.im_types.specs.Types.{Device};
+ghost use Rattle.im_dialogue.specs.{Dialogue.Talked, Dialogue.TalkedFrom, Dialogue.TalkUnopened, Talk.outputs};
+ghost use Rattle.im_program.specs.{Places.IsOpenAt, Working.WasTalked};
 
 use crate::hand::AtHand;
 use crate::opening::image_at;

@@ -1,5 +1,5 @@
 //! Does the work, and tells its lines as the command line asks.
-ghost use Rattle.std.specs.Prelude.{◌≡◌, ◌⊎◌, ◌≤◌, [], if◌then◌else◌};
+ghost use Rattle.std.specs.Prelude.{◌≡◌, ◌≤◌, ◌⊎◌, [], if◌then◌else◌};
 ghost use Rattle.im_program.specs.Told.{LineTold};
 
 use crate::console::Console;

@@ -1,6 +1,5 @@
 //! The file of a run's trace.
-ghost use Rattle.std.specs.Prelude.{◌≡◌, [], OnOk, IsOk, true};
-ghost use Rattle.std.specs.Fs.{asks_create_new};
+ghost use Rattle.std.specs.{Prelude.◌≡◌, Prelude.true, Prelude.[], Prelude.OnOk, Prelude.IsOk, Fs.asks_create_new};
 ghost use Rattle.im_program.specs.Traced.{BeginsTraced, WritesTraced};
 
 use crate::console::Console;

@@ -1,7 +1,7 @@
 //! Gives a new file what an old one means.
-ghost use Rattle.std.specs.Prelude.{◌≡◌, ◌≤◌, IfOk, IfSome, IfNone};
+ghost use Rattle.std.specs.Prelude.{◌≡◌, ◌≤◌, IfSome, IfNone, IfOk};
 ghost use Rattle.im_words.specs.Words.{task_of_transfer};
-ghost use Rattle.im_program.specs.Places.{IsOpenAt, file_of, old_file_of};
+ghost use Rattle.im_program.specs.Places.{file_of, IsOpenAt, old_file_of};
 ghost use Rattle.im_program.specs.Working.{HasMoved, MovedBy};
 
 use crate::console::Console;

@@ -1,9 +1,9 @@
 //! The work that the program does.
-ghost use Rattle.std.specs.Prelude.{◌≡◌, ◌⊎◌, ◌≤◌, ℕ, List, IfSome, IfNone};
+ghost use Rattle.std.specs.Prelude.{◌≡◌, ℕ, ◌≤◌, ◌⊎◌, List, IfSome, IfNone};
 ghost use Rattle.im_text.specs.Printing.{Begins, IsLast};
 ghost use Rattle.im_words.specs.Words.{demonstration, task_of_work};
-ghost use Rattle.im_program.specs.Places.{IsOldOf, IsOpenAt, file_of};
-ghost use Rattle.im_program.specs.Working.{WasDone, HasMoved, IsOfTwo};
+ghost use Rattle.im_program.specs.Places.{file_of, IsOldOf, IsOpenAt};
+ghost use Rattle.im_program.specs.Working.{HasMoved, IsOfTwo, WasDone};
 
 use crate::console::Console;
 use crate::demonstrating::act_with_no_file;

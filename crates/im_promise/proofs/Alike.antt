@@ -1,28 +1,12 @@
 -- A request that two lines of a trace tell an entry.
-use Rattle.std.proofs.Common.{◌≡◌, ⊎_elim, false, List, ◌∷◌, ◌++◌, Ok, Err, sym, ◌∙◌, ap, subst}
-use Rattle.std.specs.Prelude.{◌↔◌, Result, IsTrue}
-use Rattle.std.specs.Bool.{IsFalse}
-use Rattle.im_types.specs.declared.operations.Entry.{Entry}
-use Rattle.im_types.specs.declared.commands.Request.{Request}
-use Rattle.im_types.specs.declared.commands.Command.{Command}
-use Rattle.im_types.specs.declared.commands.Command.TheVariants.{Request as Asks}
-use Rattle.im_types.specs.declared.commands.Outcome.{Outcome}
-use Rattle.im_types.specs.declared.commands.Outcome.TheVariants.{Entry as Tells}
-use Rattle.im_types.specs.declared.commands.Line.{Line}
-use Rattle.im_types.specs.declared.refusals.Refusal.{Refusal}
-use Rattle.im_types.specs.declared.refusals.Refusal.TheVariants.{Forgotten}
-use Rattle.im_types.specs.Contents.{Contents}
-use Rattle.im_types.specs.Agreement.{WaitingAgrees}
-use Rattle.im_types.specs.Run.{after}
-use Rattle.im_types.specs.Step.{Stepped, asker, step, is_accepted}
-use Rattle.im_types.specs.Trace.{IsLegal, end_of}
-use Rattle.im_laws.specs.Windows.{IsForgotten}
-use Rattle.im_laws.specs.Requests.{IsAnswered, after_request}
-use Rattle.im_laws.specs.Entries.{IsSameOrAnswer, IsRefused, IsToldAgainOrForgotten}
-use Rattle.im_laws.specs.Traces.{commands_of}
-use Rattle.im_promise.specs.Traces.{line_answering, line_telling, at_other, ToldTwice, AskTwice}
-use Rattle.im_promise.proofs.Answering.{is_true}
-use Rattle.im_promise.proofs.Sent.{agrees_after, by_is_false}
+use Rattle.std.proofs.Common.{◌≡◌, false, ◌↔◌, List, ◌∷◌, ◌++◌, IsTrue, IsFalse, Ok, Err, Result, sym, ap, ◌∙◌, subst}
+use Rattle.std.proofs.Common.{⊎_elim}
+use Rattle.im_types.specs.Types.{Entry, Request, Command, Outcome, Line, Asks, Tells, Refusal, Forgotten, Contents}
+use Rattle.im_types.specs.Types.{WaitingAgrees, Stepped, asker, step, is_accepted, after, IsLegal, end_of}
+use Rattle.im_laws.specs.Entries.{IsRefused, IsSameOrAnswer, IsToldAgainOrForgotten}
+use Rattle.im_laws.specs.{Requests.after_request, Requests.IsAnswered, Traces.commands_of, Windows.IsForgotten}
+use Rattle.im_promise.proofs.{Answering.is_true, Sent.agrees_after, Sent.by_is_false}
+use Rattle.im_promise.specs.Traces.{AskTwice, at_other, line_answering, line_telling, ToldTwice}
 
 abbrev IsOkOf : Entry → Result Outcome Refusal → Type 0
 IsOkOf entry answer = Ok (Tells entry) ≡ answer

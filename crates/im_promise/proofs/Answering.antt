@@ -1,37 +1,22 @@
 -- How the events of a run were answered, and what is in doubt of them.
-use Rattle.std.proofs.Common.{◌≡◌, ◌⊎◌, inl, inr, ⊎_elim, ℕ, zero, suc, ◌+◌, ◌<◌, ◌≤◌, Bool, true, false, ◌&&◌, List}
-use Rattle.std.proofs.Common.{[], ◌∷◌, ◌++◌, length, map, Result, Ok, Err, refl, sym, ap, ◌∙◌, subst, arith}
-use Rattle.std.proofs.Common.{length-append, if◌then◌else◌}
-use Rattle.std.specs.Prelude.{IsTrue, IsOk}
-use Rattle.im_types.specs.declared.commands.Request.{Request}
-use Rattle.im_types.specs.declared.commands.Command.{Command}
-use Rattle.im_types.specs.declared.commands.Outcome.{Outcome}
-use Rattle.im_types.specs.declared.groups.Served.{Served as ServedMember}
-use Rattle.im_types.specs.declared.refusals.Refusal.{Refusal}
-use Rattle.im_types.specs.declared.refusals.Refusal.TheVariants.{Device, Failed}
-use Rattle.im_types.specs.Contents.{Contents}
-use Rattle.im_types.specs.Step.{step, is_accepted}
-use Rattle.im_types.specs.Run.{after}
-use Rattle.im_types.specs.Meaning.{Reached}
-use Rattle.im_types.specs.Groups.{as_served, answers_of, reached_by_all, puts_of}
-use Rattle.im_checkpoint.specs.declared.checkpoint.TurnDone.{TurnDone}
+use Rattle.std.proofs.Common.{◌≡◌, ℕ, zero, suc, ◌+◌, ◌<◌, ◌≤◌, Bool, true, false, ◌&&◌, ◌⊎◌, List, [], ◌∷◌, ◌++◌, map}
+use Rattle.std.proofs.Common.{length, if◌then◌else◌, IsOk, IsTrue, Ok, Err, Result, sym, refl, ap, ◌∙◌, subst, inl, inr}
+use Rattle.std.proofs.Common.{⊎_elim, arith, length-append}
 use Rattle.arrayvec.specs.ArrayVec.{ArrayVec}
-use Rattle.im_session.specs.declared.events.Event.{Event}
-use Rattle.im_session.specs.declared.events.Event.TheVariants.{Command as Serve, Group as Together, Turn, Sweep}
-use Rattle.im_session.specs.declared.events.Answer.{Answer}
-use Rattle.im_session.specs.declared.events.Answer.TheVariants.{Served as Told, Grouped, Turned as TookTurn}
-use Rattle.im_session.specs.declared.events.Answer.TheVariants.{Swept as DidSweep}
-use Rattle.im_engine.specs.State.{EngineState, with_command}
-use Rattle.im_engine.specs.Groups.{reached_in, after_group, group_put, all_refused, answers_in, GroupAnswered}
-use Rattle.im_engine.specs.Answered.{Answered, TurnAnswered, SweepAnswered, is_device}
-use Rattle.im_engine.proofs.Members.{puts_few}
-use Rattle.im_session.specs.Put.{doubted_by}
-use Rattle.im_session.specs.Events.{EventAnswered, AnsweredInTurn, acknowledged_members, acknowledged_by, has_device}
+use Rattle.im_types.specs.Types.{Request, Command, Outcome, Served as ServedMember, Refusal, Device, Failed, Contents}
+use Rattle.im_types.specs.Types.{step, is_accepted, after, as_served, answers_of, reached_by_all, puts_of, Reached}
+use Rattle.im_checkpoint.specs.declared.TurnDone.{TurnDone}
+use Rattle.im_engine.{proofs.Members.puts_few, specs.State.EngineState, specs.State.with_command}
+use Rattle.im_engine.specs.Answered.{Answered, is_device, SweepAnswered, TurnAnswered}
+use Rattle.im_engine.specs.Groups.{after_group, all_refused, answers_in, group_put, GroupAnswered, reached_in}
+use Rattle.im_session.proofs.{EventLemmas.by_event, ServedLemmas.not_device, ServedLemmas.unsure}
+use Rattle.im_session.specs.{declared.Answer.Answer, declared.Event.Event, Put.doubted_by}
+use Rattle.im_session.specs.declared.Answer.TheVariants.{Grouped, Served as Told, Swept as DidSweep, Turned as TookTurn}
+use Rattle.im_session.specs.declared.Event.TheVariants.{Command as Serve, Group as Together, Sweep, Turn}
+use Rattle.im_session.specs.Events.{acknowledged_by, acknowledged_members, AnsweredInTurn, EventAnswered, has_device}
 use Rattle.im_session.specs.Events.{in_doubt, in_doubt_by, is_fault, reached_at}
-use Rattle.im_session.proofs.EventLemmas.{by_event}
-use Rattle.im_session.proofs.ServedLemmas.{not_device, unsure}
-use Rattle.im_promise.specs.Acknowledged.{calls_in_doubt, most_of, most_of_one, is_doubt, IsFailed, IsAnswer}
-use Rattle.im_promise.specs.Acknowledged.{AreAnswers}
+use Rattle.im_promise.specs.Acknowledged.{AreAnswers, calls_in_doubt, is_doubt, IsAnswer, IsFailed, most_of}
+use Rattle.im_promise.specs.Acknowledged.{most_of_one}
 
 bool_cases : (b : Bool) → (b ≡ true) ⊎ (b ≡ false)
 bool_cases true = inl refl

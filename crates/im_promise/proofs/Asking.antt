@@ -1,29 +1,16 @@
 -- A group that is sent again, by the laws of steps.
-use Rattle.std.proofs.Common.{◌≡◌, ◌⊎◌, inl, inr, ⊎_elim, ℕ, zero, suc, ◌<◌, Bool, true, false, List, [], ◌∷◌, ◌++◌}
-use Rattle.std.proofs.Common.{length, Ok, Err, refl, sym, ap, ◌∙◌, subst, arith, if◌then◌else◌}
-use Rattle.std.specs.Prelude.{◌&&◌, ◌==◌, nat_lt}
+use Rattle.std.proofs.Common.{◌≡◌, ℕ, zero, suc, ◌<◌, Bool, true, false, ◌&&◌, ◌⊎◌, List, [], ◌∷◌, ◌++◌, length}
+use Rattle.std.proofs.Common.{if◌then◌else◌, nat_lt, ◌==◌, Ok, Err, sym, refl, ap, ◌∙◌, subst, inl, inr, ⊎_elim, arith}
 use Rattle.std.proofs.lemmas.Bool.Decides.{nat_tests}
-use Rattle.im_types.specs.declared.operations.Entry.{Entry}
-use Rattle.im_types.specs.declared.commands.Request.{Request}
-use Rattle.im_types.specs.declared.commands.Command.{Command}
-use Rattle.im_types.specs.declared.commands.Command.TheVariants.{Request as Asks}
-use Rattle.im_types.specs.declared.commands.Outcome.TheVariants.{Entry as Tells}
-use Rattle.im_types.specs.declared.groups.Served.{Served}
-use Rattle.im_types.specs.declared.refusals.Refusal.TheVariants.{Forgotten, JournalFull, Device}
-use Rattle.im_types.specs.Contents.{Contents}
-use Rattle.im_types.specs.Agreement.{WaitingAgrees}
-use Rattle.im_types.specs.Step.{Stepped, step, asker, is_accepted}
-use Rattle.im_types.specs.Run.{after}
-use Rattle.im_types.specs.Meaning.{Reached}
-use Rattle.im_types.specs.Groups.{is_put, with_request, answer_of, reached_by_one, puts_of}
-use Rattle.im_laws.specs.Windows.{IsForgotten}
-use Rattle.im_laws.specs.Requests.{IsAnswered, after_request}
+use Rattle.im_types.specs.Types.{Entry, Request, Command, Asks, Tells, Served, Forgotten, JournalFull, Device, Contents}
+use Rattle.im_types.specs.Types.{WaitingAgrees, Stepped, asker, step, is_accepted, after, is_put, with_request}
+use Rattle.im_types.specs.Types.{answer_of, reached_by_one, puts_of, Reached}
 use Rattle.im_laws.specs.Entries.{IsRefused, IsToldAgainOrForgotten}
+use Rattle.im_laws.specs.{Requests.after_request, Requests.IsAnswered, Windows.IsForgotten}
+use Rattle.im_engine.specs.Groups.{all_refused, answers_in, group_put, GroupAnswered, reached_in}
 use Rattle.im_engine.specs.State.{EngineState}
-use Rattle.im_engine.specs.Groups.{reached_in, group_put, all_refused, answers_in, GroupAnswered}
-use Rattle.im_promise.specs.Again.{IsSaidAgain}
-use Rattle.im_promise.specs.Groups.{AreSaidAgain, AreTold, GroupSaidAgain}
 use Rattle.im_promise.proofs.Sent.{bool_cases}
+use Rattle.im_promise.specs.{Again.IsSaidAgain, Groups.AreSaidAgain, Groups.AreTold, Groups.GroupSaidAgain}
 
 -- ---- one member
 

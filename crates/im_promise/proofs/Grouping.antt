@@ -1,24 +1,15 @@
 -- A group, and what an opening after a crash finds of it.
-use Rattle.std.proofs.Common.{◌≡◌, ◌⊎◌, inl, inr, ⊎_elim, ℕ, ◌+◌, List, [], ◌∷◌, length, Result, Ok, Err, IfOk, IfErr}
-use Rattle.std.proofs.Common.{◌<◌, true, false, refl, sym, ap, ◌∙◌, subst, arith}
-use Rattle.im_types.specs.declared.commands.Request.{Request}
-use Rattle.im_types.specs.declared.commands.Command.{Command}
-use Rattle.im_types.specs.declared.groups.Served.{Served}
-use Rattle.im_types.specs.declared.refusals.Refusal.{Refusal}
-use Rattle.im_types.specs.declared.refusals.Refusal.TheVariants.{NoMemory, Device}
-use Rattle.im_types.specs.Contents.{Contents}
-use Rattle.im_types.specs.Run.{after}
-use Rattle.im_types.specs.Meaning.{Reached}
-use Rattle.im_types.specs.Groups.{reached_by_all, puts_of}
+use Rattle.std.proofs.Common.{◌≡◌, ℕ, ◌+◌, ◌<◌, true, false, ◌⊎◌, List, [], ◌∷◌, length, IfOk, IfErr, Ok, Err, Result}
+use Rattle.std.proofs.Common.{sym, refl, ap, ◌∙◌, subst, inl, inr, ⊎_elim, arith}
+use Rattle.im_types.specs.Types.{Request, Command, Served, Refusal, Device, NoMemory, Contents, after, reached_by_all}
+use Rattle.im_types.specs.Types.{puts_of, Reached}
 use Rattle.im_disk.specs.Recording.{Recording}
-use Rattle.im_engine.specs.State.{EngineState, MeansState, IsFirstFault, MeansEither}
-use Rattle.im_engine.specs.Groups.{reached_in, after_group, group_put, all_refused, GroupAnswered}
-use Rattle.im_session.specs.Events.{has_device}
-use Rattle.im_session.specs.declared.events.Event.{Event}
-use Rattle.im_session.specs.declared.events.Answer.{Answer}
-use Rattle.im_promise.specs.Recovery.{Recovers}
-use Rattle.im_promise.specs.Groups.{HasMore, RecoversGroup, IsGroupAnswer, GroupSaidAgain, GroupAskedOverACrash}
+use Rattle.im_engine.specs.Groups.{after_group, all_refused, group_put, GroupAnswered, reached_in}
+use Rattle.im_engine.specs.State.{EngineState, IsFirstFault, MeansEither, MeansState}
+use Rattle.im_session.specs.{declared.Answer.Answer, declared.Event.Event, Events.has_device}
 use Rattle.im_promise.proofs.Recovering.{MeansOne, NoFault, still_means}
+use Rattle.im_promise.specs.Groups.{GroupAskedOverACrash, GroupSaidAgain, HasMore, IsGroupAnswer, RecoversGroup}
+use Rattle.im_promise.specs.Recovery.{Recovers}
 
 -- what a group comes to, by the commands that it puts into the journal
 pub record GroupsAreRuns : Type 0 where

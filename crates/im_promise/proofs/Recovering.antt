@@ -1,12 +1,9 @@
 -- What an opening after a crash finds, where it is known what every file means that could be left.
-use Rattle.std.proofs.Common.{◌≡◌, inl, ⊎_elim, ℕ, List, length, sym, ◌∙◌, subst, arith}
-use Rattle.im_types.specs.declared.refusals.Refusal.{Refusal}
-use Rattle.im_types.specs.Contents.{Contents}
-use Rattle.im_types.specs.Meaning.{Means}
-use Rattle.im_disk.specs.Moment.{Moment, Left, Outside}
-use Rattle.im_disk.specs.Since.{Leaves}
+use Rattle.std.proofs.Common.{◌≡◌, ℕ, List, length, sym, ◌∙◌, subst, inl, ⊎_elim, arith}
+use Rattle.im_types.specs.Types.{Refusal, Contents, Means}
 use Rattle.im_disk.proofs.SinceLemmas.{only_now}
-use Rattle.im_engine.specs.State.{EngineState, MeansState, IsFirstFault}
+use Rattle.im_disk.specs.{Moment.Left, Moment.Moment, Moment.Outside, Since.Leaves}
+use Rattle.im_engine.specs.State.{EngineState, IsFirstFault, MeansState}
 
 -- ---- files
 

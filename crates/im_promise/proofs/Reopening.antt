@@ -1,14 +1,10 @@
 -- An image that is opened again.
-use Rattle.std.proofs.Common.{◌≡◌, ◌⊎◌, inl, inr, ⊎_elim, ℕ, List, Result, Ok, Err, IfOk, IfErr, subst}
-use Rattle.im_types.specs.declared.refusals.Refusal.{Refusal}
-use Rattle.im_types.specs.declared.refusals.Refusal.TheVariants.{NoMemory, Device}
-use Rattle.im_types.specs.Contents.{Contents}
-use Rattle.im_disk.specs.Recording.{Recording}
-use Rattle.im_session.specs.declared.events.Event.{Event}
-use Rattle.im_engine.specs.State.{EngineState, MeansState, IsFirstFault}
-use Rattle.im_promise.specs.declared.recovery.Recovered.{Recovered}
-use Rattle.im_promise.specs.Recovery.{Recovers}
+use Rattle.std.proofs.Common.{◌≡◌, ℕ, ◌⊎◌, List, IfOk, IfErr, Ok, Err, Result, subst, inl, inr, ⊎_elim}
+use Rattle.im_types.specs.Types.{Refusal, Device, NoMemory, Contents}
+use Rattle.{im_disk.specs.Recording.Recording, im_session.specs.declared.Event.Event}
+use Rattle.im_engine.specs.State.{EngineState, IsFirstFault, MeansState}
 use Rattle.im_promise.proofs.Recovering.{MeansOne, NoFault, still_means}
+use Rattle.im_promise.specs.{declared.recovery.Recovered.Recovered, Recovery.Recovers}
 
 -- a run after an opening that found the same
 pub again_by : (m n : Contents) (count other : ℕ) (events : List Event) (r : Result Recovered Refusal) → n ≡ m

@@ -1,32 +1,15 @@
 -- A request that is sent again, by the laws of steps.
-use Rattle.std.proofs.Common.{◌≡◌, ◌⊎◌, inl, inr, ⊎_elim, ℕ, ◌+◌, List, [], ◌∷◌, ◌++◌, Ok, Err, true}
-use Rattle.std.proofs.Common.{false, Bool, refl, sym, ap, ◌∙◌, subst, arith, if◌then◌else◌}
-use Rattle.std.specs.Prelude.{Result, IsTrue}
-use Rattle.std.specs.Bool.{IsFalse}
-use Rattle.im_types.specs.declared.operations.Entry.{Entry}
-use Rattle.im_types.specs.declared.commands.Request.{Request}
-use Rattle.im_types.specs.declared.commands.Command.TheVariants.{Request as Asks}
-use Rattle.im_types.specs.declared.commands.Outcome.{Outcome}
-use Rattle.im_types.specs.declared.commands.Outcome.TheVariants.{Entry as Tells}
-use Rattle.im_types.specs.declared.commands.Command.{Command}
-use Rattle.im_types.specs.declared.operations.Waiter.{Waiter}
-use Rattle.im_types.specs.Window.{bounds}
-use Rattle.im_types.specs.Run.{after}
-use Rattle.im_types.specs.declared.refusals.Refusal.{Refusal}
-use Rattle.im_types.specs.declared.refusals.Refusal.TheVariants.{Forgotten, JournalFull, Device}
-use Rattle.im_types.specs.Contents.{Contents}
-use Rattle.im_types.specs.Agreement.{WaitingAgrees}
-use Rattle.im_types.specs.Step.{Stepped, step, asker, is_accepted}
-use Rattle.im_laws.specs.Windows.{IsForgotten, TakesNextNumber, AreNoLess}
+use Rattle.std.proofs.Common.{◌≡◌, ℕ, ◌+◌, Bool, true, false, ◌⊎◌, List, [], ◌∷◌, ◌++◌, if◌then◌else◌, IsTrue, IsFalse}
+use Rattle.std.proofs.Common.{Ok, Err, Result, sym, refl, ap, ◌∙◌, subst, inl, inr, ⊎_elim, arith}
+use Rattle.im_types.specs.Types.{Entry, Waiter, Request, Command, Outcome, Asks, Tells, Refusal, Forgotten, JournalFull}
+use Rattle.im_types.specs.Types.{Device, Contents, WaitingAgrees, bounds, Stepped, asker, step, is_accepted, after}
 use Rattle.im_laws.specs.Entries.{IsRefused, IsToldAgainOrForgotten}
-use Rattle.im_engine.specs.State.{EngineState, MeansEither, IsFirstFault, with_command}
+use Rattle.im_laws.specs.Windows.{AreNoLess, IsForgotten, TakesNextNumber}
 use Rattle.im_engine.specs.Answered.{Answered}
-use Rattle.im_session.specs.declared.events.Event.{Event}
-use Rattle.im_session.specs.declared.events.Answer.{Answer}
-use Rattle.im_promise.specs.Again.{IsAnswerOf, IsSaidAgain, IsUnused, HasNotActed, count_after, AskedOverACrash}
-use Rattle.im_promise.specs.Recovery.{Recovers}
-use Rattle.im_promise.proofs.Recovering.{NoFault}
-use Rattle.im_promise.proofs.Answering.{none_or_some}
+use Rattle.im_engine.specs.State.{EngineState, IsFirstFault, MeansEither, with_command}
+use Rattle.im_session.specs.declared.{Answer.Answer, Event.Event}
+use Rattle.im_promise.{proofs.Answering.none_or_some, proofs.Recovering.NoFault, specs.Recovery.Recovers}
+use Rattle.im_promise.specs.Again.{AskedOverACrash, count_after, HasNotActed, IsAnswerOf, IsSaidAgain, IsUnused}
 
 pub said : {D : Type 0} (old new : EngineState D) (r : Request) (entry : Entry) (answer : Result Outcome Refusal)
     → old.failed ≡ false → Answered old (Asks r) answer new

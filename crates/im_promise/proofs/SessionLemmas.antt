@@ -1,20 +1,13 @@
 -- What an opening finds after a crash of a session's disk.
-use Rattle.std.proofs.Common.{◌≡◌, ◌⊎◌, ◌+◌, inl, inr, ⊎_elim, ℕ, List, [], ◌++◌, length, Result, Ok, Err, IfOk, IfErr, refl, sym, subst}
-use Rattle.std.proofs.lemmas.List.{append-nil}
-use Rattle.im_types.specs.declared.commands.Command.{Command}
-use Rattle.im_types.specs.declared.refusals.Refusal.{Refusal}
-use Rattle.im_types.specs.declared.refusals.Refusal.TheVariants.{NoMemory, Device}
-use Rattle.im_types.specs.Contents.{Contents}
-use Rattle.im_types.specs.Run.{after}
+use Rattle.std.proofs.Common.{◌≡◌, ℕ, ◌+◌, ◌⊎◌, List, [], ◌++◌, length, IfOk, IfErr, Ok, Err, Result, sym, refl, subst}
+use Rattle.std.proofs.Common.{inl, inr, ⊎_elim, append-nil}
+use Rattle.im_types.specs.Types.{Command, Refusal, Device, NoMemory, Contents, after}
 use Rattle.im_disk.specs.Recording.{Recording}
-use Rattle.im_engine.specs.State.{EngineState, MeansState, IsFirstFault}
-use Rattle.im_session.specs.declared.events.Event.{Event}
-use Rattle.im_session.specs.declared.events.Answer.{Answer}
-use Rattle.im_session.specs.Events.{after_events}
-use Rattle.im_session.specs.Kept.{MeansPut, SessionState, session_of, start_at}
+use Rattle.im_engine.specs.State.{EngineState, IsFirstFault, MeansState}
+use Rattle.im_session.specs.{declared.Answer.Answer, declared.Event.Event, Events.after_events}
+use Rattle.im_session.specs.Kept.{MeansPut, session_of, SessionState, start_at}
+use Rattle.im_promise.proofs.{Answering.AreTold, Recovering.MeansOne, Recovering.NoFault}
 use Rattle.im_promise.specs.Recovery.{HasNoRoom, Recovers, RecoversSession}
-use Rattle.im_promise.proofs.Answering.{AreTold}
-use Rattle.im_promise.proofs.Recovering.{MeansOne, NoFault}
 
 -- the file means the memory after what was acknowledged, with or without what is in doubt
 abbrev pub MeansEnd : {D : Type 0} → SessionState D → List ℕ → Type 0

@@ -1,19 +1,13 @@
 -- Whether events were answered as the sequential memory answers them, and how many calls left commands in doubt. (Own.)
-use Rattle.std.specs.Prelude.{◌≡◌, ◌⊎◌, ℕ, ◌+◌, ◌<◌, max, Bool, true, false, List, [], ◌∷◌, length, map, Ok, Err}
-use Rattle.std.specs.Prelude.{if◌then◌else◌}
-use Rattle.im_types.specs.declared.refusals.Refusal.TheVariants.{JournalFull, Device, Failed}
-use Rattle.im_types.specs.Contents.{Contents}
-use Rattle.im_types.specs.Step.{step, is_accepted}
-use Rattle.im_types.specs.Run.{after}
-use Rattle.im_types.specs.Groups.{as_served, answers_of, puts_of}
-use Rattle.im_engine.specs.Answered.{is_device}
-use Rattle.im_engine.specs.Groups.{all_refused}
-use Rattle.im_session.specs.declared.events.Event.{Event}
-use Rattle.im_session.specs.declared.events.Event.TheVariants.{Command as Serve, Group as Together, Turn, Sweep}
-use Rattle.im_session.specs.declared.events.Answer.{Answer}
-use Rattle.im_session.specs.declared.events.Answer.TheVariants.{Served as Told, Grouped, Turned as TookTurn}
-use Rattle.im_session.specs.declared.events.Answer.TheVariants.{Swept as DidSweep}
-use Rattle.im_session.specs.Events.{has_device, acknowledged_by, is_fault, reached_at}
+use Rattle.std.specs.Prelude.{◌≡◌, ℕ, ◌+◌, ◌<◌, max, Bool, true, false, ◌⊎◌, List, [], ◌∷◌, map, length, if◌then◌else◌}
+use Rattle.std.specs.Prelude.{Ok, Err}
+use Rattle.im_types.specs.Types.{JournalFull, Device, Failed, Contents, step, is_accepted, after, as_served, answers_of}
+use Rattle.im_types.specs.Types.{puts_of}
+use Rattle.im_engine.specs.{Answered.is_device, Groups.all_refused}
+use Rattle.im_session.specs.declared.{Answer.Answer, Event.Event}
+use Rattle.im_session.specs.declared.Answer.TheVariants.{Grouped, Served as Told, Swept as DidSweep, Turned as TookTurn}
+use Rattle.im_session.specs.declared.Event.TheVariants.{Command as Serve, Group as Together, Sweep, Turn}
+use Rattle.im_session.specs.Events.{acknowledged_by, has_device, is_fault, reached_at}
 
 -- the answer leaves the commands of its event in doubt
 abbrev pub is_doubt : Answer → Bool

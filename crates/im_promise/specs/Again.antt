@@ -1,24 +1,10 @@
 -- The answer to a request that is sent again. (Own.)
-use Rattle.std.specs.Prelude.{◌≡◌, ◌⊎◌, ◌+◌, ◌≤◌, ◌<◌, ℕ, List, ◌∷◌, ◌++◌, true, false, Result, Ok, Err, if◌then◌else◌}
-use Rattle.im_types.specs.declared.operations.Entry.{Entry}
-use Rattle.im_types.specs.declared.commands.Request.{Request}
-use Rattle.im_types.specs.declared.commands.Command.{Command}
-use Rattle.im_types.specs.declared.commands.Command.TheVariants.{Request as Asks}
-use Rattle.im_types.specs.declared.commands.Outcome.{Outcome}
-use Rattle.im_types.specs.declared.commands.Outcome.TheVariants.{Entry as Tells}
-use Rattle.im_types.specs.declared.refusals.Refusal.{Refusal}
-use Rattle.im_types.specs.declared.refusals.Refusal.TheVariants.{Device, Failed, Forgotten, JournalFull}
-use Rattle.im_types.specs.Contents.{Contents}
-use Rattle.im_types.specs.Window.{bounds}
-use Rattle.im_types.specs.Step.{step, asker, is_accepted}
-use Rattle.im_types.specs.Agreement.{WaitingAgrees}
-use Rattle.im_types.specs.Run.{after}
-use Rattle.im_laws.specs.Windows.{IsForgotten}
-use Rattle.im_laws.specs.Entries.{IsSameOrAnswer}
-use Rattle.im_laws.specs.Requests.{after_request, IsAnswered}
+use Rattle.std.specs.Prelude.{◌≡◌, ℕ, ◌+◌, ◌<◌, ◌≤◌, true, false, ◌⊎◌, List, ◌∷◌, ◌++◌, if◌then◌else◌, Ok, Err, Result}
+use Rattle.im_types.specs.Types.{Entry, Request, Command, Outcome, Asks, Tells, Refusal, Forgotten, JournalFull, Device}
+use Rattle.im_types.specs.Types.{Failed, Contents, WaitingAgrees, bounds, asker, step, is_accepted, after}
+use Rattle.im_laws.specs.{Entries.IsSameOrAnswer, Requests.after_request, Requests.IsAnswered, Windows.IsForgotten}
 use Rattle.im_engine.specs.State.{EngineState}
-use Rattle.im_session.specs.declared.events.Event.{Event}
-use Rattle.im_session.specs.declared.events.Answer.{Answer}
+use Rattle.im_session.specs.declared.{Answer.Answer, Event.Event}
 use Rattle.im_promise.specs.Recovery.{Recovers}
 
 -- the answer is the entry told before, or the answer that has come since, or `Forgotten` if the request was confirmed

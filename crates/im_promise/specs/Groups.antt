@@ -1,22 +1,11 @@
 -- What a recovery gives of a group, and the answers to a group that is sent again. (Own.)
-use Rattle.std.specs.Prelude.{◌≡◌, ◌⊎◌, ◌+◌, ◌<◌, false, List, [], ◌∷◌, length, Ok}
-use Rattle.im_types.specs.declared.operations.Entry.{Entry}
-use Rattle.im_types.specs.declared.commands.Request.{Request}
-use Rattle.im_types.specs.declared.commands.Command.{Command}
-use Rattle.im_types.specs.declared.commands.Outcome.TheVariants.{Entry as Tells}
-use Rattle.im_types.specs.declared.groups.Served.{Served}
-use Rattle.im_types.specs.declared.refusals.Refusal.TheVariants.{Device}
-use Rattle.im_types.specs.Contents.{Contents}
-use Rattle.im_types.specs.Agreement.{WaitingAgrees}
-use Rattle.im_types.specs.Run.{after}
-use Rattle.im_types.specs.Meaning.{Reached}
-use Rattle.im_types.specs.Groups.{is_put, answer_of, reached_by_one, puts_of}
+use Rattle.std.specs.Prelude.{◌≡◌, ◌+◌, ◌<◌, false, ◌⊎◌, List, [], ◌∷◌, length, Ok}
+use Rattle.im_types.specs.Types.{Entry, Request, Command, Tells, Served, Device, Contents, WaitingAgrees, after, is_put}
+use Rattle.im_types.specs.Types.{answer_of, reached_by_one, puts_of, Reached}
+use Rattle.im_engine.specs.Groups.{after_group, all_refused, answers_in, group_put, reached_in}
 use Rattle.im_engine.specs.State.{EngineState}
-use Rattle.im_engine.specs.Groups.{reached_in, after_group, group_put, all_refused, answers_in}
-use Rattle.im_session.specs.declared.events.Event.{Event}
-use Rattle.im_session.specs.declared.events.Answer.{Answer}
-use Rattle.im_promise.specs.Again.{IsSaidAgain}
-use Rattle.im_promise.specs.Recovery.{Recovers}
+use Rattle.im_session.specs.declared.{Answer.Answer, Event.Event}
+use Rattle.im_promise.specs.{Again.IsSaidAgain, Recovery.Recovers}
 
 -- the engine has the memory and the count of an earlier one after these commands
 pub record HasMore {D E : Type 0} (old : EngineState D) (commands : List Command) (now : EngineState E) : Type 0 where

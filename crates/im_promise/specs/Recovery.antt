@@ -1,15 +1,9 @@
 -- What a recovery gives. (Own.)
-use Rattle.std.specs.Prelude.{◌≡◌, ◌⊎◌, ℕ, ◌+◌, ◌≤◌, false, List, [], ◌++◌, length}
-use Rattle.im_types.specs.declared.commands.Command.{Command}
-use Rattle.im_types.specs.declared.refusals.Refusal.{Refusal}
-use Rattle.im_types.specs.declared.refusals.Refusal.TheVariants.{NoMemory, Device}
-use Rattle.im_types.specs.Contents.{Contents}
-use Rattle.im_types.specs.Run.{after}
-use Rattle.im_session.specs.declared.events.Event.{Event}
-use Rattle.im_session.specs.declared.events.Answer.{Answer}
-use Rattle.im_session.specs.Events.{acknowledged, in_doubt}
-use Rattle.im_session.specs.Kept.{SessionState}
-use Rattle.im_promise.specs.Acknowledged.{calls_in_doubt, most_of_one, AreAnswers}
+use Rattle.std.specs.Prelude.{◌≡◌, ℕ, ◌+◌, ◌≤◌, false, ◌⊎◌, List, [], ◌++◌, length}
+use Rattle.im_types.specs.Types.{Command, Refusal, Device, NoMemory, Contents, after}
+use Rattle.im_session.specs.declared.{Answer.Answer, Event.Event}
+use Rattle.im_session.specs.{Events.acknowledged, Events.in_doubt, Kept.SessionState}
+use Rattle.im_promise.specs.Acknowledged.{AreAnswers, calls_in_doubt, most_of_one}
 
 -- there was no room for the answers or the memory, or none for the record of the disk
 abbrev pub HasNoRoom : Refusal → Type 0

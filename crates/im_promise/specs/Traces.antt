@@ -1,17 +1,7 @@
 -- A request in a trace. (Own.)
-use Rattle.std.specs.Prelude.{◌≡◌, List, ◌∷◌, ◌++◌, true, Result, Ok}
-use Rattle.im_types.specs.declared.operations.Entry.{Entry}
-use Rattle.im_types.specs.declared.commands.Request.{Request}
-use Rattle.im_types.specs.declared.commands.Command.TheVariants.{Request as Asks}
-use Rattle.im_types.specs.declared.commands.Outcome.{Outcome}
-use Rattle.im_types.specs.declared.commands.Outcome.TheVariants.{Entry as Tells}
-use Rattle.im_types.specs.declared.commands.Call.TheVariants.{Command as Commands}
-use Rattle.im_types.specs.declared.commands.Line.{Line}
-use Rattle.im_types.specs.declared.refusals.Refusal.{Refusal}
-use Rattle.im_types.specs.Contents.{Contents}
-use Rattle.im_types.specs.Agreement.{WaitingAgrees}
-use Rattle.im_types.specs.Step.{asker, is_accepted}
-use Rattle.im_types.specs.Trace.{IsLegal, end_of}
+use Rattle.std.specs.Prelude.{◌≡◌, true, List, ◌∷◌, ◌++◌, Ok, Result}
+use Rattle.im_types.specs.Types.{Entry, Request, Outcome, Line, Asks, Tells, Commands, Refusal, Contents, WaitingAgrees}
+use Rattle.im_types.specs.Types.{asker, is_accepted, IsLegal, end_of}
 
 -- the line that answers a request with this answer
 abbrev pub line_answering : Request → Result Outcome Refusal → Line

@@ -1,12 +1,8 @@
 //! Requests that are sent again.
-ghost use Rattle.std.specs.Prelude.{◌≡◌, List, false, Ok, IfOk, IfErr};
-ghost use Rattle.im_types.specs.declared.operations.Entry.{Entry};
-ghost use Rattle.im_types.specs.declared.commands.Command.{Command};
-ghost use Rattle.im_types.specs.declared.commands.Outcome.TheVariants.{Entry as Tells};
-ghost use Rattle.im_types.specs.Contents.{Contents};
-ghost use Rattle.im_types.specs.Run.{after};
+ghost use Rattle.std.specs.Prelude.{◌≡◌, false, List, IfOk, IfErr, Ok};
+ghost use Rattle.im_types.specs.Types.{Entry, Command, Tells, Contents, after};
 ghost use Rattle.im_laws.specs.Requests.{after_request};
-ghost use Rattle.im_promise.specs.Again.{IsAnswerOf, IsSaidAgain, IsUnused, HasNotActed, AskedOverACrash, WasTold};
+ghost use Rattle.im_promise.specs.Again.{AskedOverACrash, HasNotActed, IsAnswerOf, IsSaidAgain, IsUnused, WasTold};
 ghost use Rattle.im_promise.specs.Recovery.{HasNoRoom};
 
 use crate::recovery::{Recovered, open_crashed, recover};

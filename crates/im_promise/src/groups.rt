@@ -1,10 +1,7 @@
 //! A group over a crash, and a group that is sent again.
 ghost use Rattle.std.specs.Prelude.{◌≡◌, false, [], IfOk, IfErr};
-ghost use Rattle.im_types.specs.Meaning.{Reached};
-ghost use Rattle.im_types.specs.Groups.{AreApart};
-ghost use Rattle.im_session.specs.Events.{has_device};
-ghost use Rattle.im_promise.specs.Groups.{RecoversGroup, HasGroup, GroupSaidAgain, IsGroupAnswer};
-ghost use Rattle.im_promise.specs.Groups.{GroupAskedOverACrash};
+ghost use Rattle.{im_types.specs.Types.AreApart, im_types.specs.Types.Reached, im_session.specs.Events.has_device};
+ghost use Rattle.im_promise.specs.Groups.{GroupAskedOverACrash, GroupSaidAgain, HasGroup, IsGroupAnswer, RecoversGroup};
 ghost use Rattle.im_promise.specs.Recovery.{HasNoRoom};
 
 use crate::recovery::{Recovered, open_crashed, recover};

@@ -1,9 +1,7 @@
 //! The result of a crash and an opening.
-ghost use Rattle.std.specs.Prelude.{◌≡◌, ◌⊎◌, ℕ, List, false, IfOk, IfErr};
-ghost use Rattle.im_types.specs.declared.refusals.Refusal.TheVariants.{NoMemory, Device, WrongLength};
-ghost use Rattle.im_types.specs.Contents.{empty_contents};
-ghost use Rattle.im_disk.specs.Moment.{Left};
-ghost use Rattle.im_engine.specs.State.{MeansState, IsFirstFault};
+ghost use Rattle.std.specs.Prelude.{◌≡◌, ℕ, false, ◌⊎◌, List, IfOk, IfErr};
+ghost use Rattle.im_types.specs.Types.{Device, NoMemory, WrongLength, empty_contents};
+ghost use Rattle.{im_disk.specs.Moment.Left, im_engine.specs.State.IsFirstFault, im_engine.specs.State.MeansState};
 ghost use Rattle.im_promise.specs.Recovery.{HasNoRoom, Recovers, RecoversSession};
 
 use im_disk::{Crash, FuseDisk, MemDisk, Mode};

@@ -1,13 +1,8 @@
 //! A law of traces, as the contract of a function that does nothing.
 ghost use Rattle.std.specs.Prelude.{◌≡◌, false, List};
-ghost use Rattle.im_types.specs.declared.operations.Entry.{Entry};
-ghost use Rattle.im_types.specs.declared.commands.Request.{Request};
-ghost use Rattle.im_types.specs.declared.commands.Command.TheVariants.{Request as Asks};
-ghost use Rattle.im_types.specs.declared.commands.Line.{Line};
-ghost use Rattle.im_types.specs.Contents.{Contents};
-ghost use Rattle.im_types.specs.Step.{is_accepted};
+ghost use Rattle.im_types.specs.Types.{Entry, Request, Line, Asks, Contents, is_accepted};
 ghost use Rattle.im_laws.specs.Entries.{IsSameOrAnswer};
-ghost use Rattle.im_promise.specs.Traces.{ToldTwice, AskTwice, at_other};
+ghost use Rattle.im_promise.specs.Traces.{AskTwice, at_other, ToldTwice};
 
 use im_laws::{
     accepted_where_changed, forgotten_for_ever, number_acts_once, repeat_is_told_again,

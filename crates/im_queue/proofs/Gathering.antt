@@ -1,12 +1,11 @@
 -- A group, gathered element by element.
-use Rattle.std.proofs.Common.{◌≡◌, ◌≢◌, ℕ, ◌+◌, ◌<◌, true, List, [], ◌∷◌, ◌++◌, Option, None, Some, sym, subst}
-use Rattle.std.proofs.Common.{slice_get, arith, inl, inr}
+use Rattle.std.proofs.Common.{◌≡◌, ℕ, ◌+◌, ◌<◌, true, ◌≢◌, List, [], ◌∷◌, ◌++◌, slice_get, Some, None, Option, sym}
+use Rattle.std.proofs.Common.{subst, inl, inr, arith}
 use Rattle.std.specs.List.{AllByRecursion}
-use Rattle.im_types.specs.declared.commands.Command.{Command}
-use Rattle.im_types.specs.Contents.{Contents}
-use Rattle.im_trace.specs.Log.{UnclaimedState, sender_of}
-use Rattle.im_queue.specs.Members.{AreOneOfEach, are_joined, MayJoin, IsCut, AreBelow, Gathers, IsSure}
-use Rattle.im_queue.specs.Members.{AreSureBehind, IsSureBehind}
+use Rattle.im_types.specs.Types.{Command, Contents}
+use Rattle.im_trace.specs.Log.{sender_of, UnclaimedState}
+use Rattle.im_queue.specs.Members.{are_joined, AreBelow, AreOneOfEach, AreSureBehind, Gathers, IsCut, IsSure}
+use Rattle.im_queue.specs.Members.{IsSureBehind, MayJoin}
 
 below_weaker : (e : ℕ) (rs : List Command) → AreBelow e rs → AreBelow (e + 1) rs
 below_weaker e [] below = tt

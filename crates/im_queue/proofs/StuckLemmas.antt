@@ -1,18 +1,13 @@
 -- The test of all servers, one after another.
-use Rattle.std.proofs.Common.{◌≡◌, ◌≢◌, ℕ, suc, ◌+◌, ◌<◌, Bool, true, false, List, [], ◌∷◌, refl, sym, ap, ◌∙◌, subst}
-use Rattle.std.proofs.Common.{Option, None, Some, Result, Ok, Err, length, slice_get, get_or, drop, arith}
-use Rattle.std.proofs.Common.{if◌then◌else◌, ◌==◌, ◌&&◌, ◌||◌, zero, ◌↔◌}
+use Rattle.std.proofs.Common.{◌≡◌, ℕ, zero, suc, ◌+◌, ◌<◌, Bool, true, false, ◌&&◌, ◌||◌, ◌≢◌, ◌↔◌, List, [], ◌∷◌}
+use Rattle.std.proofs.Common.{length, get_or, drop, if◌then◌else◌, ◌==◌, slice_get, Some, None, Ok, Err, Option, Result}
+use Rattle.std.proofs.Common.{sym, refl, ap, ◌∙◌, subst, arith, eq-eqb, eqb-true}
 use Rattle.std.proofs.Math.Seq.{drop-cons}
-use Rattle.std.proofs.lemmas.Bool.{eq-eqb, eqb-true}
+use Rattle.im_types.specs.Types.{Entry, Reply, Waiting, Answered, Refusal, Contents}
 use Rattle.im_laws.proofs.Tests.{and_both}
-use Rattle.im_types.specs.declared.operations.Entry.{Entry}
-use Rattle.im_types.specs.declared.operations.Entry.TheVariants.{Waiting, Answered}
-use Rattle.im_types.specs.declared.operations.Reply.{Reply}
-use Rattle.im_types.specs.declared.refusals.Refusal.{Refusal}
-use Rattle.im_types.specs.Contents.{Contents}
 use Rattle.im_queue.specs.declared.servers.ServerState.{ServerState}
-use Rattle.im_queue.specs.declared.servers.ServerState.TheVariants.{Unmade, Active, Waits, Retired}
-use Rattle.im_queue.specs.Servers.{entry_under, is_answered, is_stuck, are_stuck, IsStuck, AllStuckBut}
+use Rattle.im_queue.specs.declared.servers.ServerState.TheVariants.{Active, Retired, Unmade, Waits}
+use Rattle.im_queue.specs.Servers.{AllStuckBut, are_stuck, entry_under, is_answered, is_stuck, IsStuck}
 
 abbrev is_past : Contents → ℕ → ℕ → ServerState → Bool
 is_past m k e x = (e == k) || is_stuck m e x

@@ -1,16 +1,12 @@
 -- What is asked, and taken out, element by element.
-use Rattle.std.proofs.Common.{◌≡◌, ◌≢◌, ◌⊎◌, inl, inr, ⊎_elim, ℕ, zero, suc, List, [], ◌∷◌, ◌++◌}
-use Rattle.std.proofs.Common.{Option, None, Some}
-use Rattle.std.proofs.Common.{refl, sym, ap, subst, ◌∙◌, ◌≤◌, length, slice_get, slice_set, arith}
+use Rattle.std.proofs.Common.{◌≡◌, ℕ, zero, suc, ◌≤◌, ◌≢◌, ◌⊎◌, List, [], ◌∷◌, ◌++◌, length, IfSome, slice_get}
+use Rattle.std.proofs.Common.{slice_set, Some, None, Option, unwrap_or, sym, refl, ap, ◌∙◌, subst, inl, inr, ⊎_elim}
+use Rattle.std.proofs.Common.{arith}
 use Rattle.std.proofs.lemmas.List.{set_past}
-use Rattle.std.specs.Prelude.{IfSome, unwrap_or}
-use Rattle.im_types.specs.declared.commands.Command.{Command}
-use Rattle.im_trace.specs.Log.{sender_of}
-use Rattle.im_trace.proofs.LogLemmas.{all-get}
-use Rattle.im_queue.specs.Members.{AreBelow}
-use Rattle.im_queue.specs.Places.{AreInPlace, placed_in, placed_at, AskNothing, EachAsked, IsAskedAt, taken_out}
-use Rattle.im_queue.specs.Places.{AreTakenOut, TakesAt}
+use Rattle.{im_types.specs.Types.Command, im_trace.proofs.LogLemmas.all-get, im_trace.specs.Log.sender_of}
 use Rattle.im_queue.proofs.Gathering.{all_push}
+use Rattle.im_queue.specs.{Members.AreBelow, Places.AreInPlace, Places.AreTakenOut, Places.AskNothing, Places.EachAsked}
+use Rattle.im_queue.specs.{Places.IsAskedAt, Places.placed_at, Places.placed_in, Places.taken_out, Places.TakesAt}
 
 module _ {X : Type 0} where
   -- what stands in a list of which one place was set is that, or stood there before

@@ -1,31 +1,10 @@
 -- Which commands may be one group, and how they are taken out of the inbox. (Own.)
-use Rattle.std.specs.Prelude.{
-  ◌≡◌,
-  ◌≢◌,
-  ◌⊎◌,
-  ℕ,
-  ◌<◌,
-  ◌==◌,
-  List,
-  [],
-  ◌∷◌,
-  Bool,
-  true,
-  false,
-  Option,
-  None,
-  Some,
-  slice_get,
-}
-use Rattle.std.specs.Prelude.{if◌then◌else◌}
+use Rattle.std.specs.Prelude.{◌≡◌, ℕ, ◌<◌, Bool, true, false, ◌≢◌, ◌⊎◌, List, [], ◌∷◌, if◌then◌else◌, ◌==◌, slice_get}
+use Rattle.std.specs.Prelude.{Some, None, Option}
 use Rattle.std.specs.List.{AllByRecursion}
-use Rattle.im_types.specs.declared.operations.Op.{Op}
-use Rattle.im_types.specs.declared.operations.Op.TheVariants.{Alloc, Release, Reset, Fetch, Store, Take, Put}
-use Rattle.im_types.specs.declared.commands.Command.{Command}
-use Rattle.im_types.specs.declared.commands.Command.TheVariants.{Request as Asks, Confirm}
-use Rattle.im_types.specs.Contents.{Contents}
-use Rattle.im_types.specs.Step.{is_accepted}
-use Rattle.im_trace.specs.Log.{UnclaimedState, sender_of}
+use Rattle.im_types.specs.Types.{Op, Alloc, Release, Reset, Fetch, Store, Take, Put, Command, Asks, Confirm, Contents}
+use Rattle.im_types.specs.Types.{is_accepted}
+use Rattle.im_trace.specs.Log.{sender_of, UnclaimedState}
 
 -- none of the commands is of this element
 abbrev pub AreOfOthers : ℕ → List Command → Type 0

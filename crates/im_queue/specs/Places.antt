@@ -1,9 +1,8 @@
 -- What the elements ask, as contracts see it: a place for each, and in it the command that it asks, if it asks one.
 -- (Own.)
-use Rattle.std.specs.Prelude.{◌≡◌, ◌⊎◌, ◌++◌, ℕ, List, [], ◌∷◌, Option, None, Some, slice_get, slice_set}
+use Rattle.std.specs.Prelude.{◌≡◌, ℕ, ◌⊎◌, List, [], ◌∷◌, ◌++◌, slice_get, slice_set, Some, None, Option}
 use Rattle.std.specs.List.{AllByRecursion}
-use Rattle.im_types.specs.declared.commands.Command.{Command}
-use Rattle.im_trace.specs.Log.{sender_of}
+use Rattle.{im_types.specs.Types.Command, im_trace.specs.Log.sender_of}
 
 -- the command in a place is of that element
 abbrev pub AreInPlace : List (Option Command) → Type 0

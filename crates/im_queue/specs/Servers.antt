@@ -1,14 +1,9 @@
 -- Servers that wait, and when all of them do. (Own.)
-use Rattle.std.specs.Prelude.{◌≡◌, ◌≢◌, ℕ, suc, ◌==◌, ◌||◌, ◌&&◌, List, [], ◌∷◌, Option, Some, None, Bool, true}
-use Rattle.std.specs.Prelude.{false, Result, Ok, Err, slice_get, slice_set, if◌then◌else◌}
-use Rattle.im_types.specs.declared.operations.Entry.{Entry}
-use Rattle.im_types.specs.declared.operations.Entry.TheVariants.{Waiting, Answered}
-use Rattle.im_types.specs.declared.operations.Reply.{Reply}
-use Rattle.im_types.specs.declared.refusals.Refusal.{Refusal}
-use Rattle.im_types.specs.Contents.{Contents}
-use Rattle.im_types.specs.Window.{ask}
+use Rattle.std.specs.Prelude.{◌≡◌, ℕ, suc, Bool, true, false, ◌&&◌, ◌||◌, ◌≢◌, List, [], ◌∷◌, if◌then◌else◌, ◌==◌}
+use Rattle.std.specs.Prelude.{slice_get, slice_set, Some, None, Ok, Err, Option, Result}
+use Rattle.im_types.specs.Types.{Entry, Reply, Waiting, Answered, Refusal, Contents, ask}
 use Rattle.im_queue.specs.declared.servers.ServerState.{ServerState}
-use Rattle.im_queue.specs.declared.servers.ServerState.TheVariants.{Unmade, Active, Waits, Retired}
+use Rattle.im_queue.specs.declared.servers.ServerState.TheVariants.{Active, Retired, Unmade, Waits}
 
 -- what is kept under an element's number
 abbrev pub entry_under : Contents → ℕ → ℕ → Result Entry Refusal

@@ -1,11 +1,10 @@
 //! Commands that ask to be served. Each element has a place, under a lock of its own for all places.
-ghost use Rattle.std.specs.Prelude.{◌≡◌, ◌≤◌, ◌<◌, ◌+◌, true, None, Some, length, slice_set, IfOk, IfSome};
-ghost use Rattle.im_types.specs.declared.TheConstants.{MAX_GROUP};
-ghost use Rattle.im_trace.specs.Log.{sender_of};
-ghost use Rattle.im_queue.specs.Members.{is_social, stored_at, are_apart_at, are_together, are_joined, MayJoin};
-ghost use Rattle.im_queue.specs.Members.{IsSure, IsSureBehind, AreSureBehind, AreOneOfEach, AreFreeFor, IsCut};
-ghost use Rattle.im_queue.specs.Members.{Gathers};
-ghost use Rattle.im_queue.specs.Places.{placed_at, AreTakenOut, AskNothing, IsAskedAt, TakesAt};
+ghost use Rattle.std.specs.Prelude.{◌≡◌, ◌+◌, ◌<◌, ◌≤◌, true, length, IfSome, IfOk, slice_set, Some, None};
+ghost use Rattle.{im_types.specs.Types.MAX_GROUP, im_trace.specs.Log.sender_of};
+ghost use Rattle.im_queue.specs.Members.{are_apart_at, are_joined, are_together, AreFreeFor, AreOneOfEach};
+ghost use Rattle.im_queue.specs.Members.{AreSureBehind, Gathers, is_social, IsCut, IsSure, IsSureBehind, MayJoin};
+ghost use Rattle.im_queue.specs.Members.{stored_at};
+ghost use Rattle.im_queue.specs.Places.{AreTakenOut, AskNothing, IsAskedAt, placed_at, TakesAt};
 
 use arrayvec::ArrayVec;
 use im_groups::accepts;
@@ -23,7 +22,7 @@ pub struct Inbox {
 
 impl Model for Inbox {
     ghost use Rattle.std.specs.Prelude.{List, Option};
-    ghost use Rattle.im_types.specs.declared.commands.Command.{Command};
+    ghost use Rattle.im_types.specs.Types.{Command};
     ghost use Rattle.im_queue.specs.Places.{AreInPlace};
 
     ghost Value = { List (Option Command) };

@@ -1,9 +1,9 @@
 //! The servers of the elements: what each one does, and which ports sleep.
-ghost use Rattle.std.specs.Prelude.{◌≡◌, ◌↔◌, ◌≤◌, ◌+◌, ◌||◌, ◌==◌, ℕ, List, true, false, length, count_by};
-ghost use Rattle.std.specs.Prelude.{if◌then◌else◌, IfOk};
-ghost use Rattle.im_types.specs.Contents.{Contents};
-ghost use Rattle.im_queue.specs.Servers.{is_waiting_server, is_unmade, is_stuck, are_stuck, with_server, Makes};
-ghost use Rattle.im_queue.specs.Servers.{AllStuckBut};
+ghost use Rattle.std.specs.Prelude.{◌≡◌, ℕ, ◌+◌, ◌≤◌, true, false, ◌||◌, ◌↔◌, List, length, IfOk, if◌then◌else◌, ◌==◌};
+ghost use Rattle.std.specs.Prelude.{count_by};
+ghost use Rattle.im_types.specs.Types.{Contents};
+ghost use Rattle.im_queue.specs.Servers.{AllStuckBut, are_stuck, is_stuck, is_unmade, is_waiting_server, Makes};
+ghost use Rattle.im_queue.specs.Servers.{with_server};
 
 use arrayvec::ArrayVec;
 use im_memory::Memory;
@@ -41,7 +41,7 @@ pub struct Servers {
 }
 
 impl Model for Servers {
-    ghost use Rattle.std.specs.Prelude.{List, ◌≤◌, length};
+    ghost use Rattle.std.specs.Prelude.{◌≤◌, List, length};
     ghost use Rattle.im_queue.specs.declared.servers.ServerState.{ServerState};
 
     ghost Value = { List ServerState };

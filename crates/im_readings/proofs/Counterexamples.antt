@@ -1,17 +1,11 @@
 -- The laws of rows say no more than they do: with a premise less each fails at a journal that is written out here. And
 -- a journal meets their premises.
-use Rattle.std.proofs.Common.{◌≡◌, inr, ℕ, zero, suc, ◌+◌, ◌<◌, ◌≤◌, true, List, [], ◌∷◌, ◌++◌}
-use Rattle.std.proofs.Common.{length, Option, None, Some, refl, ap, arith}
+use Rattle.std.proofs.Common.{◌≡◌, ℕ, zero, suc, ◌+◌, ◌<◌, ◌≤◌, true, List, [], ◌∷◌, ◌++◌, length, slice_get, Some}
+use Rattle.std.proofs.Common.{None, Option, refl, ap, inr, arith}
+use Rattle.im_types.specs.Types.{I, Alloc, Command, Asks, zeros, slot_body, is_open, sequence_of, command_in, read_in}
+use Rattle.im_types.specs.Types.{Ring, run, commands_in, Tail, slot, continues, tail}
 use Rattle.im_types.proofs.Tests.{differ}
-use Rattle.im_types.specs.declared.operations.Op.TheVariants.{Alloc}
-use Rattle.im_types.specs.declared.operations.Kind.TheVariants.{I}
-use Rattle.im_types.specs.declared.commands.Command.{Command}
-use Rattle.im_types.specs.declared.commands.Command.TheVariants.{Request as Asks}
-use Rattle.im_types.specs.Bytes.{zeros}
-use Rattle.im_types.specs.Slot.{is_open, slot_body, read_in, command_in, sequence_of}
-use Rattle.im_types.specs.Journal.{Ring, slot, continues, commands_in, run, Tail, tail}
-use Rattle.std.specs.Prelude.{slice_get}
-use Rattle.im_readings.specs.Rows.{count_in, HoldsRow, commands_of_groups, IsLongestRow}
+use Rattle.im_readings.specs.Rows.{commands_of_groups, count_in, HoldsRow, IsLongestRow}
 
 -- a ring of two slots; an open slot of a command by itself, under this number
 abbrev ring_of_two : Ring

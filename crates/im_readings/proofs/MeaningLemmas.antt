@@ -1,18 +1,9 @@
 -- What a file means is a memory: its pages show one, and each command of its journal keeps it one.
-use Rattle.std.proofs.Common.{◌≡◌, ◌⊎◌, ⊎_elim, ℕ, ◌+◌, Bool, true, false, List, [], ◌∷◌, length, Option, None, Some}
-use Rattle.std.proofs.Common.{Result, Ok, Err, sym, ap, subst, if◌then◌else◌, ◌&&◌}
-use Rattle.std.specs.Prelude.{MatchOption}
-use Rattle.im_types.specs.declared.commands.Command.{Command}
-use Rattle.im_types.specs.declared.refusals.Refusal.{Refusal}
-use Rattle.im_types.specs.declared.refusals.Refusal.TheVariants.{BadPage}
-use Rattle.im_types.specs.Contents.{Contents}
-use Rattle.im_types.specs.Header.{header_of, header_fault}
-use Rattle.im_types.specs.Journal.{Tail, tail}
-use Rattle.im_types.specs.Layout.{Layout, layout_in_use, ring_of}
-use Rattle.im_types.specs.Memory.{IsMemory}
-use Rattle.im_types.specs.Meaning.{Reached, Means, IsShown, read_journal, reached_after, reached_by, accept_in}
-use Rattle.im_types.specs.Meaning.{can_stand}
-use Rattle.im_types.specs.Step.{step, is_accepted}
+use Rattle.std.proofs.Common.{◌≡◌, ℕ, ◌+◌, Bool, true, false, ◌&&◌, ◌⊎◌, List, [], ◌∷◌, length, if◌then◌else◌, Some}
+use Rattle.std.proofs.Common.{None, Ok, Err, Option, Result, MatchOption, sym, ap, subst, ⊎_elim}
+use Rattle.im_types.specs.Types.{Command, Refusal, BadPage, Contents, IsMemory, step, is_accepted, Layout}
+use Rattle.im_types.specs.Types.{layout_in_use, ring_of, header_of, header_fault, Tail, tail, Reached, can_stand}
+use Rattle.im_types.specs.Types.{accept_in, reached_by, reached_after, read_journal, IsShown, Means}
 
 abbrev StepsKeep : Type 0
 StepsKeep =

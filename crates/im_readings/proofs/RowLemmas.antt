@@ -1,19 +1,12 @@
 -- A run that spells commands is the longest row of groups.
-use Rattle.std.proofs.Common.{◌≡◌, ◌⊎◌, inl, inr, ℕ, zero, suc, ◌+◌, ◌-◌, ◌==◌, ◌<◌, ◌≤◌, ◌&&◌, Bool, true, false}
-use Rattle.std.proofs.Common.{List, [], ◌∷◌, ◌++◌, Option, Some, length, nat_lt, nat_le, refl, sym, ◌∙◌, ap}
-use Rattle.std.proofs.Common.{subst, arith}
-use Rattle.std.specs.Prelude.{slice_get}
-use Rattle.std.proofs.lemmas.Bool.{ltb-true, lt-ltb, le-leb, leb-true, eq-eqb, eqb-true}
+use Rattle.std.proofs.Common.{◌≡◌, ℕ, zero, suc, ◌+◌, ◌-◌, ◌<◌, ◌≤◌, Bool, true, false, ◌&&◌, ◌⊎◌, List, [], ◌∷◌, ◌++◌}
+use Rattle.std.proofs.Common.{length, nat_lt, nat_le, ◌==◌, slice_get, Some, Option, sym, refl, ap, ◌∙◌, subst, inl}
+use Rattle.std.proofs.Common.{inr, arith, ltb-true, lt-ltb, eq-eqb, eqb-true, le-leb, leb-true}
+use Rattle.im_types.specs.Types.{Command, MAX_GROUP, LAST, group_of, sequence_of, read_in, Ring, run_from, with_first}
+use Rattle.im_types.specs.Types.{if_true, leads, commands_in, slot, continues}
 use Rattle.im_types.proofs.Tests.{and_both}
-use Rattle.im_types.specs.declared.TheConstants.{LAST, MAX_GROUP}
-use Rattle.im_types.specs.declared.commands.Command.{Command}
-use Rattle.im_types.specs.Slot.{sequence_of, group_of, read_in}
-use Rattle.im_types.specs.Journal.{Ring, slot, continues, run_from, with_first, if_true, leads, commands_in}
-use Rattle.im_journal.proofs.Slots.{goes_on}
-use Rattle.im_journal.proofs.Rings.{continues_is}
-use Rattle.im_journal.proofs.Runs.{bool_cases, stops, goes, firsts}
-use Rattle.im_readings.specs.Rows.{count_in, HoldsGroup, commands_of_groups, HoldsRow, StopsAt}
-use Rattle.im_readings.specs.Rows.{HasLongestRow}
+use Rattle.im_journal.proofs.{Rings.continues_is, Runs.bool_cases, Runs.firsts, Runs.goes, Runs.stops, Slots.goes_on}
+use Rattle.im_readings.specs.Rows.{commands_of_groups, count_in, HasLongestRow, HoldsGroup, HoldsRow, StopsAt}
 
 -- what a test lets through
 tested : (b : Bool) (o : Option Command) (c : Command) → if_true b o ≡ Some c → (b ≡ true) × (o ≡ Some c)

@@ -1,15 +1,12 @@
 -- The tail of a journal, by its longest row and the closed gates behind it.
-use Rattle.std.proofs.Common.{◌≡◌, ◌⊎◌, inl, inr, ℕ, zero, suc, ◌+◌, ◌-◌, ◌<◌, ◌≤◌, ◌==◌, Bool, true, false, List}
-use Rattle.std.proofs.Common.{Some, length, refl, sym, ◌∙◌, ap, subst, arith, if◌then◌else◌}
-use Rattle.im_types.specs.declared.TheConstants.{LAST}
-use Rattle.im_types.specs.declared.commands.Command.{Command}
-use Rattle.im_types.specs.Slot.{is_open, sequence_of}
-use Rattle.im_types.specs.Journal.{Ring, slot, run, closed_from, are_stale, ends_stale, Tail, tail}
+use Rattle.std.proofs.Common.{◌≡◌, ℕ, zero, suc, ◌+◌, ◌-◌, ◌<◌, ◌≤◌, Bool, true, false, ◌⊎◌, List, length}
+use Rattle.std.proofs.Common.{if◌then◌else◌, ◌==◌, Some, sym, refl, ap, ◌∙◌, subst, inl, inr, arith}
+use Rattle.im_types.specs.Types.{Command, LAST, is_open, sequence_of, Ring, run, closed_from, are_stale, ends_stale}
+use Rattle.im_types.specs.Types.{Tail, slot, tail}
+use Rattle.im_journal.proofs.{Rings.closed_at, Rings.stale_at, Rings.stale_each, Tails.parts_of, Tails.tail_of}
 use Rattle.im_journal.proofs.Runs.{bool_cases, closed_at_most, length-commands}
-use Rattle.im_journal.proofs.Rings.{closed_at, stale_each, stale_at}
-use Rattle.im_journal.proofs.Tails.{parts_of, tail_of}
-use Rattle.im_readings.specs.Rows.{HasLongestRow, AreClosedBehind, HasTail}
 use Rattle.im_readings.proofs.RowLemmas.{longest_of, spelled_by}
+use Rattle.im_readings.specs.Rows.{AreClosedBehind, HasLongestRow, HasTail}
 
 module _ (r : Ring) (file : List ℕ) where
   -- the closed gates end at the last slot, or before an open gate

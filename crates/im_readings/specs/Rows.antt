@@ -1,10 +1,8 @@
 -- What a journal holds, with no walk through its slots: the longest row of whole groups, and the room behind it. (Own.)
-use Rattle.std.specs.Prelude.{◌≡◌, ◌⊎◌, ℕ, zero, suc, ◌+◌, ◌<◌, ◌≤◌, ◌==◌, List, [], ◌∷◌, ◌++◌, length, true, Some}
-use Rattle.std.specs.Prelude.{false, if◌then◌else◌, slice_get}
-use Rattle.im_types.specs.declared.TheConstants.{LAST, MAX_GROUP}
-use Rattle.im_types.specs.declared.commands.Command.{Command}
-use Rattle.im_types.specs.Slot.{is_open, sequence_of, group_of, read_in}
-use Rattle.im_types.specs.Journal.{Ring, slot, continues, Tail}
+use Rattle.std.specs.Prelude.{◌≡◌, ℕ, zero, suc, ◌+◌, ◌<◌, ◌≤◌, true, false, ◌⊎◌, List, [], ◌∷◌, ◌++◌, length}
+use Rattle.std.specs.Prelude.{if◌then◌else◌, ◌==◌, slice_get, Some}
+use Rattle.im_types.specs.Types.{Command, MAX_GROUP, LAST, is_open, group_of, sequence_of, read_in, Ring, Tail, slot}
+use Rattle.im_types.specs.Types.{continues}
 
 -- the count in the slot of a group's command: that of all its commands for the first one, and 0 for each other
 abbrev pub count_in : List Command → ℕ → ℕ

@@ -4,14 +4,10 @@
 //! Each law is the contract of a function that does nothing.
 #![tactic(auto)]
 
-ghost use Rattle.std.specs.Prelude.{◌≡◌, ℕ, List, Some, length};
-ghost use Rattle.im_types.specs.declared.commands.Command.{Command};
-ghost use Rattle.im_types.specs.Agreement.{WaitingAgrees};
-ghost use Rattle.im_types.specs.Contents.{Contents};
-ghost use Rattle.im_types.specs.Journal.{Ring, Tail, commands_in, run, tail};
-ghost use Rattle.im_types.specs.Meaning.{Means};
-ghost use Rattle.im_types.specs.Memory.{IsMemory};
-ghost use Rattle.im_readings.specs.Rows.{HasLongestRow, HasTail, AreSlotsFrom};
+ghost use Rattle.std.specs.Prelude.{◌≡◌, ℕ, List, length, Some};
+ghost use Rattle.im_types.specs.Types.{Command, Contents, IsMemory, WaitingAgrees, Ring, run, commands_in, Tail, tail};
+ghost use Rattle.im_types.specs.Types.{Means};
+ghost use Rattle.im_readings.specs.Rows.{AreSlotsFrom, HasLongestRow, HasTail};
 
 use im_laws::memory_stays_one;
 

@@ -1,46 +1,23 @@
 -- A file that has at least the accepted commands of a history has what its last line tells.
-use Rattle.std.proofs.Common.{◌≡◌, inl, inr, Err, Result, ℕ, zero, suc, ◌+◌, ◌-◌, ◌≤◌, List, [], ◌∷◌, ◌++◌}
-use Rattle.std.proofs.Common.{Ok, length, length-append, length-take, take}
-use Rattle.std.proofs.Common.{refl, sym, ap, ◌∙◌, subst, arith, append_assoc}
-use mathlib.Core.List.{IsPrefix}
-use Rattle.im_types.specs.declared.operations.Entry.{Entry}
-use Rattle.im_types.specs.declared.operations.Entry.TheVariants.{Answered}
-use Rattle.im_types.specs.declared.operations.Waiter.{Waiter}
-use Rattle.im_types.specs.declared.operations.Kept.{Kept}
-use Rattle.im_types.specs.declared.commands.Command.{Command}
-use Rattle.im_types.specs.declared.commands.Call.TheVariants.{Command as Commands, Collect}
-use Rattle.im_types.specs.declared.commands.Outcome.{Outcome}
-use Rattle.im_types.specs.declared.commands.Outcome.TheVariants.{Entry as Tells}
-use Rattle.im_types.specs.declared.refusals.Refusal.{Refusal}
-use Rattle.im_types.specs.declared.commands.Request.{Request}
-use Rattle.im_types.specs.declared.commands.Line.{Line}
-use Rattle.im_types.specs.Contents.{Contents, Window}
-use Rattle.im_types.specs.Agreement.{WaitingAgrees}
-use Rattle.im_types.specs.Meaning.{Means}
-use Rattle.im_types.specs.Run.{after}
-use Rattle.im_types.specs.Trace.{IsLegal, end_of, told}
-use Rattle.im_types.specs.Window.{ask}
-use Rattle.im_laws.specs.Requests.{after_request, IsAnswered}
-use Rattle.im_laws.specs.Traces.{commands_of}
-use Rattle.im_laws.proofs.RunLemmas.{after-append}
-use Rattle.im_laws.proofs.RunAgrees.{after-agrees}
+use Rattle.std.proofs.Common.{◌≡◌, ℕ, zero, suc, ◌+◌, ◌-◌, ◌≤◌, List, [], ◌∷◌, ◌++◌, length, take, Ok, Err, Result, sym}
+use Rattle.std.proofs.Common.{refl, ap, ◌∙◌, subst, inl, inr, append_assoc, arith, length-append, length-take}
+use Rattle.im_types.specs.Types.{Entry, Waiter, Kept, Answered, Request, Command, Outcome, Line, Tells, Commands}
+use Rattle.im_types.specs.Types.{Collect, Refusal, Window, Contents, WaitingAgrees, ask, after, told, IsLegal, end_of}
+use Rattle.im_types.specs.Types.{Means}
+use Rattle.im_laws.proofs.{EntryLemmas.ask-kept, RunAgrees.after-agrees, RunLemmas.after-append}
 use Rattle.im_laws.proofs.TraceLemmas.{end_of-append, end_of-commands, IsLegal-split}
-use Rattle.im_laws.proofs.EntryLemmas.{ask-kept}
-use Rattle.im_laws.proofs.WaiterLemmas.{waiting_only}
+use Rattle.{im_laws.proofs.WaiterLemmas.waiting_only, im_disk.specs.declared.Disk.Ghosts, im_trace.specs.Origin.Origin}
 use Rattle.im_laws.specs.Entries.{IsKeptFor, IsToldAgainOrForgotten, LastsOrIsForgotten}
-use Rattle.im_plans.proofs.PlannedRuns.{IsKeptAs, asked-kept}
-use Rattle.im_disk.specs.declared.disk.Disk.{Ghosts}
-use Rattle.im_session.specs.Kept.{MeansPut, SessionStart, SessionState}
-use Rattle.im_session.specs.Keeping.{MeansFrom}
-use Rattle.im_trace.specs.Origin.{Origin}
-use Rattle.im_controller.specs.Kept.{accepted_in, IsLeftAt, IsSessionOf}
-use Rattle.im_controller.specs.Log.{ReceiptState, FoundState}
-use Rattle.im_controller.specs.Lines.{EndsIn, line_of, time_at}
-use Rattle.im_controller.proofs.KeptLemmas.{accepted-after, accepted-more}
+use Rattle.im_laws.specs.{Requests.after_request, Requests.IsAnswered, Traces.commands_of}
+use Rattle.im_plans.proofs.PlannedRuns.{asked-kept, IsKeptAs}
+use Rattle.im_session.specs.{Keeping.MeansFrom, Kept.MeansPut, Kept.SessionStart, Kept.SessionState}
 use Rattle.im_promise.specs.Traces.{line_telling}
-use Rattle.im_receipts.specs.Alike.{GivesEntry}
-use Rattle.im_receipts.specs.Durable.{IsFoundAgainOrForgotten, commands_through}
+use Rattle.im_controller.proofs.KeptLemmas.{accepted-after, accepted-more}
+use Rattle.im_controller.specs.Kept.{accepted_in, IsLeftAt, IsSessionOf}
+use Rattle.im_controller.specs.{Lines.EndsIn, Lines.line_of, Lines.time_at, Log.FoundState, Log.ReceiptState}
 use Rattle.im_receipts.proofs.Tellings.{is_telling}
+use Rattle.im_receipts.specs.{Alike.GivesEntry, Durable.commands_through, Durable.IsFoundAgainOrForgotten}
+use mathlib.Core.List.{IsPrefix}
 
 -- the first elements of two lists, if they go past the first one
 take_past : {X : Type 0} (n : ℕ) (xs ys : List X) → length xs ≤ n → take n (xs ++ ys) ≡ xs ++ take (n - length xs) ys

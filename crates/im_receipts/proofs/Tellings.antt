@@ -1,26 +1,14 @@
 -- Of two histories that end in a request's line, one is told later than the other.
-use Rattle.std.proofs.Common.{◌≡◌, ◌⊎◌, inl, inr, ⊎_elim, List, [], ◌∷◌, ◌++◌, Ok, false, refl, sym, ◌∙◌, ap, subst, append_assoc}
-use Rattle.std.specs.Prelude.{Result}
+use Rattle.std.proofs.Common.{◌≡◌, false, ◌⊎◌, List, [], ◌∷◌, ◌++◌, Ok, Result, sym, refl, ap, ◌∙◌, subst, inl, inr}
+use Rattle.std.proofs.Common.{⊎_elim, append_assoc}
 use Rattle.std.proofs.lemmas.List.{same_from_push}
-use mathlib.Core.List.{IsPrefix}
-use Rattle.im_types.specs.declared.operations.Entry.{Entry}
-use Rattle.im_types.specs.declared.commands.Request.{Request}
-use Rattle.im_types.specs.declared.commands.Command.{Command}
-use Rattle.im_types.specs.declared.commands.Command.TheVariants.{Request as Asks}
-use Rattle.im_types.specs.declared.commands.Outcome.{Outcome}
-use Rattle.im_types.specs.declared.commands.Outcome.TheVariants.{Entry as Tells}
-use Rattle.im_types.specs.declared.commands.Call.TheVariants.{Command as Commands}
-use Rattle.im_types.specs.declared.commands.Line.{Line}
-use Rattle.im_types.specs.declared.refusals.Refusal.{Refusal}
-use Rattle.im_types.specs.Contents.{Contents}
-use Rattle.im_types.specs.Agreement.{WaitingAgrees}
-use Rattle.im_types.specs.Step.{is_accepted}
-use Rattle.im_types.specs.Trace.{IsLegal, end_of}
+use Rattle.im_types.specs.Types.{Entry, Request, Command, Outcome, Line, Asks, Tells, Commands, Refusal, Contents}
+use Rattle.im_types.specs.Types.{WaitingAgrees, is_accepted, IsLegal, end_of}
 use Rattle.im_laws.specs.Entries.{IsSameOrAnswer}
-use Rattle.im_controller.specs.Log.{ReceiptState}
-use Rattle.im_controller.specs.Lines.{EndsIn, line_of}
-use Rattle.im_promise.specs.Traces.{line_telling, ToldTwice, at_other}
-use Rattle.im_receipts.specs.Alike.{GivesEntry, IsToldLater, AreToldAlike}
+use Rattle.im_promise.specs.Traces.{at_other, line_telling, ToldTwice}
+use Rattle.im_controller.specs.{Lines.EndsIn, Lines.line_of, Log.ReceiptState}
+use Rattle.im_receipts.specs.Alike.{AreToldAlike, GivesEntry, IsToldLater}
+use mathlib.Core.List.{IsPrefix}
 
 -- a prefix of a list is all of it, or a prefix of what stands before its last element
 whole_or_before : {A : Type 0} (xs zs : List A) (x : A) → IsPrefix xs (zs ++ x ∷ [])

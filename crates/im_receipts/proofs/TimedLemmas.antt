@@ -1,8 +1,7 @@
 -- The times of two histories of one trace.
-use Rattle.std.proofs.Common.{◌≡◌, ℕ, ◌≤◌, List, length, length-append, ap, arith}
+use Rattle.std.proofs.Common.{◌≡◌, ℕ, ◌≤◌, List, length, ap, arith, length-append}
+use Rattle.{im_types.specs.Types.Line, im_trace.specs.Lines.NeverGoBack, im_trace.specs.Lines.time_at}
 use mathlib.Core.List.{IsPrefix}
-use Rattle.im_types.specs.declared.commands.Line.{Line}
-use Rattle.im_trace.specs.Lines.{NeverGoBack, time_at}
 
 pub in_time : (times : List ℕ) (trace one two : List Line) → NeverGoBack times → length times ≡ length trace
     → IsPrefix one two → IsPrefix two trace → time_at times (length one) ≤ time_at times (length two)

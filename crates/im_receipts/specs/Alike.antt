@@ -1,16 +1,8 @@
 -- Two receipts of one request. (Own.)
-use Rattle.std.specs.Prelude.{◌≡◌, ◌⊎◌, List, [], ◌∷◌, ◌++◌, false}
-use Rattle.im_types.specs.declared.operations.Entry.{Entry}
-use Rattle.im_types.specs.declared.commands.Request.{Request}
-use Rattle.im_types.specs.declared.commands.Command.TheVariants.{Request as Asks}
-use Rattle.im_types.specs.declared.commands.Outcome.TheVariants.{Entry as Tells}
-use Rattle.im_types.specs.declared.commands.Line.{Line}
-use Rattle.im_types.specs.Contents.{Contents}
-use Rattle.im_types.specs.Step.{is_accepted}
-use Rattle.im_types.specs.Trace.{end_of}
+use Rattle.std.specs.Prelude.{◌≡◌, false, ◌⊎◌, List, [], ◌∷◌, ◌++◌}
+use Rattle.im_types.specs.Types.{Entry, Request, Line, Asks, Tells, Contents, is_accepted, end_of}
 use Rattle.im_laws.specs.Entries.{IsSameOrAnswer}
-use Rattle.im_controller.specs.Log.{ReceiptState}
-use Rattle.im_promise.specs.Traces.{line_telling}
+use Rattle.{im_promise.specs.Traces.line_telling, im_controller.specs.Log.ReceiptState}
 
 -- a receipt is of this request and has this entry
 abbrev pub GivesEntry : ReceiptState → Request → Entry → Type 0

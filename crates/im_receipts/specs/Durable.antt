@@ -1,23 +1,12 @@
 -- A receipt, or an entry that was found, and the files that a crash may leave from its time on. (Own.)
-use Rattle.std.specs.Prelude.{◌≡◌, ◌⊎◌, ℕ, ◌≤◌, List, ◌∷◌, ◌++◌, Ok, length}
-use mathlib.Core.List.{IsPrefix}
-use Rattle.im_types.specs.declared.operations.Entry.{Entry}
-use Rattle.im_types.specs.declared.operations.Waiter.{Waiter}
-use Rattle.im_types.specs.declared.commands.Command.{Command}
-use Rattle.im_types.specs.declared.commands.Request.{Request}
-use Rattle.im_types.specs.declared.commands.Line.{Line}
-use Rattle.im_types.specs.Contents.{Contents}
-use Rattle.im_types.specs.Window.{ask}
-use Rattle.im_types.specs.Run.{after}
-use Rattle.im_disk.specs.declared.disk.Disk.{Ghosts}
-use Rattle.im_disk.specs.Moment.{LeftSince}
-use Rattle.im_laws.specs.Entries.{IsSameOrAnswer, IsToldAgainOrForgotten}
-use Rattle.im_laws.specs.Windows.{IsForgotten}
-use Rattle.im_session.specs.Kept.{MeansPut, SessionState}
-use Rattle.im_trace.specs.Origin.{Origin}
-use Rattle.im_controller.specs.Kept.{accepted_in}
-use Rattle.im_controller.specs.Log.{ReceiptState, FoundState}
+use Rattle.std.specs.Prelude.{◌≡◌, ℕ, ◌≤◌, ◌⊎◌, List, ◌∷◌, ◌++◌, length, Ok}
+use Rattle.im_types.specs.Types.{Entry, Waiter, Request, Command, Line, Contents, ask, after}
+use Rattle.im_laws.specs.{Entries.IsSameOrAnswer, Entries.IsToldAgainOrForgotten, Windows.IsForgotten}
+use Rattle.im_disk.specs.{declared.Disk.Ghosts, Moment.LeftSince}
+use Rattle.{im_session.specs.Kept.MeansPut, im_session.specs.Kept.SessionState, im_trace.specs.Origin.Origin}
+use Rattle.im_controller.specs.{Kept.accepted_in, Log.FoundState, Log.ReceiptState}
 use Rattle.im_receipts.specs.Alike.{GivesEntry}
+use mathlib.Core.List.{IsPrefix}
 
 -- what was put before a trace began, the accepted commands of this history of it, and others that were accepted later
 abbrev pub commands_through : Origin → List Line → List Command → List Command

@@ -1,8 +1,7 @@
 -- Two receipts, and their times. (Own.)
 use Rattle.std.specs.Prelude.{◌≤◌}
+use Rattle.{im_disk.specs.declared.Disk.Ghosts, im_controller.specs.Log.ReceiptState}
 use mathlib.Core.List.{IsPrefix}
-use Rattle.im_disk.specs.declared.disk.Disk.{Ghosts}
-use Rattle.im_controller.specs.Log.{ReceiptState}
 
 -- On a disk that is honest, a receipt whose history begins that of another has no later time.
 abbrev pub AreInTime : {D : Type 0} → Ghosts D → ReceiptState → ReceiptState → D → Type 0

@@ -1,7 +1,6 @@
 //! Two receipts of one request.
-ghost use Rattle.im_types.specs.declared.operations.Entry.{Entry};
-ghost use Rattle.im_types.specs.declared.commands.Request.{Request};
-ghost use Rattle.im_receipts.specs.Alike.{GivesEntry, AreToldAlike};
+ghost use Rattle.im_types.specs.Types.{Entry, Request};
+ghost use Rattle.im_receipts.specs.Alike.{AreToldAlike, GivesEntry};
 
 use im_controller::{Name, Receipt};
 use im_promise::traces_tell_a_request_alike;

@@ -1,10 +1,8 @@
 //! What a receipt tells is on the disk from then on, and so is an entry that was found.
 ghost use Rattle.std.specs.Prelude.{◌≡◌};
-ghost use mathlib.Core.List.{IsPrefix};
-ghost use Rattle.im_controller.specs.Lines.{time_at};
-ghost use Rattle.im_controller.specs.Chains.{IsOpened};
-ghost use Rattle.im_controller.specs.Kept.{IsSessionOf, KeptSince};
+ghost use Rattle.im_controller.specs.{Chains.IsOpened, Kept.IsSessionOf, Kept.KeptSince, Lines.time_at};
 ghost use Rattle.im_receipts.specs.Durable.{StaysDurable, StaysFound};
+ghost use mathlib.Core.List.{IsPrefix};
 
 use im_controller::{Controller, Finished, Found, Name, Port, Prefix, Receipt, When, finish_kept};
 use im_disk::Disk;

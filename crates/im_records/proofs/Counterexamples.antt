@@ -2,9 +2,8 @@
 -- stands. That one of a single area does (`areas_spell_one_list_of_records`) is shown in im_image, where two areas are written out;
 -- and that the premises are met at each memory is what `encode` there stands on.
 use Rattle.std.proofs.Common.{ℕ, ◌+◌, List, [], ◌∷◌, get_or, refl, ap, arith}
+use Rattle.im_types.specs.Types.{layout_in_use, Sizes, page_bytes, area_pages, record_at, Records, SpellsArea}
 use Rattle.im_types.proofs.Tests.{differ}
-use Rattle.im_types.specs.Layout.{Sizes, layout_in_use, area_pages, record_at, page_bytes}
-use Rattle.im_types.specs.Pages.{Records, SpellsArea}
 use Rattle.im_records.specs.Paging.{ArePages, FitRecords, joined}
 
 -- no cell and no element, so an area has no page

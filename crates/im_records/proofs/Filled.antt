@@ -1,30 +1,18 @@
 -- Bytes that have the fields of a cell, and beside them what its spelling has there, are its spelling.
-use Rattle.std.proofs.Common.{◌≡◌, ℕ, zero, suc, ◌+◌, ◌-◌, ◌/◌, ◌<◌, ◌^◌, ◌==◌, ◌∷◌, ◌++◌, [], Bool, true, false}
-use Rattle.std.proofs.Common.{List, Option}
-use Rattle.std.proofs.Common.{None, Some, length}
-use Rattle.std.proofs.Common.{get_or, slice_range, take, drop, refl, sym, ap, ◌∙◌, arith, if◌then◌else◌, subst}
-use Rattle.std.proofs.Math.Nat.{mod-lt}
-use Rattle.std.proofs.lemmas.Bool.Decides.{nat_tests}
+use Rattle.std.proofs.Common.{◌≡◌, ℕ, zero, suc, ◌+◌, ◌-◌, ◌/◌, ◌^◌, ◌<◌, Bool, true, false, List, [], ◌∷◌, ◌++◌}
+use Rattle.std.proofs.Common.{length, get_or, take, drop, if◌then◌else◌, ◌==◌, slice_range, Some, None, Option, sym}
+use Rattle.std.proofs.Common.{refl, ap, ◌∙◌, subst, arith, get_or-drop}
+use Rattle.byteorder.specs.Endian.{little_bytes, little_number}
+use Rattle.byteorder.specs.Numbers.{little_from-lt, little_number-reads_back}
+use Rattle.std.proofs.{lemmas.Bool.Decides.nat_tests, Math.Nat.mod-lt}
 use Rattle.std.specs.Int.{byte_at, bytes_low_first}
-use Rattle.byteorder.specs.Endian.{little_number, little_bytes}
-use Rattle.byteorder.specs.Numbers.{little_number-reads_back, little_from-lt}
-use Rattle.im_types.specs.declared.TheConstants.{NONE}
-use Rattle.im_types.specs.declared.operations.Kind.{Kind}
-use Rattle.im_types.specs.declared.operations.Kind.TheVariants.{I, M}
-use Rattle.im_types.specs.declared.operations.Block.{Block}
-use Rattle.im_types.specs.Bytes.{same_bytes, number_at, zeros, kind_code}
-use Rattle.im_types.specs.declared.records.PresenceTag.{PresenceTag}
-use Rattle.im_types.specs.declared.records.PresenceTag.TheVariants.{Empty as TagEmpty, Waiting as TagWaiting}
-use Rattle.im_types.specs.declared.records.PresenceTag.TheVariants.{Full as TagFull, Clashed as TagClashed}
-use Rattle.im_types.specs.declared.records.CellRecord.{CellRecord}
-use Rattle.im_types.specs.declared.records.CellRecord.TheVariants.{Free as FreeCell, Held as BlockCell}
-use Rattle.im_types.specs.Records.{tag_code, tag_first, tag_last, tag_value, cell_bytes}
-use Rattle.std.proofs.lemmas.List.{get_or-drop}
+use Rattle.im_types.specs.Types.{Kind, Block, I, M, NONE, zeros, same_bytes, number_at, kind_code, PresenceTag}
+use Rattle.im_types.specs.Types.{CellRecord, TagEmpty, TagWaiting, TagFull, TagClashed, FreeCell, BlockCell, tag_code}
+use Rattle.im_types.specs.Types.{tag_first, tag_last, tag_value, cell_bytes}
 use Rattle.im_formats.proofs.Same.{same_bytes_true}
-use Rattle.im_formats.specs.Reading.{tag_of, kind_of, block_cell, cell_in}
-use Rattle.im_records.specs.Words.{SameAt}
-use Rattle.im_records.proofs.Words.{same_both, same_byte, same_of_number, all_same}
-use Rattle.im_records.specs.Filled.{FillTag, FillCell}
+use Rattle.im_formats.specs.Reading.{block_cell, cell_in, kind_of, tag_of}
+use Rattle.im_records.proofs.Words.{all_same, same_both, same_byte, same_of_number}
+use Rattle.im_records.specs.{Filled.FillCell, Filled.FillTag, Words.SameAt}
 
 -- a tag has the numbers that it is read of
 abbrev pub HasNumbers : PresenceTag → ℕ → ℕ → ℕ → Type 0

@@ -1,21 +1,15 @@
 -- Pages that have the records of an area, one behind the other, are an area of these records.
-use Rattle.std.proofs.Common.{◌≡◌, ◌⊎◌, inl, inr, ℕ, zero, suc, ◌+◌, ◌-◌, ◌*◌, ◌/◌, ◌<◌, ◌≤◌, List, ◌++◌, length}
-use Rattle.std.proofs.Common.{take, drop, slice_get, slice_index_or, refl, sym, ap, subst, ◌∙◌, arith}
-use Rattle.std.proofs.lemmas.List.{drop-take, take-take, drop-drop, length-append, length-drop, length-take-le}
-use Rattle.std.proofs.lemmas.List.{take_all, take_at, drop_at}
-use Rattle.std.proofs.lemmas.Bool.{cases_lt}
-use Rattle.std.proofs.lemmas.Option.{slice_get-get_or, slice_get_past}
-use Rattle.im_types.specs.declared.TheConstants.{NONE}
-use Rattle.im_types.specs.Contents.{new_window}
-use Rattle.im_types.specs.Layout.{Sizes, layout_in_use, page_bytes, cell_record_bytes, node_record_bytes}
-use Rattle.im_types.specs.Layout.{session_record_bytes, on_a_page, area_bytes, area_pages, cell_pages, node_pages}
-use Rattle.im_types.specs.Layout.{session_pages, node_count, cell_part, node_part, session_part, record_at}
-use Rattle.im_types.specs.declared.records.CellRecord.TheVariants.{Free as FreeCell}
-use Rattle.im_types.specs.declared.records.NodeRecord.TheVariants.{Free as FreeNode}
-use Rattle.im_types.specs.Records.{cell_bytes, node_bytes, session_bytes, FitsCell, FitsNode, FitsWindow}
-use Rattle.im_types.specs.Pages.{Records, IsRow, SpellsArea}
-use Rattle.im_records.specs.Paging.{bytes_or_zeros, IsCellPage, IsNodePage, IsSessionPage, ArePages, FitRecords, joined}
-use Rattle.im_records.proofs.Pieces.{record_is, of_pages, zeros_behind}
+use Rattle.std.proofs.Common.{◌≡◌, ℕ, zero, suc, ◌+◌, ◌-◌, ◌*◌, ◌/◌, ◌<◌, ◌≤◌, ◌⊎◌, List, ◌++◌, length, take, drop}
+use Rattle.std.proofs.Common.{slice_get, slice_index_or, sym, refl, ap, ◌∙◌, subst, inl, inr, arith, length-append}
+use Rattle.std.proofs.Common.{length-drop, length-take-le, take_all, take-take, drop-drop, take_at, drop_at}
+use Rattle.std.proofs.lemmas.{Bool.cases_lt, List.drop-take, Option.slice_get-get_or, Option.slice_get_past}
+use Rattle.im_types.specs.Types.{NONE, new_window, layout_in_use, Sizes, page_bytes, cell_record_bytes}
+use Rattle.im_types.specs.Types.{node_record_bytes, session_record_bytes, node_count, on_a_page, cell_pages, node_pages}
+use Rattle.im_types.specs.Types.{session_pages, area_pages, area_bytes, cell_part, node_part, session_part, record_at}
+use Rattle.im_types.specs.Types.{FreeCell, FreeNode, cell_bytes, node_bytes, FitsCell, FitsNode, session_bytes}
+use Rattle.im_types.specs.Types.{FitsWindow, Records, IsRow, SpellsArea}
+use Rattle.im_records.proofs.Pieces.{of_pages, record_is, zeros_behind}
+use Rattle.im_records.specs.Paging.{ArePages, bytes_or_zeros, FitRecords, IsCellPage, IsNodePage, IsSessionPage, joined}
 
 -- a row whose records, and zeros behind them, stand at all places of bytes
 row_by_places : {X : Type 0} (size : ℕ) (spelled : X → List ℕ) (Fits : X → Type 0) (none : X) (count all : ℕ)

@@ -1,13 +1,9 @@
 -- Pieces of an area, and its rest behind a place.
-use Rattle.std.proofs.Common.{◌≡◌, ℕ, suc, ◌+◌, ◌-◌, ◌*◌, ◌/◌, ◌<◌, ◌≤◌, List, length, take, drop, sym, ap, ◌∙◌}
-use Rattle.std.proofs.Common.{subst, arith}
-use Rattle.std.proofs.Math.Nat.{mul-suc, mul-le-mul_left}
-use Rattle.std.proofs.lemmas.List.{length-drop, length-take-le, take_all, take-take, drop-take, drop-drop}
-use Rattle.im_types.specs.Layout.{record_at}
-use Rattle.im_types.specs.Pages.{IsRow}
-use Rattle.im_types.specs.Bytes.{zeros}
-use Rattle.im_records.specs.Rows.{StandsAt, BeginWith}
-use Rattle.im_records.proofs.Pieces.{record_is, record_behind}
+use Rattle.std.proofs.Common.{◌≡◌, ℕ, suc, ◌+◌, ◌-◌, ◌*◌, ◌/◌, ◌<◌, ◌≤◌, List, length, take, drop, sym, ap, ◌∙◌, subst}
+use Rattle.std.proofs.Common.{arith, length-drop, length-take-le, take_all, take-take, drop-drop}
+use Rattle.std.proofs.{lemmas.List.drop-take, Math.Nat.mul-le-mul_left, Math.Nat.mul-suc}
+use Rattle.im_types.specs.Types.{record_at, zeros, IsRow}
+use Rattle.im_records.{proofs.Pieces.record_behind, proofs.Pieces.record_is, specs.Rows.BeginWith, specs.Rows.StandsAt}
 
 -- a record among the first bytes
 pub record_of_first : (size i n : ℕ) (bytes : List ℕ) → size * i + size ≤ n → record_at size (take n bytes) i

@@ -1,12 +1,10 @@
 -- Records of a page are records of the part that the page is of.
-use Rattle.std.proofs.Common.{◌≡◌, ◌⊎◌, inl, inr, ℕ, zero, suc, ◌+◌, ◌-◌, ◌*◌, ◌/◌, ◌%◌, ◌<◌, ◌≤◌, List, [], ◌∷◌}
-use Rattle.std.proofs.Common.{◌++◌, length, take, drop, refl, sym, ap, ◌∙◌, arith}
-use Rattle.std.proofs.Math.Nat.{mul-zero, mul-suc, mul-sub, mul-le-mul_left, div-add-mod, mod-lt}
-use Rattle.std.proofs.lemmas.Bool.{cases_lt}
-use Rattle.std.proofs.lemmas.List.{drop-take, take-take, drop-drop, take-append-drop, length-drop}
-use Rattle.std.proofs.lemmas.List.{replicate-append-replicate}
-use Rattle.im_types.specs.Bytes.{zeros}
-use Rattle.im_types.specs.Layout.{record_at}
+use Rattle.std.proofs.Common.{◌≡◌, ℕ, zero, suc, ◌+◌, ◌-◌, ◌*◌, ◌/◌, ◌%◌, ◌<◌, ◌≤◌, ◌⊎◌, List, [], ◌∷◌, ◌++◌, length}
+use Rattle.std.proofs.Common.{take, drop, sym, refl, ap, ◌∙◌, inl, inr, arith, length-drop, take-append-drop, take-take}
+use Rattle.std.proofs.Common.{drop-drop}
+use Rattle.std.proofs.lemmas.{Bool.cases_lt, List.drop-take, List.replicate-append-replicate}
+use Rattle.std.proofs.Math.Nat.{div-add-mod, mod-lt, mul-le-mul_left, mul-sub, mul-suc, mul-zero}
+use Rattle.im_types.specs.Types.{record_at, zeros}
 
 pub record_is : (n i : ℕ) (bytes : List ℕ) → record_at n bytes i ≡ take n (drop (n * i) bytes)
 record_is n i bytes = ap (λ (k : ℕ). take k (drop (n * i) bytes)) (size (n * i) n)

@@ -1,13 +1,10 @@
 -- A record put at its place, and what stands at other places.
-use Rattle.std.proofs.Common.{◌≡◌, ◌≢◌, ◌⊎◌, inl, inr, ℕ, suc, ◌+◌, ◌-◌, ◌*◌, ◌<◌, ◌≤◌, List, ◌++◌, length, take}
-use Rattle.std.proofs.Common.{drop, sym, ap, ◌∙◌, arith}
-use Rattle.std.proofs.Math.Nat.{mul-suc, mul-le-mul_left}
-use Rattle.std.proofs.lemmas.Bool.{cases_order}
-use Rattle.std.proofs.lemmas.List.{append_assoc, drop-take, take-take, drop-drop, length-append, length-take-le}
-use Rattle.std.proofs.lemmas.List.{take_at, drop_at}
-use Rattle.im_types.specs.Layout.{record_at}
-use Rattle.im_records.specs.Placed.{placed}
-use Rattle.im_records.proofs.Pieces.{record_is}
+use Rattle.std.proofs.Common.{◌≡◌, ℕ, suc, ◌+◌, ◌-◌, ◌*◌, ◌<◌, ◌≤◌, ◌≢◌, ◌⊎◌, List, ◌++◌, length, take, drop, sym, ap}
+use Rattle.std.proofs.Common.{◌∙◌, inl, inr, append_assoc, arith, length-append, length-take-le, take-take, drop-drop}
+use Rattle.std.proofs.Common.{take_at, drop_at}
+use Rattle.std.proofs.{lemmas.Bool.cases_order, lemmas.List.drop-take, Math.Nat.mul-le-mul_left, Math.Nat.mul-suc}
+use Rattle.im_types.specs.Types.{record_at}
+use Rattle.im_records.{proofs.Pieces.record_is, specs.Placed.placed}
 
 module _ (size at : ℕ) (part bytes : List ℕ) (long : length part ≡ size) (room : at + size ≤ length bytes) where
   before : length (take at bytes) ≡ at

@@ -1,16 +1,11 @@
 -- Bytes of another length read as nothing, and what a reading comes to by its parts.
-use Rattle.std.proofs.Common.{◌≡◌, ℕ, ◌<◌, ◌^◌, arith, List, length, Option, None, Some, true, false, refl, sym, ap}
-use Rattle.std.proofs.Common.{◌∙◌, if◌then◌else◌, option_and_then}
-use Rattle.im_types.specs.declared.operations.Kept.{Kept}
-use Rattle.im_types.specs.declared.records.CellRecord.{CellRecord}
-use Rattle.im_types.specs.declared.records.CellRecord.TheVariants.{Free as FreeCell, Held as BlockCell}
-use Rattle.im_types.specs.declared.records.NodeRecord.{NodeRecord}
-use Rattle.im_types.specs.declared.records.NodeRecord.TheVariants.{Free as FreeNode, Listed as ListNode}
-use Rattle.im_types.specs.Bytes.{same_bytes}
-use Rattle.im_types.specs.Records.{cell_bytes, node_bytes, place_bytes, FitsCell, FitsNode}
-use Rattle.im_formats.specs.Reading.{read_cell, read_node, read_place, cell_in, node_in, place_in, cell_if, place_if}
-use Rattle.im_formats.proofs.Records.{read_cell-only, read_node-only, read_cell-spelled, read_node-spelled}
+use Rattle.std.proofs.Common.{◌≡◌, ℕ, ◌^◌, ◌<◌, true, false, List, length, if◌then◌else◌, Some, None, Option}
+use Rattle.std.proofs.Common.{option_and_then, sym, refl, ap, ◌∙◌, arith}
+use Rattle.im_types.specs.Types.{Kept, same_bytes, CellRecord, NodeRecord, FreeCell, BlockCell, ListNode, FreeNode}
+use Rattle.im_types.specs.Types.{cell_bytes, node_bytes, FitsCell, FitsNode, place_bytes}
 use Rattle.im_formats.proofs.Places.{read_place-only}
+use Rattle.im_formats.proofs.Records.{read_cell-only, read_cell-spelled, read_node-only, read_node-spelled}
+use Rattle.im_formats.specs.Reading.{cell_if, cell_in, node_in, place_if, place_in, read_cell, read_node, read_place}
 use Rattle.im_records.specs.Rows.{Spells}
 
 pub length-cell : (cell : CellRecord) → length (cell_bytes cell) ≡ 32

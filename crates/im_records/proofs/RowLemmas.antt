@@ -1,12 +1,9 @@
 -- Rows of records: one more, and none other.
-use Rattle.std.proofs.Common.{◌≡◌, ℕ, ◌+◌, ◌*◌, ◌<◌, ◌≤◌, List, [], ◌∷◌, ◌++◌, length, get_or, sym, ◌∙◌, subst, arith}
-use Rattle.std.proofs.Common.{below_more, ap}
-use Rattle.std.specs.Prelude.{Err, IsErrOf}
-use Rattle.std.proofs.lemmas.List.{length-append, get_or_append_left, get_or_at}
-use Rattle.im_types.specs.declared.refusals.Refusal.{Refusal}
-use Rattle.im_types.specs.Layout.{record_at}
-use Rattle.im_records.specs.Rows.{Spells, StandsAt, BeginWith}
-use Rattle.im_records.proofs.Parts.{record_of_piece}
+use Rattle.std.proofs.Common.{◌≡◌, ℕ, ◌+◌, ◌*◌, ◌<◌, ◌≤◌, List, [], ◌∷◌, ◌++◌, length, get_or, Err, IsErrOf, sym, ap}
+use Rattle.std.proofs.Common.{◌∙◌, subst, arith, length-append, below_more}
+use Rattle.std.proofs.lemmas.List.{get_or_append_left, get_or_at}
+use Rattle.im_types.specs.Types.{Refusal, record_at}
+use Rattle.im_records.{proofs.Parts.record_of_piece, specs.Rows.BeginWith, specs.Rows.Spells, specs.Rows.StandsAt}
 
 -- a refusal of one call is that of another
 pub refused-same : {T U : Type 0} (a b : Refusal) → IsErrOf {T = T} {E = Refusal} (Err a) b

@@ -1,25 +1,16 @@
 -- A session record, place by place.
-use Rattle.std.proofs.Common.{◌≡◌, ℕ, ◌+◌, ◌-◌, ◌*◌, ◌%◌, ◌<◌, ◌≤◌, zero, suc, take, drop, List, [], ◌∷◌, ◌++◌, None}
-use Rattle.std.proofs.Common.{Some, length, replicate, slice_get, slice_index, slice_range, refl, sym, ap, ◌∙◌, subst}
-use Rattle.std.proofs.Common.{arith, add-one}
-use Rattle.std.proofs.lemmas.List.{append_assoc, append-nil, length-append, length-replicate}
-use Rattle.std.proofs.lemmas.List.{replicate-append-replicate, take_at, drop_at, drop-drop, drop-replicate, take_all}
-use Rattle.byteorder.specs.Endian.{little_bytes, little_number}
-use Rattle.byteorder.specs.Numbers.{little_number-reads_back}
-use Rattle.im_types.specs.declared.TheConstants.{LAST}
-use Rattle.im_types.specs.declared.operations.Kept.{Kept}
-use Rattle.im_types.specs.declared.layout.Version.{Version}
-use Rattle.im_types.specs.declared.layout.Version.TheVariants.{One, Two}
-use Rattle.im_types.specs.Contents.{Window}
-use Rattle.im_types.specs.Bytes.{zeros}
-use Rattle.im_types.specs.Layout.{Layout, layout_of, session_record_bytes}
-use Rattle.im_types.specs.Records.{place_bytes, entry_at, places_from, session_bytes, FitsPlace}
-use Rattle.im_formats.specs.Reading.{read_place}
-use Rattle.im_formats.proofs.Places.{read_place-spelled}
-use Rattle.im_formats.proofs.Sessions.{place_of_session, ring_of_version, fits_at}
-use Rattle.im_records.specs.Entries.{FitEntries, SpellsSession}
-use Rattle.im_records.specs.Placed.{placed}
+use Rattle.std.proofs.Common.{◌≡◌, ℕ, zero, suc, ◌+◌, ◌-◌, ◌*◌, ◌%◌, ◌<◌, ◌≤◌, List, [], ◌∷◌, ◌++◌, length, take, drop}
+use Rattle.std.proofs.Common.{replicate, slice_get, slice_index, slice_range, Some, None, sym, refl, ap, ◌∙◌, subst}
+use Rattle.std.proofs.Common.{append_assoc, append-nil, add-one, arith, length-append, take_all, drop-drop, take_at}
+use Rattle.std.proofs.Common.{drop_at}
+use Rattle.byteorder.specs.{Endian.little_bytes, Endian.little_number, Numbers.little_number-reads_back}
+use Rattle.std.proofs.lemmas.List.{drop-replicate, length-replicate, replicate-append-replicate}
+use Rattle.im_types.specs.Types.{Kept, LAST, Window, Version, One, Two, Layout, layout_of, session_record_bytes, zeros}
+use Rattle.im_types.specs.Types.{place_bytes, FitsPlace, entry_at, places_from, session_bytes}
+use Rattle.im_formats.{proofs.Places.read_place-spelled, specs.Reading.read_place}
+use Rattle.im_formats.proofs.Sessions.{fits_at, place_of_session, ring_of_version}
 use Rattle.im_records.proofs.Reading.{length-place, none_some, some_inj}
+use Rattle.im_records.specs.{Entries.FitEntries, Entries.SpellsSession, Placed.placed}
 
 -- the bytes of a page behind the head of a session record
 abbrev pub behind_head : ℕ

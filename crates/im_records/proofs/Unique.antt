@@ -1,17 +1,10 @@
 -- An area spells one list of records.
-use Rattle.std.proofs.Common.{◌≡◌, ℕ, ◌*◌, ◌<◌, ◌≤◌, ◌^◌, List, get_or, sym, ap, ◌∙◌, arith}
-use Rattle.std.proofs.lemmas.List.{ext_get_or}
-use Rattle.im_types.specs.declared.records.CellRecord.{CellRecord}
-use Rattle.im_types.specs.declared.records.NodeRecord.{NodeRecord}
-use Rattle.im_types.specs.Sizes.{AreLimits}
-use Rattle.im_types.specs.Layout.{Sizes, layout_of, node_count}
-use Rattle.im_types.specs.Records.{cell_bytes, node_bytes, FitsCell, FitsNode}
-use Rattle.im_types.specs.Pages.{Records, IsRow, SpellsArea}
-use Rattle.im_formats.specs.Reading.{read_cell, read_node}
+use Rattle.std.proofs.Common.{◌≡◌, ℕ, ◌*◌, ◌^◌, ◌<◌, ◌≤◌, List, get_or, sym, ap, ◌∙◌, arith, ext_get_or}
+use Rattle.im_types.specs.Types.{AreLimits, Version, One, Two, layout_of, Sizes, node_count, CellRecord, NodeRecord}
+use Rattle.im_types.specs.Types.{cell_bytes, node_bytes, FitsCell, FitsNode, Records, IsRow, SpellsArea}
 use Rattle.im_formats.proofs.Records.{read_cell-spelled, read_node-spelled}
 use Rattle.im_formats.proofs.Sessions.{ring_of_version, session_bytes-one}
-use Rattle.im_types.specs.declared.layout.Version.{Version}
-use Rattle.im_types.specs.declared.layout.Version.TheVariants.{One, Two}
+use Rattle.im_formats.specs.Reading.{read_cell, read_node}
 use Rattle.im_records.proofs.Reading.{some_inj}
 
 one_row : {X : Type 0} (size : ℕ) (spelled : X → List ℕ) (Fits : X → Type 0) (none : X) (count : ℕ) (bytes : List ℕ)

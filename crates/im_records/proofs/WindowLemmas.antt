@@ -1,9 +1,7 @@
 -- The entries of a window fit their fields, one more too.
-use Rattle.std.proofs.Common.{ℕ, zero, suc, List, [], ◌∷◌, take, Some, slice_set, subst}
-use Rattle.im_types.specs.declared.operations.Kept.{Kept}
-use Rattle.im_types.specs.Records.{FitsPlace}
-use Rattle.im_records.specs.Entries.{FitEntries}
-use Rattle.im_records.proofs.Reading.{none_some, some_inj}
+use Rattle.std.proofs.Common.{ℕ, zero, suc, List, [], ◌∷◌, take, slice_set, Some, subst}
+use Rattle.im_types.specs.Types.{Kept, FitsPlace}
+use Rattle.im_records.{proofs.Reading.none_some, proofs.Reading.some_inj, specs.Entries.FitEntries}
 
 pub fit_set : (entries : List Kept) (place : ℕ) (kept : Kept) → FitEntries entries → FitsPlace (Some kept)
     → FitEntries (slice_set entries place kept)

@@ -1,13 +1,10 @@
 -- Bytes that are compared several at a time.
-use Rattle.std.proofs.Common.{◌≡◌, ℕ, zero, suc, ◌+◌, ◌-◌, ◌<◌, ◌≤◌, List, length, get_or, slice_range, true, inl}
-use Rattle.std.proofs.Common.{inr, sym, ap, ◌∙◌, arith, take, drop}
-use Rattle.std.proofs.lemmas.Bool.{cases_eq, cases_lt}
-use Rattle.std.proofs.lemmas.List.{get_or-take, get_or-drop}
-use Rattle.std.proofs.lemmas.Grind.{same_number_lists}
+use Rattle.std.proofs.Common.{◌≡◌, ℕ, zero, suc, ◌+◌, ◌-◌, ◌<◌, ◌≤◌, true, List, length, get_or, take, drop}
+use Rattle.std.proofs.Common.{slice_range, sym, ap, ◌∙◌, inl, inr, arith, get_or-drop, get_or-take}
 use Rattle.byteorder.specs.Endian.{little_from}
-use Rattle.im_types.specs.Bytes.{same_bytes, number_at}
+use Rattle.std.proofs.lemmas.{Bool.cases_eq, Bool.cases_lt, Grind.same_number_lists}
+use Rattle.{im_types.specs.Types.same_bytes, im_types.specs.Types.number_at, im_formats.proofs.Same.same_bytes_self}
 use Rattle.im_records.specs.Words.{SameAt}
-use Rattle.im_formats.proofs.Same.{same_bytes_self}
 
 -- other bytes have other numbers
 from_same : (n i : ℕ) (xs ys : List ℕ) → ((k : ℕ) → k < i + n → get_or xs k 0 < 256)

@@ -1,11 +1,6 @@
 -- The entries of a window, in the array where they lie. (Own.)
-use Rattle.std.specs.Prelude.{◌≡◌, ℕ, ◌+◌, ◌≤◌, List, Some, slice_get}
-use Rattle.im_types.specs.declared.TheConstants.{LAST, WINDOW}
-use Rattle.im_types.specs.declared.operations.Kept.{Kept}
-use Rattle.im_types.specs.Contents.{Window}
-use Rattle.im_types.specs.Window.{next_number}
-use Rattle.im_types.specs.Layout.{Layout}
-use Rattle.im_types.specs.Records.{session_bytes, FitsPlace, FitsWindow}
+use Rattle.std.specs.Prelude.{◌≡◌, ℕ, ◌+◌, ◌≤◌, List, slice_get, Some}
+use Rattle.im_types.specs.Types.{Kept, WINDOW, LAST, Window, next_number, Layout, FitsPlace, session_bytes, FitsWindow}
 use Rattle.im_records.specs.Rows.{Spells}
 
 -- the numbers of each entry fit their fields

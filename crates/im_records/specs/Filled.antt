@@ -1,11 +1,7 @@
 -- What a cell's record has beside the fields of the cell. (Own.)
 use Rattle.std.specs.Prelude.{◌≡◌, ℕ, ◌-◌, ◌^◌, List, slice_index}
-use Rattle.im_types.specs.declared.records.PresenceTag.{PresenceTag}
-use Rattle.im_types.specs.declared.records.PresenceTag.TheVariants.{Empty as TagEmpty, Waiting as TagWaiting}
-use Rattle.im_types.specs.declared.records.PresenceTag.TheVariants.{Full as TagFull, Clashed as TagClashed}
-use Rattle.im_types.specs.declared.records.CellRecord.{CellRecord}
-use Rattle.im_types.specs.declared.records.CellRecord.TheVariants.{Free as FreeCell, Held as BlockCell}
-use Rattle.im_types.specs.Bytes.{number_at}
+use Rattle.im_types.specs.Types.{number_at, PresenceTag, CellRecord, TagEmpty, TagWaiting, TagFull, TagClashed}
+use Rattle.im_types.specs.Types.{FreeCell, BlockCell}
 
 -- NONE, twice: the links of a record that names no waiter node
 abbrev pub no_links : ℕ

@@ -1,16 +1,10 @@
 -- The pages of an area, one by one: which record is at which place of which page. (Own.)
-use Rattle.std.specs.Prelude.{◌≡◌, ℕ, zero, suc, ◌+◌, ◌*◌, ◌<◌, List, [], ◌++◌, length, Option, None, Some, slice_get}
-use Rattle.std.specs.Prelude.{slice_index_or}
-use Rattle.im_types.specs.declared.TheConstants.{NONE}
-use Rattle.im_types.specs.Contents.{new_window}
-use Rattle.im_types.specs.Bytes.{zeros}
-use Rattle.im_types.specs.Layout.{Sizes, layout_in_use, page_bytes, cell_record_bytes, node_record_bytes}
-use Rattle.im_types.specs.Layout.{session_record_bytes, on_a_page, cell_pages, node_pages, session_pages, node_count}
-use Rattle.im_types.specs.Layout.{record_at}
-use Rattle.im_types.specs.declared.records.CellRecord.TheVariants.{Free as FreeCell}
-use Rattle.im_types.specs.declared.records.NodeRecord.TheVariants.{Free as FreeNode}
-use Rattle.im_types.specs.Records.{cell_bytes, node_bytes, session_bytes, FitsCell, FitsNode, FitsWindow}
-use Rattle.im_types.specs.Pages.{Records}
+use Rattle.std.specs.Prelude.{◌≡◌, ℕ, zero, suc, ◌+◌, ◌*◌, ◌<◌, List, [], ◌++◌, length, slice_get, slice_index_or, Some}
+use Rattle.std.specs.Prelude.{None, Option}
+use Rattle.im_types.specs.Types.{NONE, new_window, layout_in_use, Sizes, page_bytes, cell_record_bytes}
+use Rattle.im_types.specs.Types.{node_record_bytes, session_record_bytes, node_count, on_a_page, cell_pages, node_pages}
+use Rattle.im_types.specs.Types.{session_pages, record_at, zeros, FreeCell, FreeNode, cell_bytes, node_bytes, FitsCell}
+use Rattle.im_types.specs.Types.{FitsNode, session_bytes, FitsWindow, Records}
 
 -- the bytes of a record, or zeros for `None`
 abbrev pub bytes_or_zeros : {X : Type 0} → ℕ → (X → List ℕ) → Option X → List ℕ

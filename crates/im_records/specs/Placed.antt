@@ -1,5 +1,5 @@
 -- Bytes at a place among others. (Own.)
-use Rattle.std.specs.Prelude.{ℕ, ◌+◌, List, ◌++◌, take, drop, length}
+use Rattle.std.specs.Prelude.{ℕ, ◌+◌, List, ◌++◌, length, take, drop}
 
 -- bytes with a part of them replaced
 abbrev pub placed : ℕ → List ℕ → List ℕ → List ℕ

@@ -1,15 +1,9 @@
 -- Records in a row, without what is behind them. (Own.)
 use Rattle.std.specs.Prelude.{◌≡◌, ℕ, ◌+◌, ◌*◌, ◌<◌, List, length, take, drop, slice_index_or}
-use Rattle.im_types.specs.declared.TheConstants.{NONE}
-use Rattle.im_types.specs.Contents.{Window, new_window}
-use Rattle.im_types.specs.Layout.{Layout, Sizes, node_count, cell_record_bytes, node_record_bytes}
-use Rattle.im_types.specs.Layout.{session_record_bytes, cell_part, record_at}
-use Rattle.im_types.specs.declared.records.CellRecord.{CellRecord}
-use Rattle.im_types.specs.declared.records.CellRecord.TheVariants.{Free as FreeCell}
-use Rattle.im_types.specs.declared.records.NodeRecord.{NodeRecord}
-use Rattle.im_types.specs.declared.records.NodeRecord.TheVariants.{Free as FreeNode}
-use Rattle.im_types.specs.Records.{cell_bytes, node_bytes, session_bytes, FitsCell, FitsNode, FitsWindow}
-use Rattle.im_types.specs.Pages.{Records, IsRow, SpellsArea}
+use Rattle.im_types.specs.Types.{NONE, Window, new_window, Layout, Sizes, cell_record_bytes, node_record_bytes}
+use Rattle.im_types.specs.Types.{session_record_bytes, node_count, cell_part, record_at, CellRecord, NodeRecord}
+use Rattle.im_types.specs.Types.{FreeCell, FreeNode, cell_bytes, node_bytes, FitsCell, FitsNode, session_bytes}
+use Rattle.im_types.specs.Types.{FitsWindow, Records, IsRow, SpellsArea}
 
 -- bytes spell a record that is within its bounds
 pub record Spells {X : Type 0} (spelled : X → List ℕ) (Fits : X → Type 0) (bytes : List ℕ) (x : X) : Type 0 where

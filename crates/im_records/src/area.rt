@@ -1,12 +1,9 @@
 //! The records of a whole area.
-ghost use Rattle.std.specs.Prelude.{◌≡◌, ◌⊎◌, ◌+◌, ◌*◌, ◌/◌, ◌≤◌, ℕ, List, length, IfOk, OnOk, IfErr, IsErrOf};
-ghost use Rattle.im_types.specs.Contents.{Window};
+ghost use Rattle.std.specs.Prelude.{◌≡◌, ℕ, ◌+◌, ◌*◌, ◌/◌, ◌≤◌, ◌⊎◌, List, length, IfOk, IfErr, OnOk, IsErrOf};
+ghost use Rattle.im_types.specs.Types.{Window, layout_of, sizes_of, NodeRecord as NodeRecordSpec, Records, SpellsArea};
+ghost use Rattle.im_records.specs.Rows.{AreNodes, AreSessions, CarriesOn, CompleteCells, NoneCompletes, NoneSpells};
+ghost use Rattle.im_records.specs.Rows.{SpellsBehind, StandsAt};
 ghost use Rattle.im_types.specs.Layout as layout;
-ghost use Rattle.im_types.specs.Layout.{layout_of, sizes_of};
-ghost use Rattle.im_types.specs.declared.records.NodeRecord.{NodeRecord as NodeRecordSpec};
-ghost use Rattle.im_types.specs.Pages.{Records, SpellsArea};
-ghost use Rattle.im_records.specs.Rows.{StandsAt, AreNodes, AreSessions, CarriesOn, CompleteCells, NoneCompletes};
-ghost use Rattle.im_records.specs.Rows.{SpellsBehind, NoneSpells};
 
 use crate::rows::{push_cells, read_nodes, rest_of_cells};
 use crate::session::read_sessions;
@@ -27,7 +24,7 @@ pub struct AreaRecords {
 }
 
 impl Model for AreaRecords {
-    ghost use Rattle.im_types.specs.Pages.{Records};
+    ghost use Rattle.im_types.specs.Types.{Records};
 
     ghost Value = { Records };
 

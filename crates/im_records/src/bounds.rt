@@ -1,7 +1,6 @@
 // Checks whether a record is within its bounds.
 ghost use Rattle.std.specs.Prelude.{◌≡◌, ◌↔◌, length, IsTrue};
-ghost use Rattle.im_types.specs.Bytes.{zeros};
-ghost use Rattle.im_types.specs.Records.{IsLink, FitsTag, FitsCell, FitsNode};
+ghost use Rattle.im_types.specs.Types.{zeros, IsLink, FitsTag, FitsCell, FitsNode};
 
 use im_types::{CellRecord, NONE, NodeRecord, PresenceTag};
 

@@ -1,8 +1,7 @@
 // Turns an entry, a kind and a presence tag into codes and numbers, and back.
 ghost use Rattle.std.specs.Prelude.{◌≡◌};
-ghost use Rattle.im_types.specs.Bytes.{entry_code, entry_number, kind_code};
-ghost use Rattle.im_types.specs.Records.{tag_code, tag_first, tag_last, tag_value};
-ghost use Rattle.im_formats.specs.Reading.{entry_of, tag_of, kind_of};
+ghost use Rattle.im_types.specs.Types.{entry_code, entry_number, kind_code, tag_code, tag_first, tag_last, tag_value};
+ghost use Rattle.im_formats.specs.Reading.{entry_of, kind_of, tag_of};
 
 use im_types::{Entry, Kind, NONE, PresenceTag, Reply};
 

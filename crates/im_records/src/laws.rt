@@ -1,9 +1,7 @@
 //! Laws of areas. Each is the contract of a function that does nothing.
 ghost use Rattle.std.specs.Prelude.{◌≡◌, ℕ, List, length};
-ghost use Rattle.im_types.specs.Sizes.{AreLimits};
-ghost use Rattle.im_types.specs.Layout.{Sizes, layout_in_use, layout_of, area_bytes, area_pages, record_at, page_bytes};
-ghost use Rattle.im_types.specs.declared.layout.Version.{Version};
-ghost use Rattle.im_types.specs.Pages.{Records, SpellsArea};
+ghost use Rattle.im_types.specs.Types.{AreLimits, Version, layout_of, layout_in_use, Sizes, page_bytes, area_pages};
+ghost use Rattle.im_types.specs.Types.{area_bytes, record_at, Records, SpellsArea};
 ghost use Rattle.im_records.specs.Paging.{ArePages, FitRecords, joined};
 
 /// An area of either version spells at most one list of records.

@@ -3,9 +3,8 @@
 //! Page i of an area's cells has the cells from [`CELLS_ON_A_PAGE`] * i on. Page i of its waiter nodes has the nodes
 //! from [`NODES_ON_A_PAGE`] * i on. Page i of its sessions has the elements from [`SESSIONS_ON_A_PAGE`] * i on. Making
 //! a page puts each record at its place, and zeros in the places without a record.
-ghost use Rattle.std.specs.Prelude.{◌≡◌, ◌≢◌, ◌<◌, ℕ, option_map};
-ghost use Rattle.im_types.specs.Layout.{layout_in_use, record_at};
-ghost use Rattle.im_types.specs.Records.{cell_bytes, node_bytes, session_bytes};
+ghost use Rattle.std.specs.Prelude.{◌≡◌, ℕ, ◌<◌, ◌≢◌, option_map};
+ghost use Rattle.im_types.specs.Types.{layout_in_use, record_at, cell_bytes, node_bytes, session_bytes};
 ghost use Rattle.im_records.specs.Paging.{bytes_or_zeros};
 
 use crate::put::put;

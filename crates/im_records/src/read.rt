@@ -1,11 +1,10 @@
 //! Reads the records of an area. The fields say which record the bytes may be. What is beside the fields of a cell says
 //! whether they are; for other records their spelling says it.
-ghost use Rattle.std.specs.Prelude.{◌≡◌, ◌≤◌, ◌+◌, ◌*◌, ◌↔◌, IsTrue, length, Some, None, if◌then◌else◌};
-ghost use Rattle.im_types.specs.Bytes.{same_bytes, number_at};
-ghost use Rattle.im_types.specs.Records.{node_bytes};
-ghost use Rattle.im_formats.specs.Reading.{read_cell, read_node, read_place, cell_in, node_in, place_in, cell_if};
-ghost use Rattle.im_formats.specs.Reading.{place_if, kept_of};
-ghost use Rattle.im_records.specs.Filled.{FillTag, FillCell, AreUnusedZero};
+ghost use Rattle.std.specs.Prelude.{◌≡◌, ◌+◌, ◌*◌, ◌≤◌, ◌↔◌, length, if◌then◌else◌, IsTrue, Some, None};
+ghost use Rattle.im_types.specs.Types.{same_bytes, number_at, node_bytes};
+ghost use Rattle.im_formats.specs.Reading.{cell_if, cell_in, kept_of, node_in, place_if, place_in, read_cell};
+ghost use Rattle.im_formats.specs.Reading.{read_node, read_place};
+ghost use Rattle.im_records.specs.Filled.{AreUnusedZero, FillCell, FillTag};
 
 use crate::fields::{entry_of, kind_of, tag_of};
 use crate::spell::{spell_node, spell_place};

@@ -1,11 +1,10 @@
 // The rows of records in the parts of an area.
-ghost use Rattle.std.specs.Prelude.{◌≡◌, ◌⊎◌, ◌+◌, ◌*◌, ◌≤◌, ℕ, List, length, take, Some, IfSome, IfOk, OnOk, IfErr};
+ghost use Rattle.std.specs.Prelude.{◌≡◌, ℕ, ◌+◌, ◌*◌, ◌≤◌, ◌⊎◌, List, length, take, IfSome, IfOk, IfErr, OnOk, Some};
 ghost use Rattle.std.specs.Prelude.{IsErrOf};
-ghost use Rattle.im_types.specs.Records.{cell_bytes, node_bytes, FitsCell, FitsNode};
-ghost use Rattle.im_types.specs.declared.records.CellRecord.{CellRecord as CellRecordSpec};
-ghost use Rattle.im_types.specs.declared.records.NodeRecord.{NodeRecord as NodeRecordSpec};
-ghost use Rattle.im_records.specs.Rows.{Spells, StandsAt, BeginWithCells, BeginWithNodes, AreCells, AreNodes, LeadsOn};
-ghost use Rattle.im_records.specs.Rows.{FillsUp, NoneFillsUp};
+ghost use Rattle.im_types.specs.Types.{CellRecord as CellRecordSpec, NodeRecord as NodeRecordSpec, cell_bytes};
+ghost use Rattle.im_types.specs.Types.{node_bytes, FitsCell, FitsNode};
+ghost use Rattle.im_records.specs.Rows.{AreCells, AreNodes, BeginWithCells, BeginWithNodes, FillsUp, LeadsOn};
+ghost use Rattle.im_records.specs.Rows.{NoneFillsUp, Spells, StandsAt};
 
 use crate::bounds::{are_zero, fits_cell, fits_node};
 use crate::read::{read_cell, read_node};

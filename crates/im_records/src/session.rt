@@ -1,15 +1,12 @@
 //! Spells and reads a session record, in each version of the layout.
-ghost use Rattle.std.specs.Prelude.{◌≡◌, ◌↔◌, ◌⊎◌, ◌<◌, ◌≤◌, ◌*◌, ◌-◌, ◌∷◌, ◌++◌, List, length, slice_get, Some};
-ghost use Rattle.std.specs.Prelude.{IfSome};
-ghost use Rattle.std.specs.Prelude.{IfOk, IfErr, IsErrOf, IsTrue};
-ghost use Rattle.std.specs.List.{list_any};
-ghost use Rattle.im_types.specs.Contents.{Window};
+ghost use Rattle.std.specs.Prelude.{◌≡◌, ◌-◌, ◌*◌, ◌<◌, ◌≤◌, ◌⊎◌, ◌↔◌, List, ◌∷◌, ◌++◌, length, IfSome, IfOk, IfErr};
+ghost use Rattle.std.specs.Prelude.{IsTrue, slice_get, Some, IsErrOf};
 ghost use Rattle.byteorder.specs.Endian.{little_bytes};
-ghost use Rattle.im_types.specs.Bytes.{zeros};
-ghost use Rattle.im_types.specs.Layout.{layout_in_use, layout_of, session_record_bytes};
-ghost use Rattle.im_types.specs.Records.{session_bytes, FitsWindow, has_room_for, is_of_reset};
-ghost use Rattle.im_records.specs.Rows.{Spells, BeginWithSessions, AreSessions};
+ghost use Rattle.std.specs.List.{list_any};
+ghost use Rattle.im_types.specs.Types.{Window, layout_of, layout_in_use, session_record_bytes, zeros, session_bytes};
+ghost use Rattle.im_types.specs.Types.{is_of_reset, has_room_for, FitsWindow};
 ghost use Rattle.im_records.specs.Entries.{AreNumbers, SpellsSession};
+ghost use Rattle.im_records.specs.Rows.{AreSessions, BeginWithSessions, Spells};
 
 use crate::bounds::are_zero;
 use crate::put::put;

@@ -1,6 +1,6 @@
 //! Spells the records of an area. All numbers are little endian, and bytes outside the fields are zero.
 ghost use Rattle.std.specs.Prelude.{◌≡◌};
-ghost use Rattle.im_types.specs.Records.{cell_bytes, node_bytes, place_bytes};
+ghost use Rattle.im_types.specs.Types.{cell_bytes, node_bytes, place_bytes};
 
 use crate::fields::{entry_code, entry_number, kind_code, tag_code, tag_ends, tag_value};
 use byteorder::{ByteOrder, LittleEndian};

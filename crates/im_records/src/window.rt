@@ -1,7 +1,6 @@
 //! An element's window of kept entries. A session record spells it.
-ghost use Rattle.std.specs.Prelude.{◌≡◌, ◌<◌, ◌≤◌, ◌+◌, ◌-◌, ◌%◌, ◌∷◌, ◌++◌, [], length};
-ghost use Rattle.im_types.specs.Layout.{layout_of};
-ghost use Rattle.im_types.specs.Records.{entry_at};
+ghost use Rattle.std.specs.Prelude.{◌≡◌, ◌+◌, ◌-◌, ◌%◌, ◌<◌, ◌≤◌, [], ◌∷◌, ◌++◌, length};
+ghost use Rattle.im_types.specs.Types.{layout_of, entry_at};
 ghost use Rattle.im_records.specs.Entries.{FitEntries};
 
 use im_types::layout::Version;
@@ -26,7 +25,7 @@ pub struct WindowRecord {
 
 impl Model for WindowRecord {
     ghost use Rattle.std.specs.Prelude.{take};
-    ghost use Rattle.im_types.specs.Contents.{Window};
+    ghost use Rattle.im_types.specs.Types.{Window};
     ghost use Rattle.im_records.specs.Entries.{AreEntries};
 
     ghost Value = { Window };

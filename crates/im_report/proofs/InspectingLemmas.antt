@@ -1,15 +1,10 @@
 -- What is told of an image, and that it was told. (Own.)
-use Rattle.std.proofs.Common.{◌≡◌, ℕ, ◌+◌, List, None, false, subst, arith}
-use Rattle.std.specs.Prelude.{Option, Result, Ok, Err, OnOk, OnErr}
+use Rattle.std.proofs.Common.{◌≡◌, ℕ, ◌+◌, false, List, OnOk, OnErr, None, Ok, Err, Option, Result, subst, arith}
 use Rattle.std.specs.Io.KnownBytes.{Appends, Keeps}
-use Rattle.im_types.specs.Contents.{Contents}
-use Rattle.im_types.specs.Header.{Header, header_of, layout_in}
-use Rattle.im_types.specs.Meaning.{Reads}
-use Rattle.im_report.specs.declared.look.View.{View}
-use Rattle.im_report.specs.declared.look.View.TheVariants.{Report}
-use Rattle.im_report.specs.Look.{ShowsView, looked_text}
-use Rattle.im_report.specs.Inspecting.{Tells}
+use Rattle.im_types.specs.Types.{Contents, Header, header_of, layout_in, Reads}
 use Rattle.im_text.proofs.PrintingLemmas.{appends_kept}
+use Rattle.im_report.specs.declared.look.View.{TheVariants.Report, View}
+use Rattle.im_report.specs.{Inspecting.Tells, Look.looked_text, Look.ShowsView}
 
 -- what is wanted was added with the header in force
 pub looks : (look : View) (file : List ℕ) (h : Header) (run room : ℕ) (m : Contents) (was now : Option (List ℕ))

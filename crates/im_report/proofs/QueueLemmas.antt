@@ -1,20 +1,12 @@
 -- How many requests can wait at one cell: each has a Waiting entry of its own, and a window has few entries. (Own.)
-use Rattle.std.proofs.Common.{◌≡◌, ◌∙◌, ⊎_elim, ℕ, suc, ◌+◌, ◌≤◌, List, [], ◌∷◌, length, true, false, ap, arith}
-use Rattle.std.specs.Prelude.{Option}
-use Rattle.im_types.specs.declared.TheConstants.{MAX_ELEMENTS}
-use Rattle.im_types.specs.declared.operations.Reply.TheVariants.{Stored}
-use Rattle.im_types.specs.declared.operations.Waiter.{Waiter}
-use Rattle.im_types.specs.Contents.{Contents, Held, Window, held_at, kept_for, waiters_at}
-use Rattle.im_types.specs.Window.{answer}
-use Rattle.im_types.specs.Agreement.{same_waiter, times, waits_in}
-use Rattle.im_types.specs.Memory.{IsMemory}
-use Rattle.im_laws.proofs.Tests.{true_or_false}
+use Rattle.std.proofs.Common.{◌≡◌, ℕ, suc, ◌+◌, ◌≤◌, true, false, List, [], ◌∷◌, length, Option, ap, ◌∙◌, ⊎_elim, arith}
+use Rattle.im_types.specs.Types.{Waiter, Stored, MAX_ELEMENTS, Held, Window, Contents, held_at, waiters_at, kept_for}
+use Rattle.im_types.specs.Types.{IsMemory, same_waiter, times, waits_in, answer}
 use Rattle.im_laws.proofs.AgreementLemmas.{one_if, same_waiter-equal, same_waiter-self}
-use Rattle.im_laws.proofs.StepLemmas.{answer-other}
-use Rattle.im_laws.proofs.WaitingCounts.{waiting_counts, waiting_counts-most, waiting_counts-answer}
-use Rattle.im_laws.proofs.WaitingCounts.{AwaitsOne, waits_in-AwaitsOne}
-use Rattle.im_laws.proofs.StepAgrees.{one_if-true, one_if-most}
-use Rattle.im_memory.proofs.AnswerLemmas.{times-same, times-more}
+use Rattle.im_laws.proofs.{StepAgrees.one_if-most, StepAgrees.one_if-true, StepLemmas.answer-other, Tests.true_or_false}
+use Rattle.im_laws.proofs.WaitingCounts.{AwaitsOne, waiting_counts, waiting_counts-answer, waiting_counts-most}
+use Rattle.im_laws.proofs.WaitingCounts.{waits_in-AwaitsOne}
+use Rattle.im_memory.proofs.AnswerLemmas.{times-more, times-same}
 
 module _ (cells : List (Option Held)) (a : ℕ) where
   -- a request stands in this list at most once, and only if its entry waits for the cell

@@ -1,13 +1,11 @@
 -- Texts of lines, one after another, and the lines of a window. (Own.)
-use Rattle.std.proofs.Common.{◌≡◌, ℕ, ◌+◌, ◌-◌, ◌≤◌, List, [], ◌∷◌, ◌++◌, length, ap, ap₂, sym, ◌∙◌, append_assoc, append-nil, arith, codes, Bool, false, Some}
-use Rattle.std.specs.Prelude.{Option, ◌==◌, ◌&&◌, if◌then◌else◌, slice_get}
-use Rattle.im_types.specs.declared.operations.Kept.{Kept}
-use Rattle.im_types.specs.declared.operations.Waiter.{Waiter}
-use Rattle.im_types.specs.Contents.{Window, kept_for}
+use Rattle.std.proofs.Common.{◌≡◌, ℕ, ◌+◌, ◌-◌, ◌≤◌, Bool, false, ◌&&◌, List, [], ◌∷◌, ◌++◌, length, if◌then◌else◌}
+use Rattle.std.proofs.Common.{◌==◌, slice_get, Some, codes, Option, sym, ap, ◌∙◌, ap₂, append_assoc, append-nil, arith}
+use Rattle.im_types.specs.Types.{Waiter, Kept, Window, kept_for}
 use Rattle.im_text.proofs.WindowLemmas.{kept_at}
 use Rattle.im_report.specs.declared.notation.Notation.{Notation}
-use Rattle.im_report.specs.Report.{waiter_text, waiters_text, waiter_object, waiter_objects}
-use Rattle.im_report.specs.Report.{entry_line, element_line, entries_text, window_text}
+use Rattle.im_report.specs.Report.{element_line, entries_text, entry_line, waiter_object, waiter_objects, waiter_text}
+use Rattle.im_report.specs.Report.{waiters_text, window_text}
 
 -- ---- texts one after another
 

@@ -1,8 +1,8 @@
 -- Sums, greatest values and rows, one number after another. (Own.)
-use Rattle.std.proofs.Common.{◌≡◌, ◌∙◌, ℕ, suc, ◌+◌, ◌*◌, ◌≤◌, List, refl, ap, sym, arith, Bool, true, false}
-use Rattle.std.specs.Prelude.{Option, max, nat_lt, is_none, if◌then◌else◌, ◌==◌}
-use Rattle.im_types.specs.Contents.{Held, block_at}
-use Rattle.im_report.specs.Figures.{sum_below, most_below, first_most, free_row, row_after}
+use Rattle.std.proofs.Common.{◌≡◌, ℕ, suc, ◌+◌, ◌*◌, ◌≤◌, max, Bool, true, false, List, is_none, if◌then◌else◌, nat_lt}
+use Rattle.std.proofs.Common.{◌==◌, Option, sym, refl, ap, ◌∙◌, arith}
+use Rattle.im_types.specs.Types.{Held, block_at}
+use Rattle.im_report.specs.Figures.{first_most, free_row, most_below, row_after, sum_below}
 
 -- ---- sums
 

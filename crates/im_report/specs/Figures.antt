@@ -1,18 +1,11 @@
 -- The numbers that are counted of a memory. (Own.)
-use Rattle.std.specs.Prelude.{ℕ, zero, suc, ◌+◌, List, length, Bool, false, not, max, nat_lt, ◌==◌, ◌&&◌}
-use Rattle.std.specs.Prelude.{if◌then◌else◌, Option, None, Some, is_none, slice_get}
-use Rattle.im_types.specs.declared.TheConstants.{WINDOW}
-use Rattle.im_types.specs.declared.operations.Kind.{Kind}
-use Rattle.im_types.specs.declared.operations.Block.{Block}
-use Rattle.im_types.specs.declared.cells.Cell.{Cell}
-use Rattle.im_types.specs.declared.cells.Cell.TheVariants.{Empty, Waiting, Full, Clashed}
-use Rattle.im_types.specs.Act.{same_kind}
-use Rattle.im_types.specs.Contents.{Contents, Held, Window, block_at, held_at, waiters_at}
-use Rattle.im_types.specs.Presences.{presence_in}
-use Rattle.im_report.specs.declared.figures.KindFigures.{KindFigures}
-use Rattle.im_report.specs.declared.figures.FreeFigures.{FreeFigures}
-use Rattle.im_report.specs.declared.figures.QueueFigures.{QueueFigures}
-use Rattle.im_report.specs.declared.figures.WindowFigures.{WindowFigures}
+use Rattle.std.specs.Prelude.{ℕ, zero, suc, ◌+◌, max, Bool, false, not, ◌&&◌, List, length, is_none, if◌then◌else◌}
+use Rattle.std.specs.Prelude.{nat_lt, ◌==◌, slice_get, Some, None, Option}
+use Rattle.im_types.specs.Types.{Kind, Block, WINDOW, Held, Window, Contents, held_at, waiters_at, block_at}
+use Rattle.im_types.specs.Types.{presence_in, Cell, CellEmpty as Empty, CellWaiting as Waiting, CellFull as Full}
+use Rattle.im_types.specs.Types.{CellClashed as Clashed, same_kind}
+use Rattle.im_report.specs.declared.figures.{FreeFigures.FreeFigures, KindFigures.KindFigures}
+use Rattle.im_report.specs.declared.figures.{QueueFigures.QueueFigures, WindowFigures.WindowFigures}
 
 -- ---- sums
 

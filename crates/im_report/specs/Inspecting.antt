@@ -1,9 +1,6 @@
 -- What inspecting an image reports. (Own.)
-use Rattle.std.specs.Prelude.{ℕ, ◌+◌, List, Option, Ok}
-use Rattle.std.specs.Io.KnownBytes.{Appends}
-use Rattle.im_types.specs.Contents.{Contents}
-use Rattle.im_types.specs.Header.{header_of, layout_in}
-use Rattle.im_types.specs.Meaning.{Reads}
+use Rattle.std.specs.{Prelude.ℕ, Prelude.◌+◌, Prelude.List, Prelude.Ok, Prelude.Option, Io.KnownBytes.Appends}
+use Rattle.im_types.specs.Types.{Contents, header_of, layout_in, Reads}
 use Rattle.im_report.specs.Report.{report_text}
 
 -- The bytes of a file mean a memory, and its report, with the header in force, was written.

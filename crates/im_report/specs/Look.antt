@@ -1,24 +1,14 @@
 -- What is printed of an image, by what a person wants to see. (Own.)
-use Rattle.std.specs.Prelude.{◌≡◌, ℕ, ◌+◌, List, [], ◌++◌, length, Bool, true, false, not, ◌&&◌, ◌||◌, ◌==◌, nat_le}
-use Rattle.std.specs.Prelude.{if◌then◌else◌, Option, None, Some, is_none, is_some, slice_get, Ok}
+use Rattle.std.specs.Prelude.{◌≡◌, ℕ, ◌+◌, Bool, true, false, not, ◌&&◌, ◌||◌, List, [], ◌++◌, length, is_some, is_none}
+use Rattle.std.specs.Prelude.{if◌then◌else◌, nat_le, ◌==◌, slice_get, Some, None, Ok, Option}
 use Rattle.std.specs.Io.KnownBytes.{Appends}
-use Rattle.im_disk.specs.declared.disk.Disk.{Ghosts}
-use Rattle.im_types.specs.declared.cells.Cell.{Cell}
-use Rattle.im_types.specs.Contents.{Contents, held_at, waiters_at}
-use Rattle.im_types.specs.Header.{Header, header_of, layout_in}
-use Rattle.im_types.specs.Meaning.{Reads}
-use Rattle.im_types.specs.Presences.{presence_in}
-use Rattle.im_text.specs.Texts.{texts_below}
-use Rattle.im_report.specs.declared.look.Span.{Span}
-use Rattle.im_report.specs.declared.look.Filter.{Filter}
-use Rattle.im_report.specs.declared.look.View.{View}
-use Rattle.im_report.specs.declared.look.View.TheVariants.{Report, ReportJson, Stat, StatJson, DumpJson}
-use Rattle.im_report.specs.declared.notation.Notation.{Notation}
-use Rattle.im_report.specs.declared.notation.Notation.TheVariants.{Lines, Json}
-use Rattle.im_report.specs.Figures.{cell_tag}
+use Rattle.im_types.specs.Types.{Contents, held_at, waiters_at, presence_in, Cell, Header, header_of, layout_in, Reads}
+use Rattle.{im_disk.specs.declared.Disk.Ghosts, im_text.specs.Texts.texts_below}
+use Rattle.im_report.specs.declared.look.{Filter.Filter, Span.Span, View.View}
+use Rattle.im_report.specs.declared.look.View.TheVariants.{DumpJson, Report, ReportJson, Stat, StatJson}
+use Rattle.im_report.specs.declared.notation.Notation.{Notation, TheVariants.Json, TheVariants.Lines}
+use Rattle.im_report.specs.{Figures.cell_tag, ReportJson.dump_json, ReportJson.report_head, Stat.stat_text}
 use Rattle.im_report.specs.Report.{cell_line, contents_text, journal_line, opening_lines, window_text}
-use Rattle.im_report.specs.ReportJson.{dump_json, report_head}
-use Rattle.im_report.specs.Stat.{stat_text}
 
 -- a filter that asks for nothing
 abbrev pub is_whole : Filter → Bool

@@ -1,24 +1,12 @@
 -- The text of a report: what an inspector says of an image, in lines of words, or with an object of JSON on each line.
 -- In the objects a number that may pass 2^53 is a string. (Own.)
-use Rattle.std.specs.Prelude.{ℕ, ◌+◌, List, [], ◌∷◌, ◌++◌, length, codes, decimal, ◌&&◌, ◌==◌, if◌then◌else◌}
-use Rattle.std.specs.Prelude.{◌≡◌, Bool, Option, None, Some, slice_get}
-use Rattle.im_types.specs.declared.operations.Waiter.{Waiter}
-use Rattle.im_types.specs.declared.operations.Block.{Block}
-use Rattle.im_types.specs.declared.operations.Kept.{Kept}
-use Rattle.im_types.specs.Contents.{Contents, Window, block_at, held_at, waiters_at}
-use Rattle.im_types.specs.Header.{Header}
-use Rattle.im_types.specs.Window.{next_number}
-use Rattle.im_types.specs.declared.cells.Cell.{Cell}
-use Rattle.im_types.specs.declared.cells.Cell.TheVariants.{
-  Empty as IsEmpty,
-  Waiting as IsWaiting,
-  Full as IsFull,
-  Clashed as IsClashed,
-}
-use Rattle.im_types.specs.Presences.{presence_in}
-use Rattle.im_report.specs.declared.notation.Notation.{Notation}
-use Rattle.im_report.specs.declared.notation.Notation.TheVariants.{Lines, Json}
+use Rattle.std.specs.Prelude.{◌≡◌, ℕ, ◌+◌, Bool, ◌&&◌, List, [], ◌∷◌, ◌++◌, length, if◌then◌else◌, ◌==◌, slice_get}
+use Rattle.std.specs.Prelude.{Some, None, codes, decimal, Option}
+use Rattle.im_types.specs.Types.{Waiter, Block, Kept, Window, Contents, held_at, waiters_at, block_at, presence_in}
+use Rattle.im_types.specs.Types.{Cell, CellEmpty as IsEmpty, CellWaiting as IsWaiting, CellFull as IsFull}
+use Rattle.im_types.specs.Types.{CellClashed as IsClashed, next_number, Header}
 use Rattle.im_text.specs.Texts.{entry_text, kind_text, line_feed, op_text, texts_below}
+use Rattle.im_report.specs.declared.notation.Notation.{Notation, TheVariants.Json, TheVariants.Lines}
 
 -- ---- lines
 

@@ -1,10 +1,8 @@
 -- The report of an image and its dump, with an object of JSON on each line. (Own.)
 use Rattle.std.specs.Prelude.{ℕ, List, ◌++◌, codes}
-use Rattle.im_types.specs.Contents.{Contents}
-use Rattle.im_types.specs.Header.{Header}
-use Rattle.im_report.specs.declared.notation.Notation.TheVariants.{Json}
+use Rattle.im_types.specs.Types.{Contents, Header}
+use Rattle.im_report.specs.{declared.notation.Notation.TheVariants.Json, Stat.count_json, Stat.head_json}
 use Rattle.im_report.specs.Report.{contents_text, three_words}
-use Rattle.im_report.specs.Stat.{count_json, head_json}
 
 -- the header and the journal, as a statistic begins
 abbrev pub report_head : Header → ℕ → ℕ → List ℕ

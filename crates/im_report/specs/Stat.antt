@@ -1,18 +1,11 @@
 -- The text of a statistic: what an image holds, in one screen of lines, or as one object of JSON. (Own.)
-use Rattle.std.specs.Prelude.{ℕ, ◌+◌, ◌-◌, List, [], ◌++◌, codes, decimal, ◌==◌, if◌then◌else◌}
-use Rattle.im_types.specs.declared.operations.Kind.{Kind}
-use Rattle.im_types.specs.declared.operations.Kind.TheVariants.{I, M}
-use Rattle.im_types.specs.Contents.{Contents}
-use Rattle.im_types.specs.Header.{Header}
-use Rattle.im_types.specs.Layout.{area_pages, layout_named}
+use Rattle.std.specs.Prelude.{ℕ, ◌+◌, ◌-◌, List, [], ◌++◌, if◌then◌else◌, ◌==◌, codes, decimal}
+use Rattle.im_types.specs.Types.{Kind, I, M, Contents, layout_named, area_pages, Header}
 use Rattle.im_text.specs.Texts.{kind_text, line_feed}
-use Rattle.im_report.specs.declared.figures.KindFigures.{KindFigures}
-use Rattle.im_report.specs.declared.figures.FreeFigures.{FreeFigures}
-use Rattle.im_report.specs.declared.figures.QueueFigures.{QueueFigures}
-use Rattle.im_report.specs.declared.figures.WindowFigures.{WindowFigures}
-use Rattle.im_report.specs.Figures.{kind_figures, free_figures, queue_figures, window_figures}
-use Rattle.im_report.specs.declared.notation.Notation.{Notation}
-use Rattle.im_report.specs.declared.notation.Notation.TheVariants.{Lines, Json}
+use Rattle.im_report.specs.declared.figures.{FreeFigures.FreeFigures, KindFigures.KindFigures}
+use Rattle.im_report.specs.declared.figures.{QueueFigures.QueueFigures, WindowFigures.WindowFigures}
+use Rattle.im_report.specs.declared.notation.Notation.{Notation, TheVariants.Json, TheVariants.Lines}
+use Rattle.im_report.specs.Figures.{free_figures, kind_figures, queue_figures, window_figures}
 use Rattle.im_report.specs.Report.{numbered, opening_lines, three_words}
 
 -- ---- what the header and the journal say

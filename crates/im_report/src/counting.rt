@@ -1,10 +1,9 @@
 //! Counts the cells, the holes, the requests that wait and the windows of a memory.
-ghost use Rattle.std.specs.Prelude.{◌≡◌, ◌≤◌, ◌+◌, ◌==◌, ◌&&◌, IsTrue, if◌then◌else◌, is_none, length, nat_lt};
+ghost use Rattle.std.specs.Prelude.{◌≡◌, ◌+◌, ◌≤◌, ◌&&◌, length, is_none, if◌then◌else◌, IsTrue, nat_lt, ◌==◌};
 ghost use Rattle.std.specs.Prelude.{slice_get};
-ghost use Rattle.im_types.specs.Act.{same_kind};
-ghost use Rattle.im_types.specs.Contents.{block_at};
-ghost use Rattle.im_report.specs.Figures.{cells_tagged, count_below, free_figures, has_asked, begins_at, is_tagged};
-ghost use Rattle.im_report.specs.Figures.{kept_in, kind_figures, queue_at, queue_figures, row_after, cell_tag};
+ghost use Rattle.im_types.specs.Types.{block_at, same_kind};
+ghost use Rattle.im_report.specs.Figures.{begins_at, cell_tag, cells_tagged, count_below, free_figures, has_asked};
+ghost use Rattle.im_report.specs.Figures.{is_tagged, kept_in, kind_figures, queue_at, queue_figures, row_after};
 ghost use Rattle.im_report.specs.Figures.{window_figures};
 
 use crate::figures::{FreeFigures, KindFigures, QueueFigures, WindowFigures};

@@ -1,11 +1,10 @@
 //! The lines of a report that a filter names.
 ghost use Rattle.std.specs.Prelude.{◌≡◌, ◌++◌, OnOk, slice_get, string_bytes};
-ghost use Rattle.im_types.specs.Contents.{held_at, waiters_at};
-ghost use Rattle.im_types.specs.Presences.{presence_in};
+ghost use Rattle.im_types.specs.Types.{held_at, waiters_at, presence_in};
 ghost use Rattle.im_image.specs.Headers.{seen};
-ghost use Rattle.im_report.specs.Report.{cell_line, window_text};
 ghost use Rattle.im_report.specs.Look.{filtered_text, is_awaited, is_whole, lies_in, named_cells, named_elements};
 ghost use Rattle.im_report.specs.Look.{names_cell, names_element, text_if, whole_head, whole_text};
+ghost use Rattle.im_report.specs.Report.{cell_line, window_text};
 
 use crate::look::{Filter, Span};
 use crate::notation::Notation;

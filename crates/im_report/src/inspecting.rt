@@ -1,11 +1,7 @@
 //! Prints what an image means, line by line.
 ghost use Rattle.std.specs.Prelude.{◌≡◌, ◌≤◌, ◌++◌, IfOk, OnOk, string_bytes};
-ghost use Rattle.im_image.specs.Headers.{seen};
-ghost use Rattle.im_disk.specs.Runs.{ReadsAlone};
-ghost use Rattle.im_disk.specs.Since.{ReadsOnly};
-ghost use Rattle.im_report.specs.Inspecting.{Tells};
-ghost use Rattle.im_report.specs.Look.{ShowsAt, ShowsView, looked_text};
-ghost use Rattle.im_report.specs.Stat.{stat_text};
+ghost use Rattle.{im_disk.specs.Runs.ReadsAlone, im_disk.specs.Since.ReadsOnly, im_image.specs.Headers.seen};
+ghost use Rattle.im_report.specs.{Inspecting.Tells, Look.looked_text, Look.ShowsAt, Look.ShowsView, Stat.stat_text};
 
 use crate::filtering::add_filtered;
 use crate::look::{Filter, View};

@@ -1,12 +1,10 @@
 //! The report of an image: its header in force, its journal, and the memory after the journal's run, line by line.
-ghost use Rattle.std.specs.Prelude.{◌≡◌, ◌++◌, ◌==◌, ◌&&◌, OnOk, Some, length, slice_get, string_bytes};
-ghost use Rattle.im_types.specs.Contents.{Window, held_at, kept_for, waiters_at};
+ghost use Rattle.std.specs.Prelude.{◌≡◌, ◌&&◌, ◌++◌, length, OnOk, ◌==◌, slice_get, Some, string_bytes};
+ghost use Rattle.im_types.specs.Types.{Window, held_at, waiters_at, kept_for, presence_in};
 ghost use Rattle.im_image.specs.Headers.{seen};
-ghost use Rattle.im_types.specs.Presences.{presence_in};
-ghost use Rattle.im_report.specs.Report.{Bounds, block_line, blocks_text, cell_line, cells_text, contents_text};
+ghost use Rattle.im_report.specs.Report.{block_line, blocks_text, Bounds, cell_line, cells_text, contents_text};
 ghost use Rattle.im_report.specs.Report.{elements_text, entries_text, entry_line, header_line, journal_line};
-ghost use Rattle.im_report.specs.Report.{limits_line};
-ghost use Rattle.im_report.specs.Report.{opening_lines, version_line, window_text};
+ghost use Rattle.im_report.specs.Report.{limits_line, opening_lines, version_line, window_text};
 
 use crate::notation::Notation;
 use crate::told::{tell_block, tell_element, tell_kept, tell_value, tell_waiting};

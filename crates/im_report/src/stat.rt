@@ -1,9 +1,8 @@
 //! The statistic of an image, line by line.
 ghost use Rattle.std.specs.Prelude.{◌≡◌, ◌++◌, OnOk, string_bytes};
 ghost use Rattle.im_image.specs.Headers.{seen};
-ghost use Rattle.im_report.specs.Figures.{kind_figures};
+ghost use Rattle.im_report.specs.{Figures.kind_figures, Report.numbered, Report.three_words};
 ghost use Rattle.im_report.specs.Stat.{area_written, blocks_part, count_line, figures_lines, kind_line, next_line};
-ghost use Rattle.im_report.specs.Report.{numbered, three_words};
 ghost use Rattle.im_report.specs.Stat.{pages_written, slots_line, stale_slots, stat_head, stat_memory};
 
 use crate::counting::{count_free, count_kind, count_queues, count_windows};

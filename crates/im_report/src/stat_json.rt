@@ -2,8 +2,8 @@
 ghost use Rattle.std.specs.Prelude.{◌≡◌, ◌++◌, OnOk, string_bytes};
 ghost use Rattle.im_image.specs.Headers.{seen};
 ghost use Rattle.im_report.specs.Figures.{kind_figures};
-ghost use Rattle.im_report.specs.Stat.{blocks_json, count_json, figures_json, head_json, kind_json};
-ghost use Rattle.im_report.specs.Stat.{memory_json, next_json, pages_json, sizes_json, slots_json};
+ghost use Rattle.im_report.specs.Stat.{blocks_json, count_json, figures_json, head_json, kind_json, memory_json};
+ghost use Rattle.im_report.specs.Stat.{next_json, pages_json, sizes_json, slots_json};
 
 use crate::counting::{count_free, count_kind, count_queues, count_windows};
 use crate::figures::KindFigures;

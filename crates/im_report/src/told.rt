@@ -1,6 +1,6 @@
 //! The lines of a report that say something of a memory, each of words or one object of JSON.
-ghost use Rattle.std.specs.Prelude.{◌≡◌, ◌++◌, OnOk, codes, string_bytes};
-ghost use Rattle.im_types.specs.Contents.{waiters_at};
+ghost use Rattle.std.specs.Prelude.{◌≡◌, ◌++◌, OnOk, string_bytes, codes};
+ghost use Rattle.im_types.specs.Types.{waiters_at};
 ghost use Rattle.im_report.specs.Report.{element_line, entry_start, mark_of, told_block, told_kept, told_value};
 ghost use Rattle.im_report.specs.Report.{told_waiting, waiter_object, waiter_objects, waiter_text, waiters_text};
 ghost use Rattle.im_report.specs.Report.{waiting_start};

@@ -1,36 +1,18 @@
 -- What may stand in the trace of a script's servers. (Own.)
-use Rattle.std.proofs.Common.{◌≡◌, ◌∙◌, inl, inr, ℕ, zero, suc, ◌+◌, Bool, true, false, List, [], ◌∷◌, ◌++◌}
-use Rattle.std.proofs.Common.{arith, refl, sym, ap, subst}
-use Rattle.std.specs.Prelude.{◌==◌, ◌&&◌, ◌||◌, not, Some, Result, Ok, Err, IfOk, OnErr, IsTrue, cond}
-use Rattle.std.specs.Prelude.{count_by, sum_by, slice_get}
+use Rattle.std.proofs.Common.{◌≡◌, ℕ, zero, suc, ◌+◌, Bool, true, false, cond, not, ◌&&◌, ◌||◌, List, [], ◌∷◌, ◌++◌}
+use Rattle.std.proofs.Common.{IfOk, OnErr, IsTrue, ◌==◌, slice_get, Some, Ok, Err, sum_by, count_by, Result, sym, refl}
+use Rattle.std.proofs.Common.{ap, ◌∙◌, subst, inl, inr, arith}
 use Rattle.std.proofs.lemmas.List.Sums.{sum_by-cons}
-use Rattle.im_types.specs.declared.operations.Op.{Op}
-use Rattle.im_types.specs.declared.commands.Call.{Call}
-use Rattle.im_types.specs.declared.commands.Call.TheVariants.{Command as Commands, Collect}
-use Rattle.im_types.specs.declared.commands.Command.TheVariants.{Request as Requests, Confirm}
-use Rattle.im_types.specs.declared.commands.Line.{Line}
-use Rattle.im_types.specs.declared.commands.Outcome.{Outcome}
-use Rattle.im_types.specs.declared.commands.Request.{Request}
-use Rattle.im_types.specs.declared.refusals.Refusal.{Refusal}
-use Rattle.im_types.specs.Contents.{Contents}
-use Rattle.im_types.specs.Window.{same_op}
-use Rattle.im_laws.proofs.OpLemmas.{same_op-self}
-use Rattle.im_laws.proofs.Tests.{test-self}
-use Rattle.im_trace.specs.Ends.{CountsTrace}
-use Rattle.im_controller.specs.Ends.{told_to_all}
-use Rattle.im_controller.specs.Lines.{line_of}
-use Rattle.im_controller.specs.State.{PortState}
-use Rattle.im_serving.specs.declared.intent.Intent.{Intent}
-use Rattle.im_serving.specs.declared.intent.Intent.TheVariants.{Request as Asks, Glance}
-use Rattle.im_serving.specs.Calls.{IsOwnCall}
-use Rattle.im_serving.specs.Elements.{AreEnded, Asked, End, IsEnded}
-use Rattle.im_serving.specs.Serving.{ops_of}
-use Rattle.im_run.specs.Alone.{AreCallsOf, AreQuiet, AreQuietAtEnd, AreUnmarked, is_request_of, is_call_of}
-use Rattle.im_run.specs.Alone.{is_call_of_one}
-use Rattle.im_run.specs.Alone.{is_strange, same_request}
-use Rattle.im_run.specs.Doing.{HaveAllParts, IsPartOf}
-use Rattle.im_run.specs.Orders.{Ask}
-use Rattle.im_run.specs.Planned.{requests_from}
+use Rattle.im_types.specs.Types.{Op, Request, Outcome, Call, Line, Asks as Requests, Confirm, Commands, Collect}
+use Rattle.im_types.specs.Types.{Refusal, Contents, same_op}
+use Rattle.{im_laws.proofs.OpLemmas.same_op-self, im_laws.proofs.Tests.test-self, im_trace.specs.Ends.CountsTrace}
+use Rattle.{im_serving.specs.Calls.IsOwnCall, im_serving.specs.Elements.AreEnded, im_serving.specs.Elements.Asked}
+use Rattle.{im_serving.specs.Elements.End, im_serving.specs.Elements.IsEnded, im_serving.specs.Serving.ops_of}
+use Rattle.im_controller.specs.{Ends.told_to_all, Lines.line_of, State.PortState}
+use Rattle.im_serving.specs.declared.Intent.{Intent, TheVariants.Glance, TheVariants.Request as Asks}
+use Rattle.im_run.specs.Alone.{AreCallsOf, AreQuiet, AreQuietAtEnd, AreUnmarked, is_call_of, is_call_of_one}
+use Rattle.im_run.specs.Alone.{is_request_of, is_strange, same_request}
+use Rattle.im_run.specs.{Doing.HaveAllParts, Doing.IsPartOf, Orders.Ask, Planned.requests_from}
 
 -- ---- tests
 

@@ -1,26 +1,18 @@
 -- The setup of a script: its blocks, as its lines are read, and the bases of its names. (Own.)
-use Rattle.std.proofs.Common.{◌≡◌, ◌∙◌, ℕ, List, [], ◌∷◌, ◌++◌, length, sym, ap, subst, map}
-use Rattle.std.specs.Prelude.{Option, None, Some, Result, true}
-use Rattle.std.specs.Borrow.{Bor}
+use Rattle.std.proofs.Common.{◌≡◌, ℕ, true, List, [], ◌∷◌, ◌++◌, map, length, Some, None, Option, Result, sym, ap, ◌∙◌}
+use Rattle.std.proofs.Common.{subst, Bor}
 use Rattle.std.specs.Option.{option_map_or}
-use Rattle.im_types.specs.declared.commands.Command.{Command}
-use Rattle.im_types.specs.Contents.{Contents}
-use Rattle.im_types.specs.Memory.{IsMemory}
+use Rattle.im_types.specs.Types.{Command, Contents, IsMemory}
 use Rattle.im_session.specs.Kept.{SessionState}
-use Rattle.im_script.specs.declared.script.Heard.{Heard}
-use Rattle.im_script.specs.Script.{Draft, heard, lines_of}
-use Rattle.im_text.specs.declared.lines.Lines.{Lines}
-use Rattle.im_text.specs.declared.replies.Waited.{Waited}
-use Rattle.im_text.specs.Printing.{PrintsOn, who_of}
-use Rattle.im_serial.specs.declared.waits.Mark.{Mark}
-use Rattle.im_serial.specs.Asked.{Course, Leads, Wanted, bases_after, standing}
-use Rattle.im_serial.specs.Noted.{AreNoted}
-use Rattle.im_serial.specs.Once.{HasServedNothing}
-use Rattle.im_serial.specs.Serving.{EndsAt, GoingAt, HasServed, Passes, ScriptServer, server_of}
+use Rattle.im_script.specs.{declared.Heard.Heard, Script.Draft, Script.heard, Script.lines_of}
+use Rattle.im_text.specs.{declared.Lines.Lines, declared.Waited.Waited, Printing.PrintsOn, Printing.who_of}
 use Rattle.im_serial.proofs.ScriptedLemmas.{going_from, has_served, passes_refl, prints_on}
-use Rattle.im_run.specs.Orders.{Scope, SetsUp, bases_made, blocks_asked, blocks_of, line_blocks, lines_heard}
-use Rattle.im_run.specs.Orders.{settled_past}
+use Rattle.im_serial.specs.Asked.{bases_after, Course, Leads, standing, Wanted}
+use Rattle.im_serial.specs.{declared.waits.Mark.Mark, Noted.AreNoted, Once.HasServedNothing}
+use Rattle.im_serial.specs.Serving.{EndsAt, GoingAt, HasServed, Passes, ScriptServer, server_of}
 use Rattle.im_run.proofs.OrdersLemmas.{line_heard}
+use Rattle.im_run.specs.Orders.{bases_made, blocks_asked, blocks_of, line_blocks, lines_heard, Scope, SetsUp}
+use Rattle.im_run.specs.Orders.{settled_past}
 
 -- ---- the bases of its names
 

@@ -1,42 +1,22 @@
 -- Commands that were accepted one after another: their numbers, and what blocks they made. (Own.)
-use Rattle.std.proofs.Common.{◌≡◌, ◌∙◌, ⊎_elim, inl, inr, ℕ, ◌+◌, ◌-◌, ◌<◌, zero, suc, Bool, true, false, List, []}
-use Rattle.std.proofs.Common.{◌∷◌, ◌++◌, length, length-append, replicate, refl, sym, ap, arith}
-use Rattle.std.specs.Prelude.{◌⊎◌, ◌==◌, Option, None, Some, Result, Ok, Err, slice_get, if◌then◌else◌}
-use Rattle.std.specs.Option.{option_map_or}
-use Rattle.std.proofs.lemmas.Bool.{cases_eq}
-use Rattle.std.proofs.lemmas.Bool.Decides.{nat_tests}
-use Rattle.im_types.specs.declared.commands.Command.{Command}
-use Rattle.im_types.specs.declared.commands.Command.TheVariants.{Request as Asks, Confirm}
-use Rattle.im_types.specs.declared.commands.Outcome.{Outcome}
-use Rattle.im_types.specs.declared.commands.Outcome.TheVariants.{Entry as Tells, Confirmed}
-use Rattle.im_types.specs.declared.commands.Request.{Request}
-use Rattle.im_types.specs.declared.operations.Entry.TheVariants.{Waiting, Answered}
-use Rattle.im_types.specs.declared.operations.Reply.{Reply}
-use Rattle.im_types.specs.declared.operations.Reply.TheVariants.{Base, NoSpace, BadLength, Value, Stored, Clash, NoCell}
-use Rattle.im_types.specs.declared.operations.Reply.TheVariants.{WrongKind, Released, NoBlock, StillWaiting, Cleared}
-use Rattle.im_types.specs.declared.refusals.Refusal.{Refusal}
-use Rattle.im_types.specs.declared.sizes.Limits.{Limits}
-use Rattle.im_types.specs.Act.{allocate}
-use Rattle.im_types.specs.Contents.{Contents, Held, Window, empty_contents, new_window}
-use Rattle.im_types.specs.Meaning.{accept_each}
-use Rattle.im_types.specs.Memory.{IsMemory}
-use Rattle.im_types.specs.Run.{after}
-use Rattle.im_types.specs.Step.{is_accepted, step}
-use Rattle.im_types.specs.Window.{bounds, bounds_of, next_number}
+use Rattle.std.proofs.Common.{◌≡◌, ℕ, zero, suc, ◌+◌, ◌-◌, ◌<◌, Bool, true, false, ◌⊎◌, List, [], ◌∷◌, ◌++◌, length}
+use Rattle.std.proofs.Common.{replicate, if◌then◌else◌, ◌==◌, slice_get, Some, None, Ok, Err, Option, Result, sym, refl}
+use Rattle.std.proofs.Common.{ap, ◌∙◌, inl, inr, ⊎_elim, arith, length-append}
+use Rattle.std.{proofs.lemmas.Bool.cases_eq, proofs.lemmas.Bool.Decides.nat_tests, specs.Option.option_map_or}
+use Rattle.im_types.specs.Types.{Reply, Waiting, Answered, Base, NoSpace, BadLength, Value, Stored, Clash, NoCell}
+use Rattle.im_types.specs.Types.{WrongKind, Released, NoBlock, StillWaiting, Cleared, Request, Command, Outcome, Asks}
+use Rattle.im_types.specs.Types.{Confirm, Tells, Confirmed, Refusal, Limits, Held, Window, Contents, new_window}
+use Rattle.im_types.specs.Types.{empty_contents, IsMemory, allocate, next_number, bounds_of, bounds, step, is_accepted}
+use Rattle.im_types.specs.Types.{after, accept_each}
 use Rattle.im_laws.proofs.AcceptLemmas.{accepted-moves_base, accepted-takes_next}
-use Rattle.im_laws.proofs.JudgeLemmas.{confirm-cells}
-use Rattle.im_laws.proofs.MemoryLemmas.{after-memory}
-use Rattle.im_laws.proofs.Tests.{eq_by_test, some_same}
-use Rattle.im_script.specs.declared.places.Action.{Action}
-use Rattle.im_script.specs.declared.places.Action.TheVariants.{Alloc}
-use Rattle.im_serial.specs.Asked.{Leads, Wanted, base_told, bases_after}
-use Rattle.im_serial.specs.Begun.{new_memory}
-use Rattle.im_serial.specs.Had.{end_with, left_of, next_had, numbers_had, sums_of}
+use Rattle.im_laws.proofs.{JudgeLemmas.confirm-cells, MemoryLemmas.after-memory, Tests.eq_by_test, Tests.some_same}
+use Rattle.im_script.specs.declared.Action.{Action, TheVariants.Alloc}
 use Rattle.im_serial.proofs.BegunLemmas.{accepted_next, asked_by, block_asked, cells_then, had_confirmed, had_here}
 use Rattle.im_serial.proofs.BegunLemmas.{had_there, next_bounds, none_left, nothing_had}
 use Rattle.im_serial.proofs.LeftLemmas.{had_at}
-use Rattle.im_run.specs.Stops.{numbers_from, numbers_of}
-use Rattle.im_run.proofs.SplitLemmas.{AreBlocks}
+use Rattle.im_serial.specs.{Asked.base_told, Asked.bases_after, Asked.Leads, Asked.Wanted, Begun.new_memory}
+use Rattle.im_serial.specs.Had.{end_with, left_of, next_had, numbers_had, sums_of}
+use Rattle.im_run.{proofs.SplitLemmas.AreBlocks, specs.Stops.numbers_from, specs.Stops.numbers_of}
 
 -- ---- a list in two parts
 

@@ -1,32 +1,21 @@
 -- What is told of the orders of a script, as it is noted. (Own.)
-use Rattle.std.proofs.Common.{◌≡◌, ◌∙◌, ◌⊎◌, inl, inr, ◌≤◌, ◌<◌, ℕ, suc, Bool, true, false, All, List, []}
-use Rattle.std.proofs.Common.{◌∷◌, ◌++◌, map, length, refl, sym, ap, ap₂, subst, append_assoc, append-nil, arith}
-use Rattle.std.specs.Prelude.{Option, None, Result, Ok, Err, IfOk, IsOk, IsSome, OnErr, OnOk, nat_le}
-use Rattle.std.specs.Prelude.{if◌then◌else◌}
-use Rattle.std.proofs.lemmas.Bool.Decides.{nat_tests}
-use Rattle.std.proofs.lemmas.List.{map-append}
-use Rattle.std.proofs.lemmas.List.Elements.{All-nil}
-use mathlib.Core.List.{IsPrefix}
-use Rattle.im_types.specs.declared.operations.Entry.{Entry}
-use Rattle.im_types.specs.declared.commands.Line.{Line}
-use Rattle.im_types.specs.declared.refusals.Refusal.{Refusal}
-use Rattle.im_types.specs.Changes.{opening}
-use Rattle.im_types.specs.Contents.{Contents}
+use Rattle.std.proofs.Common.{◌≡◌, ℕ, suc, ◌<◌, ◌≤◌, Bool, true, false, ◌⊎◌, List, [], ◌∷◌, ◌++◌, map, length, IfOk}
+use Rattle.std.proofs.Common.{if◌then◌else◌, OnOk, OnErr, IsSome, IsOk, nat_le, None, Ok, Err, All, Option, Result, sym}
+use Rattle.std.proofs.Common.{refl, ap, ◌∙◌, subst, ap₂, inl, inr, append_assoc, append-nil, arith}
+use Rattle.std.proofs.lemmas.{Bool.Decides.nat_tests, List.Elements.All-nil, List.map-append}
+use Rattle.im_types.specs.Types.{Entry, Line, Refusal, Contents, opening}
 use Rattle.im_laws.proofs.Tests.{true_false}
-use Rattle.im_controller.specs.State.{PortState}
-use Rattle.im_serving.specs.declared.intent.Intent.{Intent}
-use Rattle.im_serving.specs.declared.intent.Intent.TheVariants.{Request, Glance}
-use Rattle.im_serving.specs.declared.glances.Glanced.{Glanced}
+use Rattle.{im_controller.specs.State.PortState, im_serving.specs.declared.Glanced.Glanced}
+use Rattle.im_serving.proofs.AnswerLemmas.{answered_as, answered_on, looked_same}
+use Rattle.im_serving.specs.declared.Intent.{Intent, TheVariants.Glance, TheVariants.Request}
 use Rattle.im_serving.specs.Elements.{AreEnded, Asked, End, IsEnded}
 use Rattle.im_serving.specs.Serving.{AreDone, AreGlanced, HasAnswers, HasBegun, IsGlanced, ops_of, requests, sites}
-use Rattle.im_serving.proofs.AnswerLemmas.{answered_as, answered_on, looked_same}
-use Rattle.im_run.specs.declared.served.Did.{Did}
+use Rattle.im_run.specs.{declared.served.Did.Did, declared.sheet.Order.Order, Orders.Ask, Orders.ask_of}
+use Rattle.im_run.specs.Doing.{AreAllNoted, AreAllTold, elements_at_end, glances_later, glances_told, HaveAllParts}
+use Rattle.im_run.specs.Doing.{HaveSeen, IsNoted, IsOrderTold, IsPartOf, MakesPart, NotesEnd, part_elements, told_among}
+use Rattle.im_run.specs.Doing.{told_at, told_for}
+use mathlib.Core.List.{IsPrefix}
 use Rattle.im_run.specs.declared.served.Did.TheVariants as did
-use Rattle.im_run.specs.declared.sheet.Order.{Order}
-use Rattle.im_run.specs.Doing.{AreAllNoted, AreAllTold, HaveAllParts, HaveSeen, IsNoted, IsOrderTold, IsPartOf}
-use Rattle.im_run.specs.Doing.{MakesPart, NotesEnd, elements_at_end, part_elements, glances_later, glances_told}
-use Rattle.im_run.specs.Doing.{told_among, told_at, told_for}
-use Rattle.im_run.specs.Orders.{Ask, ask_of}
 
 -- ---- the lines of an element
 

@@ -1,32 +1,15 @@
 -- The end of a script's plan, whatever stopped its runs. (Own.)
-use Rattle.std.proofs.Common.{◌≡◌, ◌∙◌, ℕ, List, [], ◌∷◌, Ok, refl, sym, ap, subst}
-use Rattle.std.specs.Prelude.{Option, Some}
-use Rattle.im_types.specs.declared.commands.Call.TheVariants.{Command as Commands}
-use Rattle.im_types.specs.declared.commands.Command.{Command}
-use Rattle.im_types.specs.declared.commands.Line.{Line}
-use Rattle.im_types.specs.declared.commands.Outcome.TheVariants.{Confirmed}
-use Rattle.im_types.specs.declared.commands.Request.{Request}
-use Rattle.im_types.specs.declared.operations.Entry.{Entry}
-use Rattle.im_types.specs.declared.sizes.Limits.{Limits}
-use Rattle.im_types.specs.Contents.{Contents, Held, full_at, held_at}
-use Rattle.im_types.specs.Meaning.{accept_each}
-use Rattle.im_types.specs.Plan.{planned_value, result_of}
-use Rattle.im_types.specs.Run.{after}
-use Rattle.im_types.specs.Step.{asker, step}
-use Rattle.im_types.specs.Trace.{end_of}
-use Rattle.im_types.specs.Window.{ask}
-use Rattle.im_laws.proofs.RunLemmas.{after-append}
-use Rattle.im_plans.specs.Runs.{HasServed, IsInPlan, IsPlannedRun, entry_for}
+use Rattle.std.proofs.Common.{◌≡◌, ℕ, List, [], ◌∷◌, Some, Ok, Option, sym, refl, ap, ◌∙◌, subst}
+use Rattle.im_types.specs.Types.{Entry, Request, Command, Line, Confirmed, Commands, Limits, Held, Contents, held_at}
+use Rattle.im_types.specs.Types.{full_at, ask, asker, step, after, planned_value, result_of, end_of, accept_each}
+use Rattle.{im_laws.proofs.RunLemmas.after-append, im_controller.specs.Planned.AreOnPlan}
+use Rattle.im_plans.proofs.{UnderWayLaws.runs-served, Values.runs-value}
+use Rattle.im_plans.specs.Runs.{entry_for, HasServed, IsInPlan, IsPlannedRun}
 use Rattle.im_plans.specs.UnderWay.{AreRunsOf, HaveServed, value_in_end}
-use Rattle.im_plans.proofs.UnderWayLaws.{runs-served}
-use Rattle.im_plans.proofs.Values.{runs-value}
-use Rattle.im_controller.specs.Planned.{AreOnPlan}
-use Rattle.im_serial.specs.Begun.{new_memory}
-use Rattle.im_serial.proofs.BegunLemmas.{accepted_after, is_memory}
-use Rattle.im_run.specs.Stops.{HasDoneByPlan, setup_blocks}
+use Rattle.im_serial.{proofs.BegunLemmas.accepted_after, proofs.BegunLemmas.is_memory, specs.Begun.new_memory}
 use Rattle.im_run.proofs.CountLemmas.{accept_split, cells_behind, cells_led}
-use Rattle.im_run.proofs.SplitLemmas.{has_split}
-use Rattle.im_run.proofs.StopsLemmas.{own_same}
+use Rattle.im_run.proofs.{SplitLemmas.has_split, StopsLemmas.own_same}
+use Rattle.im_run.specs.Stops.{HasDoneByPlan, setup_blocks}
 
 -- ---- commands as a trace
 

@@ -1,36 +1,24 @@
 -- What a run that is done once finds of a script's setup in the memory. (Own.)
-use Rattle.std.proofs.Common.{◌≡◌, ◌∙◌, ⊎_elim, ℕ, ◌+◌, ◌-◌, ◌<◌, ◌≤◌, zero, suc, Bool, true, false, List, []}
-use Rattle.std.proofs.Common.{◌∷◌, ◌++◌, length, take, drop, refl, sym, ap, ap₂, subst, arith}
-use Rattle.std.specs.Prelude.{Option, None, Some, Ok, slice_get, if◌then◌else◌}
+use Rattle.std.proofs.Common.{◌≡◌, ℕ, zero, suc, ◌+◌, ◌-◌, ◌<◌, ◌≤◌, Bool, true, false, List, [], ◌∷◌, ◌++◌, length}
+use Rattle.std.proofs.Common.{take, drop, if◌then◌else◌, slice_get, Some, None, Ok, Option, sym, refl, ap, ◌∙◌, subst}
+use Rattle.std.proofs.Common.{ap₂, ⊎_elim, arith}
 use Rattle.std.specs.Option.{option_map_or}
-use Rattle.im_types.proofs.Tests.{and_both}
-use Rattle.im_types.specs.declared.operations.Entry.{Entry}
-use Rattle.im_types.specs.declared.operations.Entry.TheVariants.{Waiting, Answered}
-use Rattle.im_types.specs.declared.operations.Kept.{Kept}
-use Rattle.im_types.specs.declared.operations.Kind.{Kind}
-use Rattle.im_types.specs.declared.operations.Kind.TheVariants.{I, M}
-use Rattle.im_types.specs.declared.operations.Op.{Op}
-use Rattle.im_types.specs.declared.operations.Op.TheVariants as op
-use Rattle.im_types.specs.declared.operations.Waiter.{Waiter}
-use Rattle.im_types.specs.Agreement.{WaitingAgrees, address_of, awaiting, waits_in}
-use Rattle.im_types.specs.Contents.{Contents, Held, Window, held_at, kept_for}
-use Rattle.im_types.specs.Memory.{IsMemory}
-use Rattle.im_types.specs.Window.{bounds, bounds_of, is_waiting, is_waiting_entry, next_number, same_op}
-use Rattle.im_laws.proofs.OpLemmas.{same_op-equal}
-use Rattle.im_laws.proofs.Tests.{below_or_from, true_false}
-use Rattle.im_script.specs.Places.{action_op}
+use Rattle.im_types.specs.Types.{Entry, Kind, Op, Waiter, Kept, Waiting, Answered, I, M, Held, Window, Contents}
+use Rattle.im_types.specs.Types.{held_at, kept_for, IsMemory, awaiting, waits_in, address_of, WaitingAgrees}
+use Rattle.im_types.specs.Types.{next_number, same_op, is_waiting_entry, is_waiting, bounds_of, bounds}
+use Rattle.{im_types.proofs.Tests.and_both, im_script.specs.Places.action_op}
+use Rattle.im_laws.proofs.{OpLemmas.same_op-equal, Tests.below_or_from, Tests.true_false}
+use Rattle.im_serial.proofs.{LeftLemmas.had_at, LeftLemmas.has_some, LeftLemmas.met_here, SetupLemmas.IsBlock}
+use Rattle.im_serial.proofs.SettledLemmas.{AreSettledTo, count_at, is_unsettled, settled_few, settled_first}
+use Rattle.im_serial.proofs.SettledLemmas.{settled_more}
 use Rattle.im_serial.specs.Asked.{Wanted, wanted_of}
-use Rattle.im_serial.specs.Fitting.{FitsScript, base_for, bases_with, end_behind_base, fits_as, fits_from, keeps_as}
+use Rattle.im_serial.specs.Fitting.{base_for, bases_with, end_behind_base, fits_as, fits_from, FitsScript, keeps_as}
 use Rattle.im_serial.specs.Fitting.{keeps_base, keeps_op}
 use Rattle.im_serial.specs.Had.{first_open, has_next, left_of, length_asked, met, next_had, numbers_had}
 use Rattle.im_serial.specs.Had.{numbers_settled, still_waits, sums_of, who_next}
-use Rattle.im_serial.proofs.LeftLemmas.{had_at, has_some, met_here}
-use Rattle.im_serial.proofs.SettledLemmas.{AreSettledTo, count_at, is_unsettled, settled_few, settled_first}
-use Rattle.im_serial.proofs.SettledLemmas.{settled_more}
-use Rattle.im_serial.proofs.SetupLemmas.{IsBlock}
-use Rattle.im_run.specs.Orders.{blocks_asked, rest_of}
-use Rattle.im_run.specs.Stops.{setup_blocks}
 use Rattle.im_run.proofs.SplitLemmas.{AreBlocks, bases_had_of, blocks_left_of, has_split}
+use Rattle.im_run.specs.{Orders.blocks_asked, Orders.rest_of, Stops.setup_blocks}
+use Rattle.im_types.specs.declared.operations.Op.TheVariants as op
 
 -- ---- an allocation never waits
 

@@ -1,31 +1,18 @@
 -- What runs of a script that is done once leave on a disk, whatever stopped them. (Own.)
-use Rattle.std.proofs.Common.{◌≡◌, ◌⊎◌, ◌∙◌, inl, inr, ⊎_elim, ℕ, ◌+◌, zero, suc, Bool, true, false, List, [], ◌++◌}
-use Rattle.std.proofs.Common.{length, take, refl, sym, ap, subst, append-nil, arith, length-append}
-use Rattle.std.specs.Prelude.{Option, Some}
-use Rattle.im_types.specs.declared.commands.Command.{Command}
-use Rattle.im_types.specs.declared.sizes.Limits.{Limits}
-use Rattle.im_types.specs.Contents.{Contents}
-use Rattle.im_types.specs.Meaning.{Means, accept_each}
-use Rattle.im_types.specs.Run.{after}
-use Rattle.im_disk.specs.declared.disk.Disk.{Ghosts}
-use Rattle.im_disk.specs.Moment.{Left}
-use Rattle.im_disk.specs.Since.{LeavesNow}
-use Rattle.im_disk.proofs.SinceLemmas.{leaves_now}
-use Rattle.im_engine.proofs.Keeping.{accept_both}
-use Rattle.im_laws.proofs.RunLemmas.{after-append}
-use Rattle.im_session.specs.Carrying.{LedBy}
-use Rattle.im_session.specs.Kept.{Kept, MeansPut, SessionStart, SessionState, session_of}
-use Rattle.im_session.proofs.AcceptedLemmas.{each_accepted}
-use Rattle.im_session.proofs.CarryLemmas.{BeganWith, began_with, carried}
-use Rattle.im_serial.specs.Begun.{new_memory}
-use Rattle.im_serial.specs.Serving.{NotOpened}
+use Rattle.std.proofs.Common.{◌≡◌, ℕ, zero, suc, ◌+◌, Bool, true, false, ◌⊎◌, List, [], ◌++◌, length, take, Some}
+use Rattle.std.proofs.Common.{Option, sym, refl, ap, ◌∙◌, subst, inl, inr, ⊎_elim, append-nil, arith, length-append}
+use Rattle.im_types.specs.Types.{Command, Limits, Contents, after, accept_each, Means}
+use Rattle.{im_laws.proofs.RunLemmas.after-append, im_engine.proofs.Keeping.accept_both}
+use Rattle.im_disk.{proofs.SinceLemmas.leaves_now, specs.declared.Disk.Ghosts, specs.Moment.Left, specs.Since.LeavesNow}
+use Rattle.im_session.{proofs.AcceptedLemmas.each_accepted, specs.Carrying.LedBy}
+use Rattle.im_session.proofs.CarryLemmas.{began_with, BeganWith, carried}
+use Rattle.im_session.specs.Kept.{Kept, MeansPut, session_of, SessionStart, SessionState}
 use Rattle.im_serial.proofs.BegunLemmas.{accepted_after, accepted_first}
-use Rattle.im_run.specs.Once.{EndsOnce, RanRest}
-use Rattle.im_run.specs.Stops.{HasAll, HasDoneByPlan, HasRunByPlan, KeepsRun}
-use Rattle.im_run.specs.Stops.{LeadTo, setup_blocks}
-use Rattle.im_run.specs.Tracing.{TraceState}
-use Rattle.im_run.proofs.PlanStops.{Stops, has_all, plan_stops}
+use Rattle.im_serial.specs.{Begun.new_memory, Serving.NotOpened}
+use Rattle.im_run.proofs.PlanStops.{has_all, plan_stops, Stops}
 use Rattle.im_run.proofs.StopsLemmas.{run_first, take_behind}
+use Rattle.im_run.specs.{Once.EndsOnce, Once.RanRest, Tracing.TraceState}
+use Rattle.im_run.specs.Stops.{HasAll, HasDoneByPlan, HasRunByPlan, KeepsRun, LeadTo, setup_blocks}
 
 -- ---- a session
 

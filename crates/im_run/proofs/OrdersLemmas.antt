@@ -1,39 +1,29 @@
 -- What each element asks for in a script, as its lines are read. (Own.)
-use Rattle.std.proofs.Common.{◌≡◌, ◌∙◌, ◌+◌, ℕ, zero, suc, Bool, true, false, List, [], ◌∷◌, ◌++◌, map}
-use Rattle.std.proofs.Common.{length, refl, sym, ap, ap₂, subst, append_assoc, append-nil, arith}
-use Rattle.std.specs.Prelude.{Option, None, Some, Result, Ok, Err, IfOk, OnOk, IsSome, ◌==◌, slice_get, slice_set}
-use Rattle.std.specs.Prelude.{if◌then◌else◌, is_err, is_ok, not, ◌&&◌}
-use Rattle.std.specs.Borrow.{Bor}
-use Rattle.std.specs.Option.{option_map, option_map_or, option_and_then}
-use Rattle.std.proofs.Math.ListN.{length-set}
-use Rattle.std.proofs.lemmas.Option.{slice_get_past, slice_get_within}
-use mathlib.Core.List.{IsPrefix}
-use Rattle.im_types.specs.declared.operations.Op.{Op}
-use Rattle.im_types.specs.declared.operations.Op.TheVariants as op
+use Rattle.std.proofs.Common.{◌≡◌, ℕ, zero, suc, ◌+◌, Bool, true, false, not, ◌&&◌, List, [], ◌∷◌, ◌++◌, map, length}
+use Rattle.std.proofs.Common.{is_ok, is_err, IfOk, if◌then◌else◌, OnOk, IsSome, ◌==◌, slice_get, slice_set, Some, None}
+use Rattle.std.proofs.Common.{Ok, Err, Option, Result, option_map, option_and_then, sym, refl, ap, ◌∙◌, subst, ap₂}
+use Rattle.std.proofs.Common.{append_assoc, append-nil, arith, Bor}
+use Rattle.std.proofs.{lemmas.Option.slice_get_past, lemmas.Option.slice_get_within, Math.ListN.length-set}
+use Rattle.std.specs.Option.{option_map_or}
+use Rattle.{im_types.specs.Types.Op, im_serving.specs.declared.Intent.Intent}
 use Rattle.im_laws.proofs.Tests.{eq_by_test, some_same, test-self, true_false}
-use Rattle.im_script.specs.declared.places.Action.{Action}
-use Rattle.im_script.specs.declared.places.Action.TheVariants.{Alloc, Release, Fetch, Store, Take, Put, Reset}
-use Rattle.im_script.specs.declared.places.Place.{Place}
-use Rattle.im_script.specs.declared.places.Place.TheVariants.{Address, Named}
-use Rattle.im_script.specs.declared.script.Allocation.{Allocation}
-use Rattle.im_script.specs.declared.script.Heard.{Heard}
-use Rattle.im_script.specs.declared.script.Heard.TheVariants.{Says, Glances}
-use Rattle.im_script.specs.declared.script.Said.{Said}
-use Rattle.im_script.specs.declared.script.Said.TheVariants.{Block, Asks}
-use Rattle.im_script.specs.declared.script.ScriptLine.{ScriptLine}
-use Rattle.im_script.specs.Places.{place_address, as_u32, action_op}
+use Rattle.im_script.specs.declared.{Action.Action, Allocation.Allocation, ScriptLine.ScriptLine}
+use Rattle.im_script.specs.declared.Action.TheVariants.{Alloc, Fetch, Put, Release, Reset, Store, Take}
+use Rattle.im_script.specs.declared.Heard.{Heard, TheVariants.Glances, TheVariants.Says}
+use Rattle.im_script.specs.declared.Place.{Place, TheVariants.Address, TheVariants.Named}
+use Rattle.im_script.specs.declared.Said.{Said, TheVariants.Asks, TheVariants.Block}
+use Rattle.im_script.specs.Places.{action_op, as_u32, place_address}
 use Rattle.im_script.specs.Script.{Draft, heard, lines_of}
-use Rattle.im_serial.specs.Asked.{Wanted, wanted_by}
-use Rattle.im_serial.specs.Had.{met_all, news}
 use Rattle.im_serial.proofs.NotedLemmas.{get_set_here, get_set_other}
-use Rattle.im_serving.specs.declared.intent.Intent.{Intent}
-use Rattle.im_serving.specs.declared.intent.Intent.TheVariants as intent_kinds
+use Rattle.im_serial.specs.{Asked.Wanted, Asked.wanted_by, Had.met_all, Had.news}
 use Rattle.im_run.specs.declared.sheet.Order.{Order}
-use Rattle.im_run.specs.Orders.{AddsGlance, AddsRequest, AreInTurn, AreOrdersFrom, ArePartsThere, ArePlaced, Ask}
-use Rattle.im_run.specs.Orders.{BeginsAmong, HasAdded, HasMissed}
-use Rattle.im_run.specs.Orders.{HasHeard, HasReadTo, HaveOps, all_asked_in_part, ask_if, ask_of, asked_in_part}
-use Rattle.im_run.specs.Orders.{asks_among, asks_from}
-use Rattle.im_run.specs.Orders.{intents_at, line_asks, lines_heard, part_of, request_asked, settled_past}
+use Rattle.im_run.specs.Orders.{AddsGlance, AddsRequest, all_asked_in_part, AreInTurn, AreOrdersFrom, ArePartsThere}
+use Rattle.im_run.specs.Orders.{ArePlaced, Ask, ask_if, ask_of, asked_in_part, asks_among, asks_from, BeginsAmong}
+use Rattle.im_run.specs.Orders.{HasAdded, HasHeard, HasMissed, HasReadTo, HaveOps, intents_at, line_asks, lines_heard}
+use Rattle.im_run.specs.Orders.{part_of, request_asked, settled_past}
+use mathlib.Core.List.{IsPrefix}
+use Rattle.im_types.specs.declared.operations.Op.TheVariants as op
+use Rattle.im_serving.specs.declared.intent.Intent.TheVariants as intent_kinds
 
 -- ---- results
 

@@ -1,36 +1,20 @@
 -- One more run of a script by its plan: what all of them come to, from a new image on. (Own.)
-use Rattle.std.proofs.Common.{◌≡◌, ◌∙◌, ◌⊎◌, ⊎_elim, inl, inr, ℕ, Bool, true, List, [], ◌++◌}
-use Rattle.std.proofs.Common.{refl, sym, ap, subst, append_assoc, append-nil, arith}
-use Rattle.std.specs.Prelude.{Some}
-use Rattle.im_types.specs.declared.commands.Command.{Command}
-use Rattle.im_types.specs.declared.commands.Line.{Line}
-use Rattle.im_types.specs.declared.commands.Request.{Request}
-use Rattle.im_types.specs.declared.sizes.Limits.{Limits}
-use Rattle.im_types.specs.Contents.{Contents}
-use Rattle.im_types.specs.Meaning.{accept_each}
-use Rattle.im_types.specs.Memory.{IsMemory}
-use Rattle.im_types.specs.Run.{after}
-use Rattle.im_engine.proofs.Keeping.{accept_both}
-use Rattle.im_laws.proofs.RunLemmas.{after-append}
-use Rattle.im_plans.specs.Runs.{HasServed}
-use Rattle.im_plans.specs.UnderWay.{PlanGoesOn}
-use Rattle.im_controller.specs.Kept.{accepted_in}
-use Rattle.im_controller.specs.Planned.{AreOnPlan}
-use Rattle.im_serial.specs.Asked.{Leads, Wanted, wanted_of}
-use Rattle.im_serial.specs.Begun.{new_memory}
-use Rattle.im_serial.specs.Fitting.{FitsScript}
-use Rattle.im_serial.specs.Once.{HasMade}
+use Rattle.std.proofs.Common.{◌≡◌, ℕ, Bool, true, ◌⊎◌, List, [], ◌++◌, Some, sym, refl, ap, ◌∙◌, subst, inl, inr}
+use Rattle.std.proofs.Common.{⊎_elim, append_assoc, append-nil, arith}
+use Rattle.im_types.specs.Types.{Request, Command, Line, Limits, Contents, IsMemory, after, accept_each}
+use Rattle.{im_laws.proofs.RunLemmas.after-append, im_engine.proofs.Keeping.accept_both}
+use Rattle.im_plans.specs.{Runs.HasServed, UnderWay.PlanGoesOn}
+use Rattle.im_controller.specs.{Kept.accepted_in, Planned.AreOnPlan}
 use Rattle.im_serial.proofs.BegunLemmas.{accepted_after, is_memory}
-use Rattle.im_run.specs.declared.served.Did.{Did}
-use Rattle.im_run.specs.Doing.{HasToldScript}
-use Rattle.im_run.specs.Once.{ServesRest}
-use Rattle.im_run.specs.Orders.{AreAllOrders, Ask, SetsUp, bases_made, rest_of, script_heard}
-use Rattle.im_run.specs.Planned.{DidNotBegin, RanByPlan, plan_of}
-use Rattle.im_run.specs.Running.{HasEndedSetup}
-use Rattle.im_run.specs.Stops.{HasAll, HasDoneByPlan, HasRunByPlan, IsByPlan, IsOwnPlan, new_bases, setup_blocks}
+use Rattle.im_serial.specs.Asked.{Leads, Wanted, wanted_of}
+use Rattle.im_serial.specs.{Begun.new_memory, Fitting.FitsScript, Once.HasMade}
 use Rattle.im_run.proofs.CountLemmas.{accept_split, had_more}
 use Rattle.im_run.proofs.StopsLemmas.{accepted_on, both_on, own_same, quiet_names, quiet_setup, setup_asked}
 use Rattle.im_run.proofs.StopsLemmas.{setup_goes_on, setup_named}
+use Rattle.im_run.specs.{declared.served.Did.Did, Doing.HasToldScript, Once.ServesRest, Running.HasEndedSetup}
+use Rattle.im_run.specs.Orders.{AreAllOrders, Ask, bases_made, rest_of, script_heard, SetsUp}
+use Rattle.im_run.specs.Planned.{DidNotBegin, plan_of, RanByPlan}
+use Rattle.im_run.specs.Stops.{HasAll, HasDoneByPlan, HasRunByPlan, IsByPlan, IsOwnPlan, new_bases, setup_blocks}
 
 -- ---- one run more, by its plan
 

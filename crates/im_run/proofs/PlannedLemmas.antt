@@ -1,35 +1,18 @@
 -- A planned run whose requests were all told: each of them was served. (Own.)
-use Rattle.std.proofs.Common.{◌≡◌, ◌∙◌, inl, ⊎_elim, ℕ, zero, suc, List, [], ◌∷◌, ◌++◌, length, refl, sym}
-use Rattle.std.proofs.Common.{ap, subst, append_assoc, arith}
-use Rattle.std.specs.Prelude.{Option, None, Some, IfSome, slice_get}
-use Rattle.im_types.specs.declared.operations.Entry.{Entry}
-use Rattle.im_types.specs.declared.operations.Waiter.{Waiter}
-use Rattle.im_types.specs.declared.commands.Call.{Call}
-use Rattle.im_types.specs.declared.commands.Call.TheVariants.{Command as Commands, Collect}
-use Rattle.im_types.specs.declared.commands.Command.{Command}
-use Rattle.im_types.specs.declared.commands.Command.TheVariants.{Request as Asks}
-use Rattle.im_types.specs.declared.commands.Line.{Line}
-use Rattle.im_types.specs.declared.commands.Request.{Request}
-use Rattle.im_types.specs.Agreement.{WaitingAgrees}
-use Rattle.im_types.specs.Contents.{Contents, Window}
-use Rattle.im_types.specs.Step.{asker, step}
-use Rattle.im_types.specs.Trace.{IsLegal, contents_after, end_of}
-use Rattle.im_laws.proofs.EntryLemmas.{told-kept}
-use Rattle.im_laws.proofs.RunAgrees.{step-agrees}
-use Rattle.im_laws.proofs.Tests.{some_same}
+use Rattle.std.proofs.Common.{◌≡◌, ℕ, zero, suc, List, [], ◌∷◌, ◌++◌, length, IfSome, slice_get, Some, None, Option}
+use Rattle.std.proofs.Common.{sym, refl, ap, ◌∙◌, subst, inl, ⊎_elim, append_assoc, arith}
+use Rattle.im_types.specs.Types.{Entry, Waiter, Request, Command, Call, Line, Asks, Commands, Collect, Window, Contents}
+use Rattle.im_types.specs.Types.{WaitingAgrees, asker, step, contents_after, IsLegal, end_of}
+use Rattle.im_laws.proofs.{EntryLemmas.told-kept, RunAgrees.step-agrees, Tests.some_same}
+use Rattle.{im_plans.proofs.Taken.kept-taken, im_plans.proofs.Taken.step-taken, im_serving.specs.declared.Intent.Intent}
 use Rattle.im_plans.specs.Runs.{HasServed, IsInPlan, IsTaken}
-use Rattle.im_plans.proofs.Taken.{kept-taken, step-taken}
 use Rattle.im_controller.specs.Planned.{AreOnPlan, EndsAsPlanned, EndsBy}
-use Rattle.im_serving.specs.declared.intent.Intent.{Intent}
-use Rattle.im_serving.specs.declared.intent.Intent.TheVariants as intent_kinds
-use Rattle.im_serving.specs.Serving.{StandIn, asked_line, asked_lines, ops_of}
-use Rattle.im_run.specs.declared.served.Did.{Did}
-use Rattle.im_run.specs.Doing.{AreAllTold}
-use Rattle.im_run.specs.declared.sheet.AllOrders.{AllOrders}
-use Rattle.im_run.specs.Orders.{Ask, asks_in}
+use Rattle.im_serving.specs.Serving.{asked_line, asked_lines, ops_of, StandIn}
 use Rattle.im_run.proofs.WholeLemmas.{all_served, in_either}
-use Rattle.im_run.specs.Planned.{AreServed, EndsOnPlan, FitsIfNew, HasServedWhole, plan_of, planned_orders}
-use Rattle.im_run.specs.Planned.{requests_from}
+use Rattle.im_run.specs.{declared.served.Did.Did, declared.sheet.AllOrders.AllOrders, Doing.AreAllTold, Orders.Ask}
+use Rattle.im_run.specs.{Orders.asks_in, Planned.AreServed, Planned.EndsOnPlan, Planned.FitsIfNew}
+use Rattle.im_run.specs.{Planned.HasServedWhole, Planned.plan_of, Planned.planned_orders, Planned.requests_from}
+use Rattle.im_serving.specs.declared.intent.Intent.TheVariants as intent_kinds
 
 -- ---- the plan of the controller
 

@@ -1,24 +1,17 @@
 -- A script that is run once: what is known at its end. (Own.)
-use Rattle.std.proofs.Common.{◌≡◌, ◌∙◌, inl, inr, ⊎_elim, ℕ, Bool, List, [], ◌++◌, length, refl, sym, ap, subst}
-use Rattle.std.specs.Prelude.{◌⊎◌, Option, true, false}
+use Rattle.std.proofs.Common.{◌≡◌, ℕ, Bool, true, false, ◌⊎◌, List, [], ◌++◌, length, Option, sym, refl, ap, ◌∙◌, subst}
+use Rattle.std.proofs.Common.{inl, inr, ⊎_elim}
 use Rattle.std.specs.Io.KnownBytes.{Appends}
-use Rattle.im_types.specs.declared.commands.Command.{Command}
-use Rattle.im_types.specs.Contents.{Contents}
-use Rattle.im_types.specs.Memory.{IsMemory}
-use Rattle.im_disk.specs.declared.disk.Disk.{Ghosts}
-use Rattle.im_session.specs.Kept.{IsFresh, Kept, SessionStart, SessionState, session_of}
-use Rattle.im_text.specs.declared.replies.Waited.{Waited}
-use Rattle.im_text.specs.Printing.{Begins, IsLast, Prints}
-use Rattle.im_text.proofs.PrintingLemmas.{prints_none}
-use Rattle.im_serial.specs.Asked.{Wanted, wanted_of}
-use Rattle.im_serial.specs.Fitting.{FitsScript}
-use Rattle.im_serial.specs.Had.{bases_had, numbers_had}
+use Rattle.im_types.specs.Types.{Command, Contents, IsMemory}
+use Rattle.{im_disk.specs.declared.Disk.Ghosts, im_text.proofs.PrintingLemmas.prints_none}
+use Rattle.im_session.specs.Kept.{IsFresh, Kept, session_of, SessionStart, SessionState}
+use Rattle.im_text.specs.{declared.Waited.Waited, Printing.Begins, Printing.IsLast, Printing.Prints}
+use Rattle.im_serial.proofs.OnceLemmas.{met_start, shown_written}
+use Rattle.im_serial.specs.{Asked.Wanted, Asked.wanted_of, Fitting.FitsScript, Had.bases_had, Had.numbers_had}
 use Rattle.im_serial.specs.Once.{Breaks, HasMade, HasServedNothing, HasShown, IsPrefix, lines_had}
 use Rattle.im_serial.specs.Serving.{ScriptServer, server_of}
-use Rattle.im_serial.proofs.OnceLemmas.{met_start, shown_written}
 use Rattle.im_run.specs.Once.{EndsWhen, IsUnrun, RanRest, RunWhen}
-use Rattle.im_run.specs.Orders.{bases_first}
-use Rattle.im_run.specs.Tracing.{TraceState}
+use Rattle.im_run.specs.{Orders.bases_first, Tracing.TraceState}
 
 module _ {D : Type 0} (disk : Ghosts D) (script : List Wanted) (old mid : ScriptServer D) (bases : List ℕ)
     (ready : HasServedNothing old bases) where

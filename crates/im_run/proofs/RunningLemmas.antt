@@ -1,41 +1,24 @@
 -- What the session of a run puts on a disk, and what the run prints. (Own.)
-use Rattle.std.proofs.Common.{◌≡◌, ◌∙◌, ◌+◌, ◌≤◌, inl, inr, ⊎_elim, ℕ, zero, suc, Bool, false, List, [], ◌++◌, length}
-use Rattle.std.proofs.Common.{refl, sym, ap, subst, append-nil, take, arith, true}
-use Rattle.std.specs.Prelude.{Option, None, Some, ◌⊎◌, slice_get}
+use Rattle.std.proofs.Common.{◌≡◌, ℕ, zero, suc, ◌+◌, ◌≤◌, Bool, true, false, ◌⊎◌, List, [], ◌++◌, length, take}
+use Rattle.std.proofs.Common.{slice_get, Some, None, Option, sym, refl, ap, ◌∙◌, subst, inl, inr, ⊎_elim, append-nil}
+use Rattle.std.proofs.Common.{arith}
 use Rattle.std.specs.Io.KnownBytes.{Appends}
-use Rattle.im_types.specs.declared.commands.Command.{Command}
-use Rattle.im_types.specs.declared.commands.Line.{Line}
-use Rattle.im_types.specs.declared.commands.Request.{Request}
-use Rattle.im_types.specs.Contents.{Contents}
-use Rattle.im_types.specs.Meaning.{Means}
-use Rattle.im_types.specs.Run.{accepted, after}
-use Rattle.im_types.specs.Trace.{IsLegal}
-use Rattle.im_disk.specs.declared.disk.Disk.{Ghosts}
-use Rattle.im_disk.specs.Moment.{Left, Rises}
-use Rattle.im_disk.specs.Since.{Leaves, LeavesNow}
-use Rattle.im_engine.specs.State.{EngineState}
-use Rattle.im_laws.proofs.Tests.{true_false}
-use Rattle.im_session.specs.Kept.{Kept, SessionStart, SessionState, session_of}
-use Rattle.im_controller.specs.Kept.{Begun, IsSessionOf, accepted_in, begun_by, origin_of}
-use Rattle.im_controller.specs.State.{OpeningState}
-use Rattle.im_text.specs.declared.lines.Lines.{Lines}
-use Rattle.im_text.specs.declared.replies.Waited.{Waited}
+use Rattle.im_types.specs.Types.{Request, Command, Line, Contents, after, accepted, IsLegal, Means}
+use Rattle.{im_laws.proofs.Tests.true_false, im_engine.specs.State.EngineState, im_controller.specs.State.OpeningState}
+use Rattle.im_disk.specs.{declared.Disk.Ghosts, Moment.Left, Moment.Rises, Since.Leaves, Since.LeavesNow}
+use Rattle.im_session.specs.Kept.{Kept, session_of, SessionStart, SessionState}
+use Rattle.im_controller.specs.Kept.{accepted_in, Begun, begun_by, IsSessionOf, origin_of}
+use Rattle.im_text.proofs.{PrintingLemmas.prints_begins, TextLemmas.written_none}
+use Rattle.im_text.specs.declared.{Lines.Lines, Waited.Waited}
 use Rattle.im_text.specs.Printing.{Begins, IsLast, Prints, PrintsMore, replies}
-use Rattle.im_text.proofs.PrintingLemmas.{prints_begins}
-use Rattle.im_text.proofs.TextLemmas.{written_none}
-use Rattle.im_serial.specs.Asked.{Course, Standing, Wanted}
-use Rattle.im_serial.specs.Noted.{Notes}
-use Rattle.im_serial.specs.Serving.{IsOver, IsServing}
-use Rattle.im_run.specs.declared.run.TheConstants.{STALLED}
-use Rattle.im_run.specs.declared.served.Did.{Did}
-use Rattle.im_run.specs.Tracing.{TraceState}
-use Rattle.im_run.specs.Orders.{Ask, AreOrders, ArePartsThere, IsOfAll, Scope, SetsUp, bases_made, scope_when}
-use Rattle.im_run.specs.Orders.{script_heard}
-use Rattle.im_run.specs.Once.{RunWhen, also_when}
-use Rattle.im_run.specs.Planned.{EndsOnPlan, FitsIfNew, HasServedWhole, plan_of, planned_orders}
-use Rattle.im_run.specs.Doing.{AreAllTold}
-use Rattle.im_run.specs.Running.{BeginsFinals, Closes, EndedOn, PrintsFinals, ServersEnded, final_line, finals}
+use Rattle.im_serial.specs.{Asked.Course, Asked.Standing, Asked.Wanted, Noted.Notes, Serving.IsOver, Serving.IsServing}
 use Rattle.im_run.proofs.DoingLemmas.{told_weaker}
+use Rattle.im_run.specs.declared.{run.TheConstants.STALLED, served.Did.Did}
+use Rattle.im_run.specs.{Doing.AreAllTold, Once.also_when, Once.RunWhen, Tracing.TraceState}
+use Rattle.im_run.specs.Orders.{AreOrders, ArePartsThere, Ask, bases_made, IsOfAll, Scope, scope_when, script_heard}
+use Rattle.im_run.specs.Orders.{SetsUp}
+use Rattle.im_run.specs.Planned.{EndsOnPlan, FitsIfNew, HasServedWhole, plan_of, planned_orders}
+use Rattle.im_run.specs.Running.{BeginsFinals, Closes, EndedOn, final_line, finals, PrintsFinals, ServersEnded}
 
 -- ---- where a session began
 

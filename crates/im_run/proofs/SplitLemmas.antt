@@ -1,19 +1,15 @@
 -- A script's setup comes before its parts: what a memory has of the one and of the other. (Own.)
-use Rattle.std.proofs.Common.{◌≡◌, ◌∙◌, inl, inr, ℕ, ◌+◌, ◌-◌, zero, suc, Bool, true, false, List, [], ◌∷◌, ◌++◌}
-use Rattle.std.proofs.Common.{length, take, drop, refl, sym, ap, subst, append_assoc, arith}
-use Rattle.std.specs.Prelude.{◌&&◌, ◌==◌, Option, None, Some, nat_lt, slice_set, if◌then◌else◌}
-use Rattle.std.specs.Option.{option_map, option_map_or}
-use Rattle.std.proofs.lemmas.Bool.Decides.{nat_tests}
-use Rattle.im_types.specs.Contents.{Contents}
-use Rattle.im_script.specs.declared.script.Heard.{Heard}
-use Rattle.im_script.specs.declared.script.Said.{Said}
+use Rattle.std.proofs.Common.{◌≡◌, ℕ, zero, suc, ◌+◌, ◌-◌, Bool, true, false, ◌&&◌, List, [], ◌∷◌, ◌++◌, length, take}
+use Rattle.std.proofs.Common.{drop, if◌then◌else◌, nat_lt, ◌==◌, slice_set, Some, None, Option, option_map, sym, refl}
+use Rattle.std.proofs.Common.{ap, ◌∙◌, subst, inl, inr, append_assoc, arith}
+use Rattle.std.{proofs.lemmas.Bool.Decides.nat_tests, specs.Option.option_map_or}
+use Rattle.{im_types.specs.Types.Contents, im_serial.specs.Once.AreMade}
+use Rattle.im_script.specs.declared.{Heard.Heard, Said.Said}
 use Rattle.im_script.specs.Script.{Draft, heard, lines_of, new_draft}
-use Rattle.im_serial.specs.Asked.{Wanted, said_by, wanted_by, wanted_in, wanted_of}
-use Rattle.im_serial.specs.Had.{bases_had, has_next, left_of, length_asked, met, met_all, news, sums_of}
-use Rattle.im_serial.specs.Once.{AreMade}
-use Rattle.im_serial.proofs.LeftLemmas.{count_of, met_here}
-use Rattle.im_serial.proofs.OnceLemmas.{news_append}
+use Rattle.im_serial.proofs.{LeftLemmas.count_of, LeftLemmas.met_here, OnceLemmas.news_append}
 use Rattle.im_serial.proofs.SetupLemmas.{AreUnnamed, HasSetup, IsBlock, setup_first}
+use Rattle.im_serial.specs.Asked.{said_by, Wanted, wanted_by, wanted_in, wanted_of}
+use Rattle.im_serial.specs.Had.{bases_had, has_next, left_of, length_asked, met, met_all, news, sums_of}
 use Rattle.im_run.specs.Orders.{blocks_among, blocks_of, line_blocks, lines_heard, script_heard, settled_past}
 use Rattle.im_run.specs.Stops.{setup_blocks}
 

@@ -1,44 +1,24 @@
 -- Runs of a script that is done once, put together from a new image on. (Own.)
-use Rattle.std.proofs.Common.{◌≡◌, ◌∙◌, ⊎_elim, inl, inr, ℕ, ◌+◌, ◌-◌, ◌<◌, ◌≤◌, zero, suc, Bool, true, false, List, []}
-use Rattle.std.proofs.Common.{◌∷◌, ◌++◌, length, take, drop, refl, sym, ap, subst}
-use Rattle.std.proofs.Common.{append-nil, arith}
-use Rattle.std.specs.Prelude.{Some, if◌then◌else◌}
-use Rattle.std.specs.List.{AllByRecursion}
-use Rattle.std.proofs.lemmas.List.{take_all, take-append-le}
-use Rattle.im_types.specs.declared.commands.Call.{Call}
-use Rattle.im_types.specs.declared.commands.Call.TheVariants.{Command as Commands, Collect}
-use Rattle.im_types.specs.declared.commands.Command.{Command}
-use Rattle.im_types.specs.declared.commands.Command.TheVariants.{Request as Asks, Confirm}
-use Rattle.im_types.specs.declared.commands.Line.{Line}
-use Rattle.im_types.specs.declared.commands.Request.{Request}
-use Rattle.im_types.specs.declared.sizes.Limits.{Limits}
-use Rattle.im_types.specs.Contents.{Contents}
-use Rattle.im_types.specs.Meaning.{accept_each}
-use Rattle.im_types.specs.Memory.{IsMemory}
-use Rattle.im_types.specs.Run.{accepted, after}
-use Rattle.im_types.specs.Step.{is_accepted, step}
-use Rattle.im_laws.specs.Traces.{commands_of_call, commands_of}
-use Rattle.im_laws.proofs.Tests.{below_or_from}
+use Rattle.std.proofs.Common.{◌≡◌, ℕ, zero, suc, ◌+◌, ◌-◌, ◌<◌, ◌≤◌, Bool, true, false, List, [], ◌∷◌, ◌++◌, length}
+use Rattle.std.proofs.Common.{take, drop, if◌then◌else◌, Some, sym, refl, ap, ◌∙◌, subst, inl, inr, ⊎_elim, append-nil}
+use Rattle.std.proofs.Common.{arith, take_all}
+use Rattle.std.{proofs.lemmas.List.take-append-le, specs.List.AllByRecursion}
+use Rattle.im_types.specs.Types.{Request, Command, Call, Line, Asks, Confirm, Commands, Collect, Limits, Contents}
+use Rattle.im_types.specs.Types.{IsMemory, step, is_accepted, after, accepted, accept_each}
+use Rattle.im_laws.{proofs.Tests.below_or_from, specs.Traces.commands_of, specs.Traces.commands_of_call}
 use Rattle.im_plans.specs.Runs.{IsPlannedCall, IsPlannedRun}
-use Rattle.im_controller.specs.Kept.{accepted_in}
-use Rattle.im_controller.specs.Planned.{AreOnPlan, IsOnPlan}
-use Rattle.im_script.specs.declared.script.Heard.{Heard}
-use Rattle.im_serial.specs.Asked.{Leads, Wanted, bases_after, wanted_of}
-use Rattle.im_serial.specs.Begun.{new_memory}
-use Rattle.im_serial.specs.Fitting.{FitsScript}
-use Rattle.im_serial.specs.Had.{left_of, numbers_had, sums_of}
-use Rattle.im_serial.specs.Once.{AreMade, HasMade}
-use Rattle.im_serial.proofs.BegunLemmas.{IsStuck, Stands, accepted_after, accepted_first, is_memory, leads_first}
-use Rattle.im_serial.proofs.BegunLemmas.{names_all, run_comes}
-use Rattle.im_serving.specs.declared.intent.Intent.{Intent}
-use Rattle.im_run.specs.Orders.{AreAllOrders, Ask, SetsUp, ask_if, asks_from}
-use Rattle.im_run.specs.Orders.{bases_made, blocks_asked, rest_of, script_heard}
-use Rattle.im_run.specs.Planned.{plan_of}
-use Rattle.im_run.specs.Stops.{HasRunByPlan, IsOwnPlan, new_bases}
-use Rattle.im_run.specs.Stops.{setup_blocks}
+use Rattle.im_controller.specs.{Kept.accepted_in, Planned.AreOnPlan, Planned.IsOnPlan}
+use Rattle.{im_serving.specs.declared.Intent.Intent, im_script.specs.declared.Heard.Heard}
+use Rattle.im_serial.proofs.BegunLemmas.{accepted_after, accepted_first, is_memory, IsStuck, leads_first, names_all}
+use Rattle.im_serial.proofs.BegunLemmas.{run_comes, Stands}
+use Rattle.im_serial.specs.{Asked.bases_after, Asked.Leads, Asked.Wanted, Asked.wanted_of, Begun.new_memory}
+use Rattle.im_serial.specs.{Fitting.FitsScript, Had.left_of, Had.numbers_had, Had.sums_of, Once.AreMade, Once.HasMade}
 use Rattle.im_run.proofs.CountLemmas.{accept_split, blocks_asked_all, had_more, names_count, nothing_made, sums_count}
-use Rattle.im_run.proofs.KnownLemmas.{Knows, drop_past, knows}
+use Rattle.im_run.proofs.KnownLemmas.{drop_past, Knows, knows}
 use Rattle.im_run.proofs.SplitLemmas.{AreBlocks, blocks_first, blocks_setup, count_blocks, has_split, made_first}
+use Rattle.im_run.specs.Orders.{AreAllOrders, Ask, ask_if, asks_from, bases_made, blocks_asked, rest_of, script_heard}
+use Rattle.im_run.specs.Orders.{SetsUp}
+use Rattle.im_run.specs.{Planned.plan_of, Stops.HasRunByPlan, Stops.IsOwnPlan, Stops.new_bases, Stops.setup_blocks}
 
 -- ---- lists
 

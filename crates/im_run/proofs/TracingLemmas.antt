@@ -1,21 +1,16 @@
 -- The lines of a trace, as they are printed. (Own.)
-use Rattle.std.proofs.Common.{◌≡◌, ◌∙◌, ◌≤◌, ◌+◌, ◌-◌, ⊎_elim, ℕ, zero, suc, false, List, [], ◌∷◌, ◌++◌, length, refl}
-use Rattle.std.proofs.Common.{sym, ap, ap₂, subst, append_assoc, append-nil, arith}
-use Rattle.std.specs.Prelude.{Bool, Option, None, Some, Result, Ok, Err, OnOk, slice_get, if◌then◌else◌}
+use Rattle.std.proofs.Common.{◌≡◌, ℕ, zero, suc, ◌+◌, ◌-◌, ◌≤◌, Bool, false, List, [], ◌∷◌, ◌++◌, length, if◌then◌else◌}
+use Rattle.std.proofs.Common.{OnOk, slice_get, Some, None, Ok, Err, Option, Result, sym, refl, ap, ◌∙◌, subst, ap₂}
+use Rattle.std.proofs.Common.{⊎_elim, append_assoc, append-nil, arith, take_all}
+use Rattle.std.proofs.{KnownBytes.Appends-nil, lemmas.Bool.cases_lt, lemmas.List.take-append-le}
 use Rattle.std.specs.Io.KnownBytes.{Appends}
-use Rattle.std.proofs.KnownBytes.{Appends-nil}
-use Rattle.std.proofs.lemmas.Bool.{cases_lt}
-use Rattle.std.proofs.lemmas.List.{take_all, take-append-le}
-use Rattle.im_types.proofs.Tests.{false_true}
-use Rattle.im_types.specs.declared.commands.Line.{Line}
-use Rattle.im_trace.specs.declared.traced.Since.{Since}
-use Rattle.im_text.specs.declared.lines.Lines.{Lines}
-use Rattle.im_text.specs.Printing.{Begins, Prints, PrintsMore, PrintsOn}
-use Rattle.im_text.specs.Texts.{texts_below}
+use Rattle.{im_types.specs.Types.Line, im_types.proofs.Tests.false_true, im_trace.specs.declared.Since.Since}
+use Rattle.{im_text.specs.declared.Lines.Lines, im_text.specs.Printing.Begins, im_text.specs.Printing.Prints}
+use Rattle.{im_text.specs.Printing.PrintsMore, im_text.specs.Printing.PrintsOn, im_text.specs.Texts.texts_below}
 use Rattle.im_text.proofs.PrintingLemmas.{prints_all, prints_begins, prints_none, take-prefix}
-use Rattle.im_run.specs.Tracing.{IsMarkedText, IsTraceText, MayStand, PrintsBeginning, PrintsMarked, PrintsSome}
-use Rattle.im_run.specs.Tracing.{TraceState, WritesMarked, BeginsMarked, first_lines, marked_line}
-use Rattle.im_run.specs.Tracing.{marks_text, trace_line, trace_lines, trace_text, unmarked}
+use Rattle.im_run.specs.Tracing.{BeginsMarked, first_lines, IsMarkedText, IsTraceText, marked_line, marks_text}
+use Rattle.im_run.specs.Tracing.{MayStand, PrintsBeginning, PrintsMarked, PrintsSome, trace_line, trace_lines}
+use Rattle.im_run.specs.Tracing.{trace_text, TraceState, unmarked, WritesMarked}
 
 -- ---- two lists
 

@@ -1,28 +1,17 @@
 -- All requests of a script, the settled ones too. (Own.)
-use Rattle.std.proofs.Common.{◌≡◌, ◌∙◌, ℕ, zero, suc, true, false, List, [], ◌∷◌, ◌++◌, map, refl, sym, ap}
-use Rattle.std.proofs.Common.{subst, arith, ◌⊎◌, ⊎_elim, inl, inr}
-use Rattle.std.specs.Prelude.{◌<◌, nat_lt, Option, None, Some, slice_get}
-use Rattle.std.specs.Option.{option_map_or}
-use Rattle.std.proofs.lemmas.Bool.Decides.{nat_tests}
-use Rattle.im_types.proofs.Tests.{and_both}
-use Rattle.im_types.specs.declared.commands.Request.{Request}
-use Rattle.im_types.specs.Contents.{Window}
-use Rattle.im_types.specs.Window.{next_number}
-use Rattle.im_laws.proofs.Tests.{some_same}
+use Rattle.std.proofs.Common.{◌≡◌, ℕ, zero, suc, ◌<◌, true, false, ◌⊎◌, List, [], ◌∷◌, ◌++◌, map, nat_lt, slice_get}
+use Rattle.std.proofs.Common.{Some, None, Option, sym, refl, ap, ◌∙◌, subst, inl, inr, ⊎_elim, arith}
+use Rattle.std.{proofs.lemmas.Bool.Decides.nat_tests, specs.Option.option_map_or}
+use Rattle.im_types.{specs.Types.Request, specs.Types.Window, specs.Types.next_number, proofs.Tests.and_both}
+use Rattle.{im_laws.proofs.Tests.some_same, im_serving.specs.declared.Intent.Intent}
 use Rattle.im_plans.specs.Runs.{HasServed, IsInPlan, IsTaken}
-use Rattle.im_script.specs.declared.script.Allocation.{Allocation}
-use Rattle.im_script.specs.declared.script.Heard.TheVariants.{Says}
-use Rattle.im_script.specs.declared.script.Said.{Said}
-use Rattle.im_script.specs.declared.script.Said.TheVariants.{Block, Asks}
-use Rattle.im_script.specs.declared.script.ScriptLine.{ScriptLine}
-use Rattle.im_serial.specs.Asked.{Wanted, wanted_by}
-use Rattle.im_serial.specs.Had.{met_all, news}
-use Rattle.im_serving.specs.declared.intent.Intent.{Intent}
-use Rattle.im_serving.specs.declared.intent.Intent.TheVariants as intent_kinds
-use Rattle.im_run.specs.declared.sheet.Order.{Order}
-use Rattle.im_run.specs.Orders.{AddsRequest, Ask, HasHeard, ask_of}
-use Rattle.im_run.specs.Planned.{AreServed, all_below, next_or, plan_of, requests_from}
+use Rattle.im_script.specs.declared.{Allocation.Allocation, Heard.TheVariants.Says, ScriptLine.ScriptLine}
+use Rattle.im_script.specs.declared.Said.{Said, TheVariants.Asks, TheVariants.Block}
+use Rattle.im_serial.specs.{Asked.Wanted, Asked.wanted_by, Had.met_all, Had.news}
 use Rattle.im_run.proofs.OrdersLemmas.{heard_asked, heard_block, heard_nothing, prefix_same}
+use Rattle.im_run.specs.{declared.sheet.Order.Order, Orders.AddsRequest, Orders.Ask, Orders.ask_of, Orders.HasHeard}
+use Rattle.im_run.specs.Planned.{all_below, AreServed, next_or, plan_of, requests_from}
+use Rattle.im_serving.specs.declared.intent.Intent.TheVariants as intent_kinds
 
 -- ---- a line, where nothing is settled
 

@@ -1,19 +1,10 @@
 -- What may stand in the trace of a script's servers. (Own.)
-use Rattle.std.specs.Prelude.{◌≡◌, ◌==◌, ◌&&◌, ◌||◌, Bool, true, false, not, List, [], ◌∷◌, Result, count_by}
+use Rattle.std.specs.Prelude.{◌≡◌, Bool, true, false, not, ◌&&◌, ◌||◌, List, [], ◌∷◌, ◌==◌, count_by, Result}
 use Rattle.std.specs.List.{AllByRecursion}
-use Rattle.im_types.specs.declared.commands.Call.{Call}
-use Rattle.im_types.specs.declared.commands.Call.TheVariants.{Command as Commands, Collect}
-use Rattle.im_types.specs.declared.commands.Command.TheVariants.{Request as Requests, Confirm}
-use Rattle.im_types.specs.declared.commands.Line.{Line}
-use Rattle.im_types.specs.declared.commands.Outcome.{Outcome}
-use Rattle.im_types.specs.declared.commands.Request.{Request}
-use Rattle.im_types.specs.declared.refusals.Refusal.{Refusal}
-use Rattle.im_types.specs.Window.{same_op}
-use Rattle.im_controller.specs.Lines.{line_of}
-use Rattle.im_controller.specs.State.{PortState}
-use Rattle.im_serving.specs.Elements.{End}
-use Rattle.im_run.specs.Orders.{Ask}
-use Rattle.im_run.specs.Planned.{requests_from}
+use Rattle.im_types.specs.Types.{Request, Outcome, Call, Line, Asks as Requests, Confirm, Commands, Collect, Refusal}
+use Rattle.im_types.specs.Types.{same_op}
+use Rattle.{im_controller.specs.Lines.line_of, im_controller.specs.State.PortState, im_serving.specs.Elements.End}
+use Rattle.im_run.specs.{Orders.Ask, Planned.requests_from}
 
 -- whether these are one request
 abbrev pub same_request : Request → Request → Bool

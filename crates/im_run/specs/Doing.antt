@@ -1,24 +1,16 @@
 -- What was done of the orders of a script. (Own.)
-use Rattle.std.specs.Prelude.{◌≡◌, ◌⊎◌, ℕ, suc, List, [], ◌∷◌, ◌++◌, map, length, nat_le, Option, None, IsOk}
-use Rattle.std.specs.Prelude.{if◌then◌else◌}
-use Rattle.std.specs.List.{All, AllByRecursion}
-use mathlib.Core.List.{IsPrefix}
-use Rattle.im_types.specs.declared.operations.Entry.{Entry}
-use Rattle.im_types.specs.declared.commands.Command.{Command}
-use Rattle.im_types.specs.declared.commands.Line.{Line}
-use Rattle.im_types.specs.declared.refusals.Refusal.{Refusal}
-use Rattle.im_types.specs.Contents.{Contents}
-use Rattle.im_types.specs.Run.{after}
+use Rattle.std.specs.Prelude.{◌≡◌, ℕ, suc, ◌⊎◌, List, [], ◌∷◌, ◌++◌, map, length, if◌then◌else◌, IsOk, nat_le, None}
+use Rattle.std.specs.Prelude.{All, Option}
+use Rattle.std.specs.List.{AllByRecursion}
+use Rattle.im_types.specs.Types.{Entry, Command, Line, Refusal, Contents, after}
 use Rattle.im_controller.specs.State.{PortState}
-use Rattle.im_serving.specs.declared.intent.Intent.{Intent}
-use Rattle.im_serving.specs.declared.intent.Intent.TheVariants.{Request, Glance}
-use Rattle.im_serving.specs.declared.glances.Glanced.{Glanced}
-use Rattle.im_serving.specs.Elements.{Asked, End}
+use Rattle.im_serving.specs.{declared.Glanced.Glanced, Elements.Asked, Elements.End}
+use Rattle.im_serving.specs.declared.Intent.{Intent, TheVariants.Glance, TheVariants.Request}
 use Rattle.im_serving.specs.Serving.{AreDone, AreGlanced, HasAnswers, IsGlanced, ops_of, requests, sites}
-use Rattle.im_run.specs.Alone.{AreCallsOf}
-use Rattle.im_run.specs.declared.served.Did.{Did}
+use Rattle.im_run.specs.{Alone.AreCallsOf, declared.served.Did.Did}
+use Rattle.im_run.specs.Orders.{AreOrders, ArePartsThere, Ask, bases_made, Scope, SetsUp}
+use mathlib.Core.List.{IsPrefix}
 use Rattle.im_run.specs.declared.served.Did.TheVariants as did
-use Rattle.im_run.specs.Orders.{AreOrders, ArePartsThere, Ask, Scope, SetsUp, bases_made}
 
 -- ---- what is told of it
 

@@ -1,24 +1,15 @@
 -- A script that is run once, whatever stopped it before. (Own.)
-use Rattle.std.specs.Prelude.{◌≡◌, ◌⊎◌, ℕ, Bool, true, false, List, [], ◌++◌, Option}
+use Rattle.std.specs.Prelude.{◌≡◌, ℕ, Bool, true, false, ◌⊎◌, List, [], ◌++◌, Option}
 use Rattle.std.specs.Io.KnownBytes.{Appends}
-use Rattle.im_types.specs.declared.commands.Command.{Command}
-use Rattle.im_types.specs.declared.commands.Line.{Line}
-use Rattle.im_types.specs.Contents.{Contents}
-use Rattle.im_types.specs.Run.{after}
-use Rattle.im_disk.specs.declared.disk.Disk.{Ghosts}
-use Rattle.im_engine.specs.State.{EngineState}
-use Rattle.im_plans.specs.Runs.{HasServed}
-use Rattle.im_session.specs.Kept.{Kept, SessionStart, session_of}
-use Rattle.im_script.specs.declared.script.Heard.{Heard}
-use Rattle.im_text.specs.Printing.{Begins, IsLast}
-use Rattle.im_serial.specs.Asked.{Wanted, wanted_of}
-use Rattle.im_serial.specs.Fitting.{FitsScript}
-use Rattle.im_serial.specs.Had.{numbers_had}
+use Rattle.im_types.specs.Types.{Command, Line, Contents, after}
+use Rattle.{im_plans.specs.Runs.HasServed, im_disk.specs.declared.Disk.Ghosts, im_engine.specs.State.EngineState}
+use Rattle.{im_script.specs.declared.Heard.Heard, im_text.specs.Printing.Begins, im_text.specs.Printing.IsLast}
+use Rattle.im_session.specs.Kept.{Kept, session_of, SessionStart}
+use Rattle.im_serial.specs.{Asked.Wanted, Asked.wanted_of, Fitting.FitsScript, Had.numbers_had}
 use Rattle.im_serial.specs.Once.{HasMade, IsPrefix, lines_had}
 use Rattle.im_run.specs.Orders.{AreAllOrders, Ask, bases_made, rest_of, scope_when, script_heard}
 use Rattle.im_run.specs.Planned.{EndsOnPlan, GoesByPlan, plan_of}
-use Rattle.im_run.specs.Running.{Opened, RunOn}
-use Rattle.im_run.specs.Tracing.{TraceState}
+use Rattle.im_run.specs.{Running.Opened, Running.RunOn, Tracing.TraceState}
 
 -- It ended before the run: the script was refused, or what the memory has of it couldn't be printed. The session put
 -- nothing. What was printed is a prefix of this text: the first lines of what the memory has of the script, and the

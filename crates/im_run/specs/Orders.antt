@@ -1,23 +1,17 @@
 -- What each element asks for in a script. (Own.)
-use Rattle.std.specs.Prelude.{◌≡◌, ◌≤◌, ◌<◌, ℕ, zero, suc, ◌==◌, ◌&&◌, Bool, true, false, not, List, [], ◌∷◌, ◌++◌}
-use Rattle.std.specs.Prelude.{map, length, Option, None, Some, IsSome, slice_get, if◌then◌else◌}
-use Rattle.std.specs.Option.{option_map, option_map_or}
-use mathlib.Core.List.{IsPrefix}
-use Rattle.im_types.specs.declared.commands.Command.{Command}
-use Rattle.im_types.specs.Contents.{Contents}
-use Rattle.im_script.specs.declared.places.Place.{Place}
-use Rattle.im_script.specs.declared.script.Heard.{Heard}
-use Rattle.im_script.specs.declared.script.Heard.TheVariants.{Says, Glances}
-use Rattle.im_script.specs.declared.script.Said.TheVariants.{Nothing, Begins, Block, Asks}
-use Rattle.im_script.specs.Places.{place_address, action_op}
+use Rattle.std.specs.Prelude.{◌≡◌, ℕ, zero, suc, ◌<◌, ◌≤◌, Bool, true, false, not, ◌&&◌, List, [], ◌∷◌, ◌++◌, map}
+use Rattle.std.specs.Prelude.{length, if◌then◌else◌, IsSome, ◌==◌, slice_get, Some, None, Option, option_map}
+use Rattle.std.specs.Option.{option_map_or}
+use Rattle.{im_types.specs.Types.Command, im_types.specs.Types.Contents, im_serial.specs.declared.Past.Past}
+use Rattle.im_serving.specs.declared.Intent.{Intent, TheVariants.Glance, TheVariants.Request}
+use Rattle.im_script.specs.declared.Heard.{Heard, TheVariants.Glances, TheVariants.Says}
+use Rattle.im_script.specs.{declared.Place.Place, Places.action_op, Places.place_address}
+use Rattle.im_script.specs.declared.Said.TheVariants.{Asks, Begins, Block, Nothing}
 use Rattle.im_script.specs.Script.{Draft, heard, lines_of, new_draft}
-use Rattle.im_serial.specs.declared.past.Past.{Past}
-use Rattle.im_serial.specs.Asked.{Leads, Wanted, bases_after, said_by, wanted_by, wanted_of}
+use Rattle.im_serial.specs.Asked.{bases_after, Leads, said_by, Wanted, wanted_by, wanted_of}
 use Rattle.im_serial.specs.Had.{bases_had, first_open, met_all, news, next_had, numbers_had, numbers_settled}
-use Rattle.im_serving.specs.declared.intent.Intent.{Intent}
-use Rattle.im_serving.specs.declared.intent.Intent.TheVariants.{Request, Glance}
-use Rattle.im_run.specs.declared.sheet.Order.{Order}
-use Rattle.im_run.specs.declared.sheet.AllOrders.{AllOrders}
+use Rattle.im_run.specs.declared.sheet.{AllOrders.AllOrders, Order.Order}
+use mathlib.Core.List.{IsPrefix}
 
 -- ---- what a script says
 

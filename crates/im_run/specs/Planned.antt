@@ -1,20 +1,12 @@
 -- A script's requests as a plan. (Own.)
-use Rattle.std.specs.Prelude.{◌≡◌, ◌⊎◌, ℕ, suc, List, [], ◌∷◌, ◌++◌, Option, None, Some}
-use Rattle.std.specs.Prelude.{Bool, true, ◌&&◌, nat_lt, slice_get}
+use Rattle.std.specs.Prelude.{◌≡◌, ℕ, suc, Bool, true, ◌&&◌, ◌⊎◌, List, [], ◌∷◌, ◌++◌, nat_lt, slice_get, Some, None}
+use Rattle.std.specs.Prelude.{Option}
 use Rattle.std.specs.Option.{option_map_or}
-use Rattle.im_types.specs.declared.commands.Command.{Command}
-use Rattle.im_types.specs.declared.commands.Line.{Line}
-use Rattle.im_types.specs.declared.commands.Request.{Request}
-use Rattle.im_types.specs.Contents.{Contents, Window}
-use Rattle.im_types.specs.Plan.{FitsPlan}
-use Rattle.im_types.specs.Run.{after}
-use Rattle.im_types.specs.Window.{next_number}
+use Rattle.im_types.specs.Types.{Request, Command, Line, Window, Contents, next_number, after, FitsPlan}
 use Rattle.im_plans.specs.Runs.{HasServed}
 use Rattle.im_controller.specs.Planned.{AreOnPlan, EndsAsPlanned}
-use Rattle.im_serving.specs.declared.intent.Intent.{Intent}
-use Rattle.im_serving.specs.declared.intent.Intent.TheVariants.{Request as Asks, Glance}
-use Rattle.im_run.specs.declared.sheet.Order.{Order}
-use Rattle.im_run.specs.Orders.{Ask}
+use Rattle.im_serving.specs.declared.Intent.{Intent, TheVariants.Glance, TheVariants.Request as Asks}
+use Rattle.im_run.specs.{declared.sheet.Order.Order, Orders.Ask}
 
 -- what an element asks for under a number, as a request; a glance is none
 abbrev pub request_by : ℕ → ℕ → Intent → List Request

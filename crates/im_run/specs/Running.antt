@@ -1,38 +1,20 @@
 -- What a run of element servers prints, and what its session puts on a disk. (Own.)
-use Rattle.std.specs.Prelude.{◌≡◌, ◌⊎◌, ℕ, Bool, ◌<◌, ◌≤◌, List, [], ◌∷◌, ◌++◌, codes, decimal, false, true}
-use Rattle.std.specs.Prelude.{length, Option, None, Some, Result, Ok, Err, slice_get}
+use Rattle.std.specs.Prelude.{◌≡◌, ℕ, ◌<◌, ◌≤◌, Bool, true, false, ◌⊎◌, List, [], ◌∷◌, ◌++◌, length, slice_get, Some}
+use Rattle.std.specs.Prelude.{None, Ok, Err, codes, decimal, Option, Result}
 use Rattle.std.specs.Io.KnownBytes.{Appends}
-use Rattle.im_damage.specs.declared.damage.Damage.TheVariants.{Unknown}
-use Rattle.im_types.specs.declared.operations.Entry.{Entry}
-use Rattle.im_types.specs.declared.refusals.Refusal.{Refusal}
-use Rattle.im_types.specs.declared.refusals.Refusal.TheVariants.{Device, Failed}
-use Rattle.im_types.specs.Contents.{Contents}
-use Rattle.im_types.specs.Trace.{IsLegal}
-use Rattle.im_types.specs.declared.commands.Command.{Command}
-use Rattle.im_types.specs.declared.commands.Line.{Line}
-use Rattle.im_types.specs.Window.{ask}
-use Rattle.im_types.specs.Run.{after}
-use Rattle.im_disk.specs.declared.disk.Disk.{Ghosts}
-use Rattle.im_engine.specs.State.{EngineState}
-use Rattle.im_session.specs.Kept.{Kept, SessionStart, SessionState, session_of}
-use Rattle.im_controller.specs.Kept.{accepted_in}
-use Rattle.im_serial.specs.Asked.{Wanted}
-use Rattle.im_serial.specs.Serving.{NotOpened}
-use Rattle.im_text.specs.declared.lines.Lines.{Lines}
-use Rattle.im_text.specs.declared.reasons.Reason.{Reason}
-use Rattle.im_text.specs.declared.reasons.Reason.TheVariants.{Image, Request}
-use Rattle.im_text.specs.declared.replies.Waited.{Waited}
+use Rattle.im_types.specs.Types.{Entry, Command, Line, Refusal, Device, Failed, Contents, ask, after, IsLegal}
+use Rattle.{im_disk.specs.declared.Disk.Ghosts, im_engine.specs.State.EngineState, im_controller.specs.Kept.accepted_in}
+use Rattle.{im_damage.specs.declared.Damage.TheVariants.Unknown}
+use Rattle.im_session.specs.Kept.{Kept, session_of, SessionStart, SessionState}
+use Rattle.im_text.specs.{declared.Lines.Lines, declared.Waited.Waited, Texts.line_feed, Texts.texts_below}
+use Rattle.im_text.specs.declared.Reason.{Reason, TheVariants.Image, TheVariants.Request}
 use Rattle.im_text.specs.Printing.{Begins, IsLast, Prints, PrintsMore, replies, told_line}
-use Rattle.im_text.specs.Texts.{line_feed, texts_below}
-use Rattle.im_run.specs.Alone.{AreCallsOf}
-use Rattle.im_run.specs.declared.sheet.Order.{Order}
-use Rattle.im_run.specs.declared.run.TheConstants.{STALLED}
-use Rattle.im_run.specs.declared.served.Did.{Did}
-use Rattle.im_run.specs.declared.served.Did.TheVariants.{Sent, Glanced}
-use Rattle.im_run.specs.Doing.{AreAllTold, HasToldScript}
-use Rattle.im_run.specs.Orders.{Ask, Scope, SetsUp, all_of}
+use Rattle.im_serial.specs.{Asked.Wanted, Serving.NotOpened}
+use Rattle.im_run.specs.{Alone.AreCallsOf, Doing.AreAllTold, Doing.HasToldScript, Tracing.TraceState}
+use Rattle.im_run.specs.declared.{run.TheConstants.STALLED, sheet.Order.Order}
+use Rattle.im_run.specs.declared.served.Did.{Did, TheVariants.Glanced, TheVariants.Sent}
+use Rattle.im_run.specs.Orders.{all_of, Ask, Scope, SetsUp}
 use Rattle.im_run.specs.Planned.{EndsOnPlan, FitsIfNew, GoesByPlan, HasServedWhole, plan_of, planned_orders}
-use Rattle.im_run.specs.Tracing.{TraceState}
 
 -- the reason that a call of the disk failed
 abbrev pub disk_failed : Reason

@@ -1,28 +1,13 @@
 -- A script that is run once from a new image on, whatever stops it and however often. (Own.)
-use Rattle.std.specs.Prelude.{◌≡◌, ◌⊎◌, ◌==◌, ◌≤◌, ℕ, zero, suc, Bool, true, List, [], ◌∷◌, ◌++◌, length, Some, Ok}
-use Rattle.std.specs.Prelude.{if◌then◌else◌}
-use Rattle.im_types.specs.declared.commands.Command.{Command}
-use Rattle.im_types.specs.declared.commands.Command.TheVariants.{Request as Asks, Confirm}
-use Rattle.im_types.specs.declared.commands.Request.{Request}
-use Rattle.im_types.specs.declared.operations.Entry.{Entry}
-use Rattle.im_types.specs.declared.sizes.Limits.{Limits}
-use Rattle.im_types.specs.Contents.{Contents}
-use Rattle.im_types.specs.Meaning.{accept_each}
-use Rattle.im_types.specs.Run.{after}
-use Rattle.im_types.specs.Step.{asker}
-use Rattle.im_types.specs.Window.{ask}
-use Rattle.im_disk.specs.declared.disk.Disk.{Ghosts}
-use Rattle.im_disk.specs.Moment.{Moment}
-use Rattle.im_disk.specs.Since.{LeavesNow}
-use Rattle.im_plans.specs.Runs.{HasServed, IsInPlan}
-use Rattle.im_plans.specs.UnderWay.{PlanGoesOn}
-use Rattle.im_controller.specs.Planned.{AreOnPlan}
-use Rattle.im_serial.specs.Asked.{Leads, Wanted}
-use Rattle.im_serial.specs.Begun.{new_memory}
-use Rattle.im_serial.specs.Had.{left_of, numbers_had, sums_of}
-use Rattle.im_run.specs.Orders.{AreAllOrders, Ask, blocks_of, script_heard}
-use Rattle.im_run.specs.Planned.{plan_of}
-use Rattle.im_session.specs.Carrying.{LedBy}
+use Rattle.std.specs.Prelude.{◌≡◌, ℕ, zero, suc, ◌≤◌, Bool, true, ◌⊎◌, List, [], ◌∷◌, ◌++◌, length, if◌then◌else◌, ◌==◌}
+use Rattle.std.specs.Prelude.{Some, Ok}
+use Rattle.im_types.specs.Types.{Entry, Request, Command, Asks, Confirm, Limits, Contents, ask, asker, after}
+use Rattle.im_types.specs.Types.{accept_each}
+use Rattle.im_plans.specs.{Runs.HasServed, Runs.IsInPlan, UnderWay.PlanGoesOn}
+use Rattle.im_disk.specs.{declared.Disk.Ghosts, Moment.Moment, Since.LeavesNow}
+use Rattle.{im_session.specs.Carrying.LedBy, im_controller.specs.Planned.AreOnPlan}
+use Rattle.im_serial.specs.{Asked.Leads, Asked.Wanted, Begun.new_memory, Had.left_of, Had.numbers_had, Had.sums_of}
+use Rattle.im_run.specs.{Orders.AreAllOrders, Orders.Ask, Orders.blocks_of, Orders.script_heard, Planned.plan_of}
 
 -- ---- what a script asks for in a new image
 

@@ -1,22 +1,13 @@
 -- The lines of a trace, and what a run's trace is. (Own.)
-use Rattle.std.specs.Prelude.{◌≡◌, ◌<◌, ℕ, zero, suc, Bool, true, false, List, [], ◌++◌, if◌then◌else◌}
-use Rattle.std.specs.Prelude.{length, codes, decimal, Option, None, Some, Result, Ok, Err, slice_get}
+use Rattle.std.specs.Prelude.{◌≡◌, ℕ, zero, suc, ◌<◌, Bool, true, false, List, [], ◌++◌, length, if◌then◌else◌}
+use Rattle.std.specs.Prelude.{slice_get, Some, None, Ok, Err, codes, decimal, Option, Result}
 use Rattle.std.specs.Io.KnownBytes.{Appends}
-use Rattle.im_types.specs.declared.commands.Command.TheVariants.{Request as Asks, Confirm}
-use Rattle.im_types.specs.declared.commands.Request.{Request}
-use Rattle.im_types.specs.declared.commands.Outcome.{Outcome}
-use Rattle.im_types.specs.declared.commands.Outcome.TheVariants.{Entry as Tells, Confirmed}
-use Rattle.im_types.specs.declared.commands.Call.{Call}
-use Rattle.im_types.specs.declared.commands.Call.TheVariants.{Command as Commands, Collect}
-use Rattle.im_types.specs.declared.commands.Line.{Line}
-use Rattle.im_types.specs.declared.refusals.Refusal.{Refusal}
-use Rattle.im_types.specs.Refusals.{number_of}
-pub use Rattle.im_trace.specs.declared.traced.Since.{Since}
-use Rattle.im_trace.specs.Ends.{RecordingState, empty_recording}
-use Rattle.im_trace.specs.Lines.{may_begin}
-use Rattle.im_text.specs.declared.lines.Lines.{Lines}
-use Rattle.im_text.specs.Printing.{Begins, PrintsMore}
+use Rattle.im_types.specs.Types.{Request, Outcome, Call, Line, Asks, Confirm, Tells, Confirmed, Commands, Collect}
+use Rattle.im_types.specs.Types.{Refusal, number_of}
+use Rattle.im_trace.specs.{Ends.empty_recording, Ends.RecordingState, Lines.may_begin}
+use Rattle.im_text.specs.{declared.Lines.Lines, Printing.Begins, Printing.PrintsMore}
 use Rattle.im_text.specs.Texts.{entry_text, line_feed, op_text, texts_below}
+pub use Rattle.im_trace.specs.declared.traced.Since.{Since}
 
 -- K.N OPERATION
 abbrev pub request_text : Request → List ℕ

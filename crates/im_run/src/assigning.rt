@@ -1,6 +1,6 @@
 //! What the servers do for a script.
-ghost use Rattle.std.specs.Prelude.{◌≡◌, OnOk, IfOk, Ok, None, map};
-ghost use Rattle.im_run.specs.Orders.{IsOfAll, ask_of, asks_among, asks_in, first_asked, script_heard};
+ghost use Rattle.std.specs.Prelude.{◌≡◌, map, IfOk, OnOk, None, Ok};
+ghost use Rattle.im_run.specs.Orders.{ask_of, asks_among, asks_in, first_asked, IsOfAll, script_heard};
 
 use crate::late::waits_in;
 use crate::numbering::number_orders;

@@ -1,10 +1,8 @@
 //! The beginning of a run, before any thread starts.
-ghost use Rattle.std.specs.Prelude.{◌≡◌, ◌≤◌, IfOk, IfErr, IfSome, IfNone, OnOk, Some, false, length, map, true};
-ghost use Rattle.im_types.specs.Plan.{FitsPlan};
-ghost use Rattle.im_controller.specs.State.{is_recorded};
-ghost use Rattle.im_run.specs.Orders.{ask_of, asks_in};
+ghost use Rattle.std.specs.Prelude.{◌≡◌, ◌≤◌, true, false, map, length, IfSome, IfNone, IfOk, IfErr, OnOk, Some};
+ghost use Rattle.{im_types.specs.Types.FitsPlan, im_controller.specs.State.is_recorded};
+ghost use Rattle.im_run.specs.{Orders.ask_of, Orders.asks_in, Running.AreThere};
 ghost use Rattle.im_run.specs.Planned.{FitsIfNew, plan_of, planned_orders};
-ghost use Rattle.im_run.specs.Running.{AreThere};
 
 use crate::planned::{make_plan, plan_fault};
 use crate::sheet::{Order, Workload};

@@ -1,5 +1,5 @@
 //! The calls of the elements' servers.
-ghost use Rattle.std.specs.Prelude.{◌≡◌, [], true, if◌then◌else◌};
+ghost use Rattle.std.specs.Prelude.{◌≡◌, true, [], if◌then◌else◌};
 
 use im_controller::{Recording, Traced};
 use std::marker::Model;

@@ -1,5 +1,5 @@
 //! The end of a run: its lines, its status, and why it ended.
-ghost use Rattle.std.specs.Prelude.{◌≡◌, ◌⊎◌, ◌≤◌, false, IsOk};
+ghost use Rattle.std.specs.Prelude.{◌≡◌, ◌≤◌, false, ◌⊎◌, IsOk};
 ghost use Rattle.im_session.specs.Kept.{Kept};
 ghost use Rattle.im_run.specs.Running.{Closes, disk_failed, told_as};
 

@@ -1,5 +1,5 @@
 //! The lines of what was done for an element.
-ghost use Rattle.std.specs.Prelude.{◌≡◌, ◌++◌, ◌∷◌, [], IfOk, OnOk};
+ghost use Rattle.std.specs.Prelude.{◌≡◌, [], ◌∷◌, ◌++◌, IfOk, OnOk};
 ghost use Rattle.im_run.specs.declared.served.Did.TheVariants.{Sent};
 ghost use Rattle.im_run.specs.Doing.{glances_later, glances_told, told_among};
 

@@ -1,6 +1,6 @@
 //! The elements of a script's parts that the memory doesn't have (decision 871).
 ghost use Rattle.std.specs.Prelude.{◌≡◌, ◌<◌, None};
-ghost use Rattle.im_script.specs.declared.script.Heard.TheVariants.{Says};
+ghost use Rattle.im_script.specs.declared.Heard.TheVariants.{Says};
 ghost use Rattle.im_run.specs.Orders.{BeginsAmong};
 
 use im_script::{Heard, Said};

@@ -1,5 +1,5 @@
 //! Notes the calls of a setup.
-ghost use Rattle.std.specs.Prelude.{◌≡◌, ◌≤◌, ◌<◌, ◌+◌, vec_len, vec_capacity};
+ghost use Rattle.std.specs.Prelude.{◌≡◌, ◌+◌, ◌<◌, ◌≤◌, vec_len, vec_capacity};
 
 use im_memory::Memory;
 use im_types::{Call, Command, Line, Outcome, Refusal, Request};

@@ -1,7 +1,7 @@
 //! The orders of a script's elements, with their numbers.
-ghost use Rattle.std.specs.Prelude.{◌≡◌, ◌++◌, ℕ, [], IfOk, OnOk, map, slice_get};
+ghost use Rattle.std.specs.Prelude.{◌≡◌, ℕ, [], ◌++◌, map, IfOk, OnOk, slice_get};
 ghost use Rattle.std.specs.Option.{option_map_or};
-ghost use Rattle.im_types.specs.Window.{next_number};
+ghost use Rattle.im_types.specs.Types.{next_number};
 ghost use Rattle.im_run.specs.Orders.{AreInTurn, ask_if, ask_of, asks_among, first_asked, intents_at, settled_by};
 ghost use Rattle.im_run.specs.Orders.{settled_when};
 

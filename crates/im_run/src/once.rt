@@ -1,9 +1,8 @@
 //! A script that is run once, whatever stopped it before.
-ghost use Rattle.std.specs.Prelude.{◌≡◌, ◌⊎◌, ◌≤◌, ◌++◌, ℕ, true, List, Option};
+ghost use Rattle.std.specs.Prelude.{◌≡◌, ℕ, ◌≤◌, true, ◌⊎◌, List, ◌++◌, Option};
 ghost use Rattle.im_session.specs.Kept.{Kept};
 ghost use Rattle.im_text.specs.Printing.{Begins, IsLast, Prints};
-ghost use Rattle.im_serial.specs.Once.{HasServedNothing};
-ghost use Rattle.im_serial.specs.Serving.{seen_by};
+ghost use Rattle.im_serial.specs.{Once.HasServedNothing, Serving.seen_by};
 ghost use Rattle.im_run.specs.Once.{EndsOnce, RunsOnceOn};
 
 use crate::context::RunContext;

@@ -1,7 +1,6 @@
 //! The opening of an image, before a script is run on it.
-ghost use Rattle.std.specs.Prelude.{◌≡◌, IfErr, IfOk, OnOk};
-ghost use Rattle.im_serial.specs.Once.{HasServedNothing};
-ghost use Rattle.im_serial.specs.Serving.{NotOpened, seen_by};
+ghost use Rattle.std.specs.Prelude.{◌≡◌, IfOk, IfErr, OnOk};
+ghost use Rattle.im_serial.specs.{Once.HasServedNothing, Serving.NotOpened, Serving.seen_by};
 
 use im_disk::Disk;
 use im_serial::{Desk, Server};

@@ -1,14 +1,12 @@
 //! What each element asks for in a script.
-ghost use Rattle.std.specs.Prelude.{◌≡◌, ◌==◌, ◌++◌, ◌∷◌, [], OnOk, IfOk, None, false, true, map, length};
-ghost use Rattle.std.specs.Prelude.{if◌then◌else◌};
+ghost use Rattle.std.specs.Prelude.{◌≡◌, true, false, [], ◌∷◌, ◌++◌, map, length, IfOk, if◌then◌else◌, OnOk, ◌==◌};
+ghost use Rattle.std.specs.Prelude.{None};
+ghost use Rattle.im_script.specs.declared.Heard.TheVariants.{Says};
+ghost use Rattle.im_serial.specs.{Asked.wanted_by, Serving.ServedBy};
+ghost use Rattle.im_run.specs.Orders.{AddsGlance, AddsRequest, ArePartsThere, ask_of, asks_among, asks_in, BeginsAmong};
+ghost use Rattle.im_run.specs.Orders.{blocks_asked, blocks_of, first_asked, HasAdded, HasHeard, HasOrders, HasReadTo};
+ghost use Rattle.im_run.specs.Orders.{IsOfAll, line_blocks, scope_when, script_heard, settled_by};
 ghost use mathlib.Core.List.{IsPrefix};
-ghost use Rattle.im_script.specs.declared.script.Heard.TheVariants.{Says};
-ghost use Rattle.im_serial.specs.Asked.{wanted_by};
-ghost use Rattle.im_serial.specs.Serving.{ServedBy};
-ghost use Rattle.im_run.specs.Orders.{AddsGlance, AddsRequest, ArePartsThere, BeginsAmong, HasAdded, HasHeard};
-ghost use Rattle.im_run.specs.Orders.{HasOrders, HasReadTo};
-ghost use Rattle.im_run.specs.Orders.{IsOfAll, ask_of, asks_among, asks_in, blocks_asked, blocks_of, first_asked};
-ghost use Rattle.im_run.specs.Orders.{line_blocks, scope_when, script_heard, settled_by};
 
 use crate::assigning::{make_workload, with_parts};
 use crate::missing::missed_by;

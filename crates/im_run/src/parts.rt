@@ -1,7 +1,6 @@
 //! Makes what each element is served with.
-ghost use Rattle.std.specs.Prelude.{◌≡◌, IfOk, IsSome, None, map};
-ghost use Rattle.im_run.specs.Doing.{HaveAllParts, IsPartOf, MakesPart, part_elements};
-ghost use Rattle.im_run.specs.Orders.{ask_of};
+ghost use Rattle.std.specs.Prelude.{◌≡◌, map, IfOk, IsSome, None};
+ghost use Rattle.im_run.specs.{Doing.HaveAllParts, Doing.IsPartOf, Doing.MakesPart, Doing.part_elements, Orders.ask_of};
 
 use crate::sheet::Order;
 use im_controller::{Controller, Name};

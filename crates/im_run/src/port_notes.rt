@@ -1,8 +1,7 @@
 //! What is noted while the elements' ports come back.
-ghost use Rattle.std.specs.Prelude.{◌≡◌, [], List, IsOk, None};
-ghost use Rattle.im_types.specs.declared.commands.Line.{Line};
-ghost use Rattle.im_run.specs.Alone.{AreQuiet};
-ghost use Rattle.im_run.specs.Doing.{AddsLines, HaveSeen, NotesEnd};
+ghost use Rattle.std.specs.Prelude.{◌≡◌, List, [], IsOk, None};
+ghost use Rattle.im_types.specs.Types.{Line};
+ghost use Rattle.im_run.specs.{Alone.AreQuiet, Doing.AddsLines, Doing.HaveSeen, Doing.NotesEnd};
 
 use crate::deeds::told_at;
 use crate::parts::first_refusal;

@@ -1,12 +1,8 @@
 //! A script's requests, by servers over the session of an image.
-ghost use Rattle.std.specs.Prelude.{◌≡◌, ◌⊎◌, ◌≤◌, [], None, Some, true, map, IsOk};
-ghost use Rattle.im_session.specs.Kept.{Kept};
-ghost use Rattle.im_serial.specs.Once.{HasServedNothing};
-ghost use Rattle.im_serial.specs.Serving.{seen_by};
-ghost use Rattle.im_run.specs.Orders.{ask_of, asks_in, bases_first};
-ghost use Rattle.im_run.specs.Planned.{FitsIfNew, plan_of, planned_orders};
-ghost use Rattle.im_run.specs.Once.{RunWhen};
-ghost use Rattle.im_run.specs.Running.{EndedOn, ServersEnded};
+ghost use Rattle.std.specs.Prelude.{◌≡◌, ◌≤◌, true, ◌⊎◌, [], map, IsOk, Some, None};
+ghost use Rattle.{im_session.specs.Kept.Kept, im_serial.specs.Once.HasServedNothing, im_serial.specs.Serving.seen_by};
+ghost use Rattle.im_run.specs.{Once.RunWhen, Orders.ask_of, Orders.asks_in, Orders.bases_first, Planned.FitsIfNew};
+ghost use Rattle.im_run.specs.{Planned.plan_of, Planned.planned_orders, Running.EndedOn, Running.ServersEnded};
 
 use crate::beginning::begin;
 use crate::calls::Calls;

@@ -1,9 +1,7 @@
 //! A script on the image of a disk, from opening to end.
-ghost use Rattle.std.specs.Prelude.{◌≡◌, ◌⊎◌, ◌≤◌, true};
-ghost use Rattle.im_serial.specs.Once.{HasServedNothing};
-ghost use Rattle.im_serial.specs.Serving.{seen_by};
-ghost use Rattle.im_run.specs.Once.{EndsWhen, RunsWhen};
-ghost use Rattle.im_run.specs.Running.{RunsOn, RunsPlanOn};
+ghost use Rattle.std.specs.Prelude.{◌≡◌, ◌≤◌, true, ◌⊎◌};
+ghost use Rattle.im_serial.specs.{Once.HasServedNothing, Serving.seen_by};
+ghost use Rattle.im_run.specs.{Once.EndsWhen, Once.RunsWhen, Running.RunsOn, Running.RunsPlanOn};
 
 use crate::context::RunContext;
 use crate::once::run_rest;

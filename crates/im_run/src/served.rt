@@ -1,12 +1,9 @@
 //! Serves all elements through one controller.
-ghost use Rattle.std.specs.Prelude.{◌≡◌, ◌∷◌, [], ℕ, List, IfOk, None, OnErr, map, true};
-ghost use Rattle.im_types.specs.Trace.{IsLegal, end_of};
-ghost use Rattle.im_types.specs.declared.commands.Line.{Line};
-ghost use Rattle.im_controller.specs.Kept.{IsOriginOf, IsSessionOf};
-ghost use Rattle.im_controller.specs.Planned.{EndsBy};
-ghost use Rattle.im_run.specs.Alone.{AreQuiet, AreQuietAtEnd, AreUnmarked, NoneMarked};
-ghost use Rattle.im_run.specs.Doing.{AreAllNoted, AreAllTold, HaveSeen, elements_at_end};
-ghost use Rattle.im_run.specs.Orders.{ask_of};
+ghost use Rattle.std.specs.Prelude.{◌≡◌, ℕ, true, List, [], ◌∷◌, map, IfOk, OnErr, None};
+ghost use Rattle.im_types.specs.Types.{Line, IsLegal, end_of};
+ghost use Rattle.im_controller.specs.{Kept.IsOriginOf, Kept.IsSessionOf, Planned.EndsBy};
+ghost use Rattle.im_run.specs.{Alone.AreQuiet, Alone.AreQuietAtEnd, Alone.AreUnmarked, Alone.NoneMarked, Orders.ask_of};
+ghost use Rattle.im_run.specs.Doing.{AreAllNoted, AreAllTold, elements_at_end, HaveSeen};
 
 use crate::calls::Calls;
 use crate::context::RunContext;

@@ -81,9 +81,8 @@ pub struct Sheet {
 }
 
 impl Sheet {
-    ghost use Rattle.std.specs.Prelude.{◌≡◌, ℕ, [], IfOk, false, true};
-    ghost use Rattle.im_serial.specs.Asked.{wanted_by};
-    ghost use Rattle.im_serial.specs.Had.{met_all, news};
+    ghost use Rattle.std.specs.Prelude.{◌≡◌, ℕ, true, false, [], IfOk};
+    ghost use Rattle.im_serial.specs.{Asked.wanted_by, Had.met_all, Had.news};
     ghost use Rattle.im_run.specs.Orders.{AreInTurn, intents_at, settled_by, settled_when};
 
     /// Starts with nothing read.

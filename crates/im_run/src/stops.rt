@@ -1,14 +1,10 @@
 //! Runs of a script that are stopped, and gone on with, and laws of what they come to. This is a client's view of
 //! [`run_once_on`].
-ghost use Rattle.std.specs.Prelude.{◌≡◌, ◌⊎◌, ◌≤◌, ◌<◌, List, Some, true, ℕ};
-ghost use Rattle.im_types.specs.declared.commands.Command.{Command};
-ghost use Rattle.im_types.specs.declared.sizes.Limits.{Limits};
-ghost use Rattle.im_types.specs.Contents.{Contents, full_at};
-ghost use Rattle.im_types.specs.Meaning.{Means, accept_each};
-ghost use Rattle.im_serial.specs.Begun.{new_memory};
+ghost use Rattle.std.specs.Prelude.{◌≡◌, ℕ, ◌<◌, ◌≤◌, true, ◌⊎◌, List, Some};
+ghost use Rattle.im_types.specs.Types.{Command, Limits, Contents, full_at, accept_each, Means};
+ghost use Rattle.{im_session.specs.Carrying.LedBy, im_serial.specs.Begun.new_memory};
 ghost use Rattle.im_run.specs.Stops.{ActInOrder, CarriesOver, CarriesPlanOver, HasAll, HasDoneByPlan, HasRunByPlan};
 ghost use Rattle.im_run.specs.Stops.{HaveSameEntries, KeepsRuns, LeadTo};
-ghost use Rattle.im_session.specs.Carrying.{LedBy};
 
 use crate::context::RunContext;
 use crate::once::run_once_on;

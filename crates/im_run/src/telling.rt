@@ -1,9 +1,8 @@
 //! Prints what was done.
-ghost use Rattle.std.specs.Prelude.{◌≡◌, ◌++◌, OnOk, length, slice_get, string_bytes};
-ghost use Rattle.std.specs.Prelude.{Some};
+ghost use Rattle.std.specs.Prelude.{◌≡◌, ◌++◌, length, OnOk, slice_get, Some, string_bytes};
 ghost use Rattle.im_text.specs.Printing.{PrintsMore, Pushes};
 ghost use Rattle.im_run.specs.declared.served.Did.TheVariants.{Sent};
-ghost use Rattle.im_run.specs.Running.{PrintsFinals, final, final_line, finals, glance_line, seen_text};
+ghost use Rattle.im_run.specs.Running.{final, final_line, finals, glance_line, PrintsFinals, seen_text};
 
 use crate::served::Did;
 use im_memory::Memory;

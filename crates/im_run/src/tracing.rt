@@ -1,9 +1,9 @@
 //! The trace of a run: its calls in the order that was kept, each with its answer and its marks.
-ghost use Rattle.std.specs.Prelude.{◌≡◌, ◌++◌, [], OnOk, length, slice_get, true};
+ghost use Rattle.std.specs.Prelude.{◌≡◌, true, [], ◌++◌, length, OnOk, slice_get};
 ghost use Rattle.std.specs.Io.KnownBytes.{Appends};
 ghost use Rattle.im_text.specs.Printing.{Begins, Pushes};
-ghost use Rattle.im_run.specs.Tracing.{BeginsMarked, MayStand, PrintsAll, PrintsSome, WritesMarked, marked_line};
-ghost use Rattle.im_run.specs.Tracing.{trace_text, unmarked};
+ghost use Rattle.im_run.specs.Tracing.{BeginsMarked, marked_line, MayStand, PrintsAll, PrintsSome, trace_text};
+ghost use Rattle.im_run.specs.Tracing.{unmarked, WritesMarked};
 
 use crate::calls::Calls;
 use crate::wording::make_call;

@@ -1,6 +1,6 @@
 //! Whether all of a script was served, at the end of a run that does it once.
-ghost use Rattle.std.specs.Prelude.{◌≡◌, IfNone, IfSome, IsOk, true};
-ghost use Rattle.im_run.specs.Planned.{AreServed, all_below, next_or};
+ghost use Rattle.std.specs.Prelude.{◌≡◌, true, IfSome, IfNone, IsOk};
+ghost use Rattle.im_run.specs.Planned.{all_below, AreServed, next_or};
 
 use crate::numbering::next_of;
 use crate::sheet::{AllOrders, Order};

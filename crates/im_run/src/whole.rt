@@ -1,7 +1,7 @@
 //! The orders of all requests of a script, be they settled or not.
-ghost use Rattle.std.specs.Prelude.{◌≡◌, [], IfOk, OnOk, length, map};
-ghost use Rattle.im_script.specs.declared.script.Heard.TheVariants.{Says};
-ghost use Rattle.im_run.specs.Orders.{AreAllOrders, HasHeard, HasReadTo, ask_of, asks_among, first_behind};
+ghost use Rattle.std.specs.Prelude.{◌≡◌, [], map, length, IfOk, OnOk};
+ghost use Rattle.im_script.specs.declared.Heard.TheVariants.{Says};
+ghost use Rattle.im_run.specs.Orders.{AreAllOrders, ask_of, asks_among, first_behind, HasHeard, HasReadTo};
 ghost use Rattle.im_run.specs.Orders.{script_heard};
 
 use crate::numbering::{keep_order, no_orders};

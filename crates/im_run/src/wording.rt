@@ -1,5 +1,5 @@
 //! The text of a line of a trace: a call, its answer, and its marks.
-ghost use Rattle.std.specs.Prelude.{◌≡◌, ◌++◌, [], OnOk, Some, if◌then◌else◌, string_bytes};
+ghost use Rattle.std.specs.Prelude.{◌≡◌, [], ◌++◌, if◌then◌else◌, OnOk, Some, string_bytes};
 ghost use Rattle.im_run.specs.Tracing.{call_text, marked_line, marks_text, outcome_text, refusal_text, request_text};
 ghost use Rattle.im_run.specs.Tracing.{trace_line};
 

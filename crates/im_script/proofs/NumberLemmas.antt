@@ -1,15 +1,10 @@
 -- Numbers read digit by digit. (Own.)
-use Rattle.std.proofs.Common.{◌≡◌, ◌∙◌, ℕ, ◌+◌, ◌*◌, ◌-◌, ◌^◌, ◌<◌, ◌≤◌, true, false, ◌&&◌, nat_le, List, [], ◌∷◌}
-use Rattle.std.proofs.Common.{arith, refl, sym, ap, length, drop, get_or, inl, inr}
-use Rattle.std.specs.Prelude.{Option, Some, None, if◌then◌else◌}
-use Rattle.std.specs.Char.{digit_value, is_ascii_digit}
-use Rattle.std.specs.Option.{option_and_then}
-use Rattle.std.specs.Str.{all_ascii_digits}
-use Rattle.std.specs.Str.Parse.{digits_value_after}
-use Rattle.std.proofs.lemmas.Bool.{cases_Bool, cases_lt, leb-true, and_parts, lt-ltb, le-ltb, lt-leb, and_right}
-use Rattle.std.proofs.lemmas.Bool.{cond-false}
-use Rattle.std.proofs.lemmas.List.{at_drop_more}
-use Rattle.std.proofs.lemmas.Str.{digit_value_digit}
+use Rattle.std.proofs.Common.{◌≡◌, ℕ, ◌+◌, ◌-◌, ◌*◌, ◌^◌, ◌<◌, ◌≤◌, true, false, ◌&&◌, List, [], ◌∷◌, length, get_or}
+use Rattle.std.proofs.Common.{drop, if◌then◌else◌, nat_le, Some, None, Option, option_and_then, sym, refl, ap, ◌∙◌, inl}
+use Rattle.std.proofs.Common.{inr, arith, le-ltb, lt-ltb, leb-true}
+use Rattle.std.proofs.lemmas.Bool.{and_parts, and_right, cases_Bool, cases_lt, cond-false, lt-leb}
+use Rattle.std.proofs.lemmas.{List.at_drop_more, Str.digit_value_digit}
+use Rattle.std.specs.{Char.digit_value, Char.is_ascii_digit, Str.all_ascii_digits, Str.Parse.digits_value_after}
 use Rattle.im_script.specs.Grammar.{digit_after, number_up_to}
 
 -- the number that the digits bs append to n, if it is at most `most`

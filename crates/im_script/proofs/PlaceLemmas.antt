@@ -1,14 +1,11 @@
 -- Names among names, and in places. (Own.)
-use Rattle.std.proofs.Common.{◌≡◌, ◌∙◌, ℕ, ◌≤◌, Bool, false, not, ◌==◌, List, [], ◌∷◌, ◌++◌, Bor, arith, refl, ap}
-use Rattle.std.proofs.Common.{length, drop, inl, inr}
-use Rattle.std.specs.Prelude.{Option, Some, None}
-use Rattle.std.specs.List.{before_first, list_any, position, position_or_len}
-use Rattle.std.specs.Option.{option_map, option_and_then}
-use Rattle.std.specs.Str.{bytes_eq}
-use Rattle.std.proofs.lemmas.Bool.{cases_lt, lt-ltb, le-ltb, cond-true, cond-false}
-use Rattle.std.proofs.lemmas.List.{length-map, map-append}
+use Rattle.std.proofs.Common.{◌≡◌, ℕ, ◌≤◌, Bool, false, not, List, [], ◌∷◌, ◌++◌, length, drop, ◌==◌, Some, None}
+use Rattle.std.proofs.Common.{Option, option_map, position, option_and_then, bytes_eq, refl, ap, ◌∙◌, inl, inr, arith}
+use Rattle.std.proofs.Common.{Bor, le-ltb, lt-ltb}
 use Rattle.indexmap.specs.IndexSet.{insert_key}
-use Rattle.std.proofs.lemmas.List.Sums.{prefix_len-le-length}
+use Rattle.std.proofs.lemmas.Bool.{cases_lt, cond-false, cond-true}
+use Rattle.std.proofs.lemmas.List.{length-map, map-append, Sums.prefix_len-le-length}
+use Rattle.std.specs.List.{before_first, list_any, position_or_len}
 use Rattle.im_script.specs.declared.places.Place.TheVariants.{Named}
 use Rattle.im_script.specs.Grammar.{offset_of, place_past, texts}
 

@@ -1,21 +1,16 @@
 -- A script read line by line. (Own.)
-use Rattle.std.proofs.Common.{Bool, ◌≡◌, ◌∙◌, eq-eqb, ◌++◌, ◌==◌, true, false, All, ℕ, ◌+◌, ◌<◌, ◌≤◌, List, [], ◌∷◌}
-use Rattle.std.proofs.Common.{arith, refl, sym, ap, subst, length, take, drop, get_or, inl, inr, Bor, get_or-take}
-use Rattle.std.proofs.Common.{◌-◌, length-drop}
-use Rattle.std.specs.Prelude.{◌⊎◌, Option, Some, None, Result, Ok, Err, IfErr, IfSome, IsSome}
-use Rattle.std.specs.List.{slice_split}
-use Rattle.std.specs.Option.{option_map, option_and_then, option_map_or}
-use Rattle.std.proofs.lemmas.List.{take_more, take_all, take-append-drop, length-take-le, drop_more}
-use Rattle.std.proofs.lemmas.List.Splits.{slice_split_at}
-use Rattle.std.proofs.lemmas.Bool.{ne_eqb}
-use Rattle.std.proofs.lemmas.List.Elements.{All-append, All-cons, All-nil, All-from_get_or}
-use Rattle.memchr.specs.Find.{Nowhere, Passes, is_byte}
+use Rattle.std.proofs.Common.{◌≡◌, ℕ, ◌+◌, ◌-◌, ◌<◌, ◌≤◌, Bool, true, false, ◌⊎◌, List, [], ◌∷◌, ◌++◌, length, get_or}
+use Rattle.std.proofs.Common.{take, drop, IfSome, IfErr, IsSome, ◌==◌, Some, None, Ok, Err, All, Option, Result}
+use Rattle.std.proofs.Common.{option_map, option_and_then, sym, refl, ap, ◌∙◌, subst, inl, inr, arith, length-drop}
+use Rattle.std.proofs.Common.{take-append-drop, length-take-le, take_all, get_or-take, Bor, eq-eqb, ne_eqb}
+use Rattle.memchr.specs.Find.{is_byte, Nowhere, Passes}
+use Rattle.std.proofs.lemmas.List.{drop_more, Splits.slice_split_at, take_more}
+use Rattle.std.proofs.lemmas.List.Elements.{All-append, All-cons, All-from_get_or, All-nil}
+use Rattle.std.specs.{List.slice_split, Option.option_map_or}
+use Rattle.im_script.specs.declared.{faults.ScriptFault.ScriptFault, script.Heard.Heard, script.Script.Script}
+use Rattle.im_script.specs.declared.faults.ScriptFault.TheVariants.{BadLine, NoMemory, TooLarge}
+use Rattle.im_script.specs.Faults.{bad_line, is_of_size, IsFirstBadLine}
 use Rattle.im_script.specs.Script.{Draft, heard, is_few, lines_after, lines_of, lines_say, new_draft, script_of}
-use Rattle.im_script.specs.declared.script.Heard.{Heard}
-use Rattle.im_script.specs.declared.faults.ScriptFault.{ScriptFault}
-use Rattle.im_script.specs.declared.faults.ScriptFault.TheVariants.{NoMemory, TooLarge, BadLine}
-use Rattle.im_script.specs.declared.script.Script.{Script}
-use Rattle.im_script.specs.Faults.{IsFirstBadLine, is_of_size, bad_line}
 
 -- with glances, or without
 module _ (g : Bool) where

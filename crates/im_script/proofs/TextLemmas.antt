@@ -1,8 +1,7 @@
 -- A text that is read up to its bound. (Own.)
-use Rattle.std.proofs.Common.{◌≡◌, ◌∙◌, ℕ, ◌+◌, ◌<◌, ◌≤◌, List, ap, arith, inl, inr, length, take}
-use Rattle.std.specs.Prelude.{Option, None, Some, IfSome}
+use Rattle.std.proofs.Common.{◌≡◌, ℕ, ◌+◌, ◌<◌, ◌≤◌, List, length, take, IfSome, Some, None, Option, ap, ◌∙◌, inl, inr}
+use Rattle.std.proofs.Common.{arith, length-take, length-take-le, take_all}
 use Rattle.std.proofs.lemmas.Bool.{cases_lt}
-use Rattle.std.proofs.lemmas.List.{length-take, length-take-le, take_all}
 
 -- at most n + 1 bytes were read, and there are at most n: these are all of the text
 pub read_whole : (o : Option (List ℕ)) (text : List ℕ) (most : ℕ) → IfSome o (λ xs. text ≡ take (most + 1) xs)

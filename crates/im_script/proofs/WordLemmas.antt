@@ -1,22 +1,14 @@
 -- The words of a line, cut off one after another. (Own.)
-use Rattle.std.proofs.Common.{◌≡◌, ◌∙◌, ℕ, ◌+◌, ◌<◌, ◌≤◌, true, false, not, ◌==◌, List, [], ◌∷◌, ◌++◌}
-use Rattle.std.proofs.Common.{All, Bor, arith, refl, sym, ap, length, take, drop, get_or, inl, inr, append-nil}
-use Rattle.std.specs.Prelude.{Option, Some, None}
-use Rattle.std.specs.Char.{is_ascii}
-use Rattle.std.specs.List.{filter, list_all, slice_split}
-use Rattle.std.specs.Option.{option_map_or}
-use Rattle.std.specs.Str.{bytes_eq}
-use Rattle.std.proofs.lemmas.Bool.{cases_Bool, eqb-true}
-use Rattle.std.proofs.lemmas.Bool.Decides.{Decides-eqb}
-use Rattle.std.proofs.lemmas.List.{at_drop_more, drop_all, length-map, take-append-le, take_all}
-use Rattle.std.proofs.lemmas.List.Splits.{slice_split_none}
-use Rattle.std.proofs.lemmas.Slice.Eq.{slice_eq-Decides}
-use Rattle.im_script.specs.declared.script.Stage.{Stage}
-use Rattle.im_script.specs.declared.script.Stage.TheVariants.{Start, Setup, Part}
-use Rattle.im_script.specs.Grammar.{is_short, texts, words_of}
-use Rattle.im_script.specs.Words.{words_past}
-use Rattle.im_script.specs.Script.{Draft, line_says, glance_at, heard, heard_in, line_at, words_after}
+use Rattle.std.proofs.Common.{◌≡◌, ℕ, ◌+◌, ◌<◌, ◌≤◌, true, false, not, List, [], ◌∷◌, ◌++◌, length, get_or, take, drop}
+use Rattle.std.proofs.Common.{◌==◌, Some, None, All, filter, Option, bytes_eq, sym, refl, ap, ◌∙◌, inl, inr, append-nil}
+use Rattle.std.proofs.Common.{arith, take_all, Bor, eqb-true}
+use Rattle.std.proofs.lemmas.{Bool.cases_Bool, Bool.Decides.Decides-eqb, Slice.Eq.slice_eq-Decides}
+use Rattle.std.proofs.lemmas.List.{at_drop_more, drop_all, length-map, Splits.slice_split_none, take-append-le}
+use Rattle.std.specs.{Char.is_ascii, List.list_all, List.slice_split, Option.option_map_or}
 use Rattle.im_script.proofs.ScriptLemmas.{part_ends}
+use Rattle.im_script.specs.declared.script.Stage.{Stage, TheVariants.Part, TheVariants.Setup, TheVariants.Start}
+use Rattle.im_script.specs.{Grammar.is_short, Grammar.texts, Grammar.words_of, Words.words_past}
+use Rattle.im_script.specs.Script.{Draft, glance_at, heard, heard_in, line_at, line_says, words_after}
 
 -- ---- one word
 

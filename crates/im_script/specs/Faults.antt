@@ -1,14 +1,12 @@
 -- Which line of a text isn't in the grammar. (Own.)
-use Rattle.std.specs.Prelude.{◌≡◌, Bool, true, false, ℕ, ◌+◌, List, ◌∷◌, ◌++◌, Option, Some, None, length}
-use Rattle.im_types.specs.declared.refusals.Refusal.{Refusal}
-use Rattle.im_types.specs.declared.refusals.Refusal.TheVariants as refusal
+use Rattle.std.specs.Prelude.{◌≡◌, ℕ, ◌+◌, Bool, true, false, List, ◌∷◌, ◌++◌, length, Some, None, Option}
+use Rattle.im_types.specs.Types.{Refusal}
+use Rattle.im_script.specs.declared.faults.LineFault.{LineFault, TheVariants.TooLong}
 use Rattle.im_script.specs.declared.faults.ScriptFault.{ScriptFault}
-use Rattle.im_script.specs.declared.faults.ScriptFault.TheVariants.{NoMemory, TooLarge, BadLine}
-use Rattle.im_script.specs.declared.reading.TextFault.{TextFault}
-use Rattle.im_script.specs.declared.reading.TextFault.TheVariants.{Bad, Unread}
-use Rattle.im_script.specs.declared.faults.LineFault.{LineFault}
-use Rattle.im_script.specs.declared.faults.LineFault.TheVariants.{TooLong}
+use Rattle.im_script.specs.declared.faults.ScriptFault.TheVariants.{BadLine, NoMemory, TooLarge}
+use Rattle.im_script.specs.declared.reading.TextFault.{TextFault, TheVariants.Bad, TheVariants.Unread}
 use Rattle.im_script.specs.Script.{Draft, heard, lines_after, lines_of, new_draft}
+use Rattle.im_types.specs.declared.refusals.Refusal.TheVariants as refusal
 
 -- the number of the line that a fault names, from 1
 abbrev pub bad_line : ScriptFault → Option ℕ

@@ -1,16 +1,12 @@
 -- The words of a script, as functions from the bytes to what they say. (Own.)
-use Rattle.std.specs.Prelude.{ℕ, ◌+◌, ◌-◌, ◌*◌, ◌^◌, ◌==◌, ◌&&◌, ◌||◌, Bool, not, nat_le, nat_lt, List, [], ◌∷◌}
-use Rattle.std.specs.Prelude.{length, map, drop, Option, Some, None, if◌then◌else◌, codes, slice_index_or}
-use Rattle.std.specs.Borrow.{Bor}
+use Rattle.std.specs.Prelude.{ℕ, ◌+◌, ◌-◌, ◌*◌, ◌^◌, Bool, not, ◌&&◌, ◌||◌, List, [], ◌∷◌, map, length, drop}
+use Rattle.std.specs.Prelude.{if◌then◌else◌, nat_lt, nat_le, ◌==◌, slice_index_or, Some, None, codes, bytes_eq, filter}
+use Rattle.std.specs.Prelude.{position, Option, option_map, option_and_then}
+use Rattle.std.specs.{Borrow.Bor, Option.option_or, Str.all_ascii_digits, Str.Parse.digits_value}
 use Rattle.std.specs.Char.{is_ascii, is_ascii_digit, is_ascii_lowercase}
-use Rattle.std.specs.List.{filter, list_all, slice_split, before_first, position, position_or_len}
-use Rattle.std.specs.Option.{option_map, option_and_then, option_or}
-use Rattle.std.specs.Str.{bytes_eq, all_ascii_digits}
-use Rattle.std.specs.Str.Parse.{digits_value}
-use Rattle.im_types.specs.declared.operations.Kind.{Kind}
-use Rattle.im_types.specs.declared.operations.Kind.TheVariants.{I, M}
-use Rattle.im_script.specs.declared.places.Place.{Place}
-use Rattle.im_script.specs.declared.places.Place.TheVariants.{Address, Named}
+use Rattle.std.specs.List.{before_first, list_all, position_or_len, slice_split}
+use Rattle.im_types.specs.Types.{Kind, I, M}
+use Rattle.im_script.specs.declared.places.Place.{Place, TheVariants.Address, TheVariants.Named}
 
 -- ---- lines and words
 

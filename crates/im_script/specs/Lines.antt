@@ -1,14 +1,9 @@
 -- What a line of a script says, by its words. (Own.)
-use Rattle.std.specs.Prelude.{ℕ, ◌&&◌, Bool, false, not, List, [], ◌∷◌, Option, Some, None, is_some, if◌then◌else◌}
-use Rattle.std.specs.Prelude.{codes}
-use Rattle.std.specs.List.{position}
-use Rattle.std.specs.Option.{option_map, option_and_then}
-use Rattle.std.specs.Str.{bytes_eq}
-use Rattle.im_script.specs.declared.places.Place.{Place}
-use Rattle.im_script.specs.declared.places.Action.{Action}
-use Rattle.im_script.specs.declared.places.Action.TheVariants.{Alloc, Release, Reset, Fetch, Store, Take, Put}
-use Rattle.im_script.specs.declared.script.Allocation.{Allocation}
-use Rattle.im_script.specs.Grammar.{number_up_to, word_kind, is_name, word_place}
+use Rattle.std.specs.Prelude.{ℕ, Bool, false, not, ◌&&◌, List, [], ◌∷◌, is_some, if◌then◌else◌, Some, None, codes}
+use Rattle.std.specs.Prelude.{bytes_eq, position, Option, option_map, option_and_then}
+use Rattle.im_script.specs.declared.{places.Action.Action, places.Place.Place, script.Allocation.Allocation}
+use Rattle.im_script.specs.declared.places.Action.TheVariants.{Alloc, Fetch, Put, Release, Reset, Store, Take}
+use Rattle.im_script.specs.Grammar.{is_name, number_up_to, word_kind, word_place}
 
 -- KIND LEN
 abbrev pub block_of : List ℕ → List ℕ → Option Allocation

@@ -1,12 +1,11 @@
 -- The address of a place and the operation of an action, once the setup's bases are known. (Own.)
-use Rattle.std.specs.Prelude.{ℕ, ◌+◌, ◌^◌, nat_lt, List, Option, Some, None, slice_get, if◌then◌else◌}
-use Rattle.std.specs.Option.{option_map, option_and_then}
-use Rattle.im_types.specs.declared.operations.Op.{Op}
-use Rattle.im_types.specs.declared.operations.Op.TheVariants as op
-use Rattle.im_script.specs.declared.places.Place.{Place}
-use Rattle.im_script.specs.declared.places.Place.TheVariants.{Address, Named}
+use Rattle.std.specs.Prelude.{ℕ, ◌+◌, ◌^◌, List, if◌then◌else◌, nat_lt, slice_get, Some, None, Option, option_map}
+use Rattle.std.specs.Prelude.{option_and_then}
+use Rattle.im_types.specs.Types.{Op}
 use Rattle.im_script.specs.declared.places.Action.{Action}
-use Rattle.im_script.specs.declared.places.Action.TheVariants.{Alloc, Release, Fetch, Store, Take, Put, Reset}
+use Rattle.im_script.specs.declared.places.Action.TheVariants.{Alloc, Fetch, Put, Release, Reset, Store, Take}
+use Rattle.im_script.specs.declared.places.Place.{Place, TheVariants.Address, TheVariants.Named}
+use Rattle.im_types.specs.declared.operations.Op.TheVariants as op
 
 -- n, if it fits in a u32
 abbrev pub as_u32 : ℕ → Option ℕ

@@ -1,18 +1,13 @@
 -- The grammar of scripts: what a text says, line by line. (Own.)
-use Rattle.std.specs.Prelude.{⊤, ◌≡◌, ℕ, ◌==◌, Bool, nat_le, List, [], ◌∷◌, ◌++◌, length, Option, Some, None, Result}
-use Rattle.std.specs.Prelude.{Ok, Err, if◌then◌else◌, slice_index_or}
-use Rattle.std.specs.List.{slice_split}
-use Rattle.std.specs.Option.{option_map, option_and_then, option_map_or, option_or}
-use Rattle.im_types.specs.declared.refusals.Refusal.{Refusal}
-use Rattle.im_types.specs.declared.refusals.Refusal.TheVariants.{BadScript, NoMemory}
-use Rattle.im_script.specs.declared.script.Said.{Said}
-use Rattle.im_script.specs.declared.script.Said.TheVariants.{Nothing, Block, Begins, Asks}
-use Rattle.im_script.specs.declared.script.Heard.{Heard}
-use Rattle.im_script.specs.declared.script.Heard.TheVariants.{Says, Glances}
-use Rattle.im_script.specs.declared.reader.Reader.{Reader}
-use Rattle.im_script.specs.declared.script.Stage.{Stage}
-use Rattle.im_script.specs.declared.script.Stage.TheVariants.{Start, Setup, Part}
-use Rattle.im_script.specs.Grammar.{is_line, texts, words_of, number_up_to}
+use Rattle.std.specs.Prelude.{◌≡◌, ℕ, Bool, List, [], ◌∷◌, ◌++◌, length, if◌then◌else◌, nat_le, ◌==◌, slice_index_or, ⊤}
+use Rattle.std.specs.Prelude.{Some, None, Ok, Err, Option, Result, option_map, option_and_then}
+use Rattle.std.specs.{List.slice_split, Option.option_map_or, Option.option_or}
+use Rattle.im_types.specs.Types.{Refusal, NoMemory, BadScript}
+use Rattle.im_script.specs.declared.{reader.Reader.Reader, script.Said.Said}
+use Rattle.im_script.specs.declared.script.Heard.{Heard, TheVariants.Glances, TheVariants.Says}
+use Rattle.im_script.specs.declared.script.Said.TheVariants.{Asks, Begins, Block, Nothing}
+use Rattle.im_script.specs.declared.script.Stage.{Stage, TheVariants.Part, TheVariants.Setup, TheVariants.Start}
+use Rattle.im_script.specs.Grammar.{is_line, number_up_to, texts, words_of}
 use Rattle.im_script.specs.Lines.{action_of, glanced, named_block, part_number, starts_setup}
 
 -- where the next line stands, and the names that the setup has given

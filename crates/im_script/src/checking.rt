@@ -1,9 +1,9 @@
 //! Reads a whole text that has to be a script. The program does so before anything of the script is served.
-ghost use Rattle.std.specs.Prelude.{◌≡◌, ◌⊎◌, ◌↔◌, ◌<◌, ◌∷◌, [], None, IfOk, IfErr, IfSome, IsSome, OnOk};
-ghost use Rattle.std.specs.Prelude.{Err, false, length, true};
+ghost use Rattle.std.specs.Prelude.{◌≡◌, ◌<◌, true, false, ◌⊎◌, ◌↔◌, [], ◌∷◌, length, IfSome, IfOk, IfErr, OnOk};
+ghost use Rattle.std.specs.Prelude.{IsSome, None, Err};
 ghost use Rattle.std.specs.Option.{option_map_or};
 ghost use Rattle.im_script.specs.declared.faults.ScriptFault.TheVariants.{NoMemory, TooLarge};
-ghost use Rattle.im_script.specs.Faults.{IsFirstBadLine, is_of_size, bad_line};
+ghost use Rattle.im_script.specs.Faults.{bad_line, is_of_size, IsFirstBadLine};
 ghost use Rattle.im_script.specs.Script.{is_few, lines_of, script_of};
 
 use crate::MAX_SCRIPT;

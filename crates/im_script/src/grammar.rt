@@ -1,13 +1,11 @@
 //! Splits a line into words, and reads single words.
-ghost use Rattle.std.specs.Prelude.{◌≡◌, ◌≢◌, ◌==◌, ◌≤◌, ◌<◌, ◌++◌, ℕ, List, [], IfOk, IfSome, MatchOption, true};
-ghost use Rattle.std.specs.Prelude.{codes, drop, false, is_some, length, take};
-ghost use Rattle.std.specs.List.{before_first, list_all, list_any, position, position_or_len};
-ghost use Rattle.std.specs.Char.{is_ascii};
-ghost use Rattle.std.specs.Option.{option_and_then, option_map, option_map_or};
-ghost use Rattle.std.specs.Str.{bytes_eq};
-ghost use Rattle.im_script.specs.Grammar.{digit_after, is_line, is_name, is_name_byte, word_kind, number_up_to};
-ghost use Rattle.im_script.specs.Grammar.{is_short, offset_of};
-ghost use Rattle.im_script.specs.Grammar.{word_place, place_past, texts, words_of};
+ghost use Rattle.std.specs.Prelude.{◌≡◌, ℕ, ◌<◌, ◌≤◌, true, false, ◌≢◌, List, [], ◌++◌, length, take, drop, is_some};
+ghost use Rattle.std.specs.Prelude.{IfSome, IfOk, ◌==◌, MatchOption, codes, bytes_eq, position, option_map};
+ghost use Rattle.std.specs.Prelude.{option_and_then};
+ghost use Rattle.std.specs.{Char.is_ascii, Option.option_map_or};
+ghost use Rattle.std.specs.List.{before_first, list_all, list_any, position_or_len};
+ghost use Rattle.im_script.specs.Grammar.{digit_after, is_line, is_name, is_name_byte, is_short, number_up_to};
+ghost use Rattle.im_script.specs.Grammar.{offset_of, place_past, texts, word_kind, word_place, words_of};
 ghost use Rattle.im_script.specs.Words.{words_past};
 
 use crate::places::Place;

@@ -1,8 +1,6 @@
 //! Reads a line from its words.
-ghost use Rattle.std.specs.Prelude.{◌≡◌, false, IfSome};
+ghost use Rattle.std.specs.Prelude.{◌≡◌, false, IfSome, bytes_eq, option_map};
 ghost use Rattle.std.specs.List.{list_any};
-ghost use Rattle.std.specs.Option.{option_map};
-ghost use Rattle.std.specs.Str.{bytes_eq};
 ghost use Rattle.im_script.specs.Grammar.{texts};
 ghost use Rattle.im_script.specs.Lines.{action_of, action_past, block_of, glanced, named_block, part_number};
 ghost use Rattle.im_script.specs.Lines.{plain_action, starts_setup, valued_action};

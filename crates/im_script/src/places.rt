@@ -1,6 +1,6 @@
 //! Where the requests of a script act.
 ghost use Rattle.std.specs.Prelude.{◌≡◌};
-ghost use Rattle.im_script.specs.Places.{place_address, action_op};
+ghost use Rattle.im_script.specs.Places.{action_op, place_address};
 
 use im_types::{Kind, Op};
 

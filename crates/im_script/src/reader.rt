@@ -1,7 +1,6 @@
 //! Reads the lines of a script, one after another. The check of a whole text reads so, and whoever serves a script.
-ghost use Rattle.std.specs.Prelude.{◌≡◌, Some, None, IfErr, IfOk, IfSome, false, not, true};
-ghost use Rattle.im_script.specs.Faults.{is_of_size, bad_line, tells_length};
-ghost use Rattle.im_script.specs.Grammar.{is_short};
+ghost use Rattle.std.specs.Prelude.{◌≡◌, true, false, not, IfSome, IfOk, IfErr, Some, None};
+ghost use Rattle.im_script.specs.{Faults.bad_line, Faults.is_of_size, Faults.tells_length, Grammar.is_short};
 
 use crate::MAX_LINE;
 use crate::explaining::explain;
@@ -24,11 +23,10 @@ pub struct Reader<'a> {
 }
 
 impl<'a> Reader<'a> {
-    ghost use Rattle.im_script.specs.Grammar.{texts};
-    ghost use Rattle.im_script.specs.declared.script.Heard.TheVariants.{Says};
-    ghost use Rattle.std.specs.Option.{option_map};
-    ghost use Rattle.im_script.specs.Script.{SaysAs, HearsAs, requested, begun_part, begun_setup, line_says, draft_of};
-    ghost use Rattle.im_script.specs.Script.{glance_at, heard, heard_in, line_after, named, new_draft, words_after};
+    ghost use Rattle.std.specs.Prelude.{option_map};
+    ghost use Rattle.im_script.specs.{declared.script.Heard.TheVariants.Says, Grammar.texts};
+    ghost use Rattle.im_script.specs.Script.{begun_part, begun_setup, draft_of, glance_at, heard, heard_in, HearsAs};
+    ghost use Rattle.im_script.specs.Script.{line_after, line_says, named, new_draft, requested, SaysAs, words_after};
 
     /// Makes a reader that has read nothing.
     pub fn new(alloc: Global) -> Reader<'a>

@@ -1,5 +1,5 @@
 //! Reads the text of a script.
-ghost use Rattle.std.specs.Prelude.{◌≡◌, ◌≤◌, ◌<◌, [], IfErr, IfOk, IfSome, OnOk, false, length, take, true};
+ghost use Rattle.std.specs.Prelude.{◌≡◌, ◌<◌, ◌≤◌, true, false, [], length, take, IfSome, IfOk, IfErr, OnOk};
 ghost use Rattle.im_script.specs.Faults.{is_too_large};
 
 use crate::MAX_SCRIPT;

@@ -1,6 +1,6 @@
 //! What a script and its lines are. Who serves a script reads its lines by a [`crate::Reader`], and learns by these
 //! types what each of them says.
-ghost use Rattle.std.specs.Prelude.{◌≡◌, List, ℕ};
+ghost use Rattle.std.specs.Prelude.{◌≡◌, ℕ, List};
 
 use crate::places::{Action, Place};
 use im_types::Kind;

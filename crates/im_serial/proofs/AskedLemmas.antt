@@ -1,23 +1,13 @@
 -- A script's requests, one after another. (Own.)
-use Rattle.std.proofs.Common.{◌≡◌, ◌∙◌, inl, inr, ℕ, List, [], ◌∷◌, ◌++◌, refl, sym, ap, ap₂, subst}
-use Rattle.std.proofs.Common.{append_assoc, append-nil}
-use Rattle.std.specs.Prelude.{Option, Some, None, Ok, slice_get}
-use Rattle.std.specs.Option.{option_map, option_and_then, option_map_or}
-use Rattle.im_types.specs.declared.commands.Command.{Command}
-use Rattle.im_types.specs.declared.commands.Command.TheVariants.{Request as Asks, Confirm}
-use Rattle.im_types.specs.declared.commands.Request.{Request}
-use Rattle.im_types.specs.declared.operations.Op.{Op}
-use Rattle.im_types.specs.Contents.{Contents, Window}
-use Rattle.im_types.specs.Window.{bounds, next_number}
-use Rattle.im_types.specs.Step.{step}
-use Rattle.im_types.specs.Run.{after}
-use Rattle.im_laws.proofs.RunLemmas.{after-append}
-use Rattle.im_script.specs.declared.script.Said.{Said}
-use Rattle.im_script.specs.Places.{action_op}
-use Rattle.im_script.specs.Script.{Draft}
-use Rattle.im_text.proofs.WindowLemmas.{bounds_found}
-use Rattle.im_serial.specs.Asked.{Course, HasNamed, HasReached, Leads, LeadsIf, NamesIf, Standing, Wanted}
-use Rattle.im_serial.specs.Asked.{bases_after, bases_by, request_in, said_at, standing, wanted_by, wanted_in}
+use Rattle.std.proofs.Common.{◌≡◌, ℕ, List, [], ◌∷◌, ◌++◌, slice_get, Some, None, Ok, Option, option_map}
+use Rattle.std.proofs.Common.{option_and_then, sym, refl, ap, ◌∙◌, subst, ap₂, inl, inr, append_assoc, append-nil}
+use Rattle.std.specs.Option.{option_map_or}
+use Rattle.im_types.specs.Types.{Op, Request, Command, Asks, Confirm, Window, Contents, next_number, bounds, step}
+use Rattle.im_types.specs.Types.{after}
+use Rattle.{im_laws.proofs.RunLemmas.after-append, im_text.proofs.WindowLemmas.bounds_found}
+use Rattle.im_script.specs.{declared.Said.Said, Places.action_op, Script.Draft}
+use Rattle.im_serial.specs.Asked.{bases_after, bases_by, Course, HasNamed, HasReached, Leads, LeadsIf, NamesIf}
+use Rattle.im_serial.specs.Asked.{request_in, said_at, Standing, standing, Wanted, wanted_by, wanted_in}
 
 -- ---- one request
 

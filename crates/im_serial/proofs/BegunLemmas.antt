@@ -1,60 +1,30 @@
 -- A run of a script that goes on from what a stopped run left is, with it, one run. (Own.)
-use Rattle.std.proofs.Common.{◌≡◌, ◌⊎◌, ◌∙◌, inl, inr, ⊎_elim, ℕ, ◌+◌, ◌-◌, ◌≤◌, zero, suc, Bool, true, false}
-use Rattle.std.proofs.Common.{List, [], ◌∷◌, ◌++◌, length, replicate, take, Some}
-use Rattle.std.proofs.Common.{None, Ok, Err, refl, sym, ap, ap₂, cond}
-use Rattle.std.proofs.Common.{append_assoc, append-nil, arith, subst}
-use Rattle.std.specs.Prelude.{Option, Result, ◌&&◌, slice_get, if◌then◌else◌}
-use Rattle.std.specs.Option.{option_map, option_map_or, option_and_then}
-use Rattle.std.proofs.lemmas.Bool.{cases_eq}
-use Rattle.im_types.specs.declared.commands.Command.{Command}
-use Rattle.im_types.specs.declared.commands.Command.TheVariants.{Request as Asks, Confirm}
-use Rattle.im_types.specs.declared.commands.Judged.{Judged}
-use Rattle.im_types.specs.declared.commands.Judged.TheVariants.{Fresh}
-use Rattle.im_types.specs.declared.commands.Outcome.{Outcome}
-use Rattle.im_types.specs.declared.commands.Outcome.TheVariants.{Entry as Tells}
-use Rattle.im_types.specs.declared.commands.Request.{Request}
-use Rattle.im_types.specs.declared.operations.Entry.{Entry}
-use Rattle.im_types.specs.declared.operations.Entry.TheVariants.{Answered}
-use Rattle.im_types.specs.declared.operations.Kept.{Kept}
-use Rattle.im_types.specs.declared.operations.Op.{Op}
-use Rattle.im_types.specs.declared.operations.Op.TheVariants as op
-use Rattle.im_types.specs.declared.operations.Reply.TheVariants.{Base}
-use Rattle.im_types.specs.declared.operations.Waiter.{Waiter}
-use Rattle.im_types.specs.declared.refusals.Refusal.{Refusal}
-use Rattle.im_types.specs.declared.sizes.Limits.{Limits}
-use Rattle.im_types.specs.Act.{act, allocate}
-use Rattle.im_types.specs.Contents.{Contents, Held, Window, empty_contents, kept_for, new_window}
-use Rattle.im_types.specs.Meaning.{accept_each}
-use Rattle.im_types.specs.Memory.{IsMemory}
-use Rattle.im_types.specs.Run.{after}
-use Rattle.im_types.specs.Step.{asker, is_accepted, step, step_request}
-use Rattle.im_types.specs.Window.{answer_each, bounds, bounds_of, judge, next_number, note}
-use Rattle.im_engine.proofs.Keeping.{accept_both}
-use Rattle.im_laws.specs.Windows.{TakesNextNumber}
+use Rattle.std.proofs.Common.{◌≡◌, ℕ, zero, suc, ◌+◌, ◌-◌, ◌≤◌, Bool, true, false, cond, ◌&&◌, ◌⊎◌, List, [], ◌∷◌, ◌++◌}
+use Rattle.std.proofs.Common.{length, take, replicate, if◌then◌else◌, slice_get, Some, None, Ok, Err, Option, Result}
+use Rattle.std.proofs.Common.{option_map, option_and_then, sym, refl, ap, ◌∙◌, subst, ap₂, inl, inr, ⊎_elim}
+use Rattle.std.proofs.Common.{append_assoc, append-nil, arith}
+use Rattle.std.{proofs.lemmas.Bool.cases_eq, specs.Option.option_map_or}
+use Rattle.im_types.specs.Types.{Entry, Op, Waiter, Kept, Answered, Base, Request, Command, Outcome, Judged, Asks}
+use Rattle.im_types.specs.Types.{Confirm, Tells, Fresh, Refusal, Limits, Held, Window, Contents, new_window, kept_for}
+use Rattle.im_types.specs.Types.{empty_contents, IsMemory, allocate, act, next_number, judge, note, answer_each}
+use Rattle.im_types.specs.Types.{bounds_of, bounds, asker, step_request, step, is_accepted, after, accept_each}
 use Rattle.im_laws.proofs.AcceptLemmas.{accepted-fresh, accepted-moves_base, accepted-takes_next}
-use Rattle.im_laws.proofs.AgreementLemmas.{same_waiter-self}
-use Rattle.im_laws.proofs.JudgeLemmas.{confirm-cells}
+use Rattle.im_laws.proofs.{AgreementLemmas.same_waiter-self, JudgeLemmas.confirm-cells, RunLemmas.after-append}
+use Rattle.im_laws.proofs.{StepLemmas.judge-fresh, Tests.some_none, Tests.some_same, WindowLemmas.kept_for-note}
 use Rattle.im_laws.proofs.MemoryLemmas.{after-memory, bounds-window, empty-memory}
-use Rattle.im_laws.proofs.RunLemmas.{after-append}
-use Rattle.im_laws.proofs.StepLemmas.{judge-fresh}
-use Rattle.im_laws.proofs.Tests.{some_none, some_same}
-use Rattle.im_laws.proofs.WindowLemmas.{kept_for-note}
-use Rattle.im_script.specs.declared.places.Action.{Action}
-use Rattle.im_script.specs.Places.{action_op}
-use Rattle.im_serial.specs.Asked.{HasReached, IsAsked, Leads, Wanted, base_told, bases_after, bases_by}
-use Rattle.im_serial.specs.Asked.{request_in}
-use Rattle.im_serial.specs.Asked.{standing, whole_course}
-use Rattle.im_serial.specs.Had.{end_with, left_of, length_asked, met, next_had, numbers_had, sums_of}
-use Rattle.im_serial.specs.Once.{IsAskedOnce}
-use Rattle.im_serial.specs.Had.{bases_had, news}
-use Rattle.im_serial.specs.Once.{AreMade, HasMade, IsMade, met_of}
-use Rattle.im_serial.specs.declared.meeting.Met.TheVariants as met_as
-use Rattle.im_serial.specs.Begun.{HasComeTo, HasGoneOn, new_memory}
+use Rattle.{im_laws.specs.Windows.TakesNextNumber, im_engine.proofs.Keeping.accept_both}
+use Rattle.im_script.specs.{declared.Action.Action, Places.action_op}
 use Rattle.im_serial.proofs.AskedLemmas.{stands_asked, stands_confirmed, stands_first}
-use Rattle.im_serial.proofs.LeftLemmas.{AreLeft, bases_left, count_more, count_same, end-append, end_of}
-use Rattle.im_serial.proofs.LeftLemmas.{first_had, had_at, news_left, others_left, sums-append}
-use Rattle.im_serial.proofs.SetupLemmas.{ArePacked, AreUnnamed, HasSetup, IsBlock, allocated, allocated_alone}
-use Rattle.im_serial.proofs.SetupLemmas.{free_all}
+use Rattle.im_serial.proofs.LeftLemmas.{AreLeft, bases_left, count_more, count_same, end-append, end_of, first_had}
+use Rattle.im_serial.proofs.LeftLemmas.{had_at, news_left, others_left, sums-append}
+use Rattle.im_serial.proofs.SetupLemmas.{allocated, allocated_alone, ArePacked, AreUnnamed, free_all, HasSetup, IsBlock}
+use Rattle.im_serial.specs.Asked.{base_told, bases_after, bases_by, HasReached, IsAsked, Leads, request_in, standing}
+use Rattle.im_serial.specs.Asked.{Wanted, whole_course}
+use Rattle.im_serial.specs.Begun.{HasComeTo, HasGoneOn, new_memory}
+use Rattle.im_serial.specs.Had.{bases_had, end_with, left_of, length_asked, met, news, next_had, numbers_had, sums_of}
+use Rattle.im_serial.specs.Once.{AreMade, HasMade, IsAskedOnce, IsMade, met_of}
+use Rattle.im_types.specs.declared.operations.Op.TheVariants as op
+use Rattle.im_serial.specs.declared.meeting.Met.TheVariants as met_as
 
 -- ---- lists of accepted commands
 

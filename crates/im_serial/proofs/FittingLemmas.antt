@@ -1,21 +1,13 @@
 -- A script is compared with what a memory has of it. (Own.)
-use Rattle.std.proofs.Common.{◌≡◌, ◌∙◌, ℕ, ◌<◌, ◌≤◌}
-use Rattle.std.proofs.Common.{true, false, List, [], ◌∷◌, ◌++◌, length, sym}
-use Rattle.std.proofs.Common.{Some, None, ap, append-nil, append_assoc, subst}
-use Rattle.std.specs.Borrow.{Bor}
-use Rattle.std.specs.Prelude.{Option, slice_get}
+use Rattle.std.proofs.Common.{◌≡◌, ℕ, ◌<◌, ◌≤◌, true, false, List, [], ◌∷◌, ◌++◌, length, slice_get, Some, None, Option}
+use Rattle.std.proofs.Common.{sym, ap, ◌∙◌, subst, append_assoc, append-nil, Bor}
 use Rattle.std.specs.Option.{option_map_or}
-use Rattle.im_types.specs.declared.refusals.Refusal.TheVariants.{Mismatch}
-use Rattle.im_types.specs.Contents.{Contents, Window}
-use Rattle.im_script.specs.declared.script.Said.{Said}
-use Rattle.im_script.specs.Script.{Draft, lines_of}
-use Rattle.im_text.specs.declared.reasons.Reason.{Reason}
-use Rattle.im_text.specs.declared.reasons.Reason.TheVariants.{Request}
-use Rattle.im_serial.specs.Asked.{Wanted, said_at, wanted_by, wanted_in}
-use Rattle.im_serial.specs.Fitting.{Compared}
-use Rattle.im_serial.specs.Fitting.{fits_from}
-use Rattle.im_serial.specs.Had.{left_of, met_all}
+use Rattle.im_types.specs.Types.{Mismatch, Window, Contents}
+use Rattle.im_script.specs.{declared.Said.Said, Script.Draft, Script.lines_of}
+use Rattle.im_text.specs.declared.Reason.{Reason, TheVariants.Request}
 use Rattle.im_serial.proofs.OnceLemmas.{line_wanted}
+use Rattle.im_serial.specs.Asked.{said_at, Wanted, wanted_by, wanted_in}
+use Rattle.im_serial.specs.{Fitting.Compared, Fitting.fits_from, Had.left_of, Had.met_all}
 
 -- ---- lines
 

@@ -1,26 +1,17 @@
 -- What runs of a script leave, whatever stopped them. (Own.)
-use Rattle.std.proofs.Common.{◌≡◌, ◌⊎◌, ◌∙◌, inl, inr, ⊎_elim, ℕ, ◌+◌, false}
-use Rattle.std.proofs.Common.{List, [], ◌++◌, length, refl, sym, ap, subst}
-use Rattle.std.proofs.Common.{arith, length-append}
-use Rattle.std.specs.Prelude.{Option, Some}
-use Rattle.std.proofs.lemmas.List.{append-nil}
-use Rattle.im_types.specs.declared.commands.Command.{Command}
-use Rattle.im_types.specs.declared.sizes.Limits.{Limits}
-use Rattle.im_types.specs.Meaning.{Means, accept_each}
-use Rattle.im_types.specs.Run.{after}
-use Rattle.im_disk.specs.declared.disk.Disk.{Ghosts}
-use Rattle.im_disk.specs.Moment.{Left, Moment, Outside}
-use Rattle.im_disk.specs.Since.{LeavesNow, LeavesOnly}
+use Rattle.std.proofs.Common.{◌≡◌, ℕ, ◌+◌, false, ◌⊎◌, List, [], ◌++◌, length, Some, Option, sym, refl, ap, ◌∙◌, subst}
+use Rattle.std.proofs.Common.{inl, inr, ⊎_elim, append-nil, arith, length-append}
+use Rattle.im_types.specs.Types.{Command, Limits, after, accept_each, Means}
 use Rattle.im_disk.proofs.SinceLemmas.{leaves_now, leaves_weaker}
-use Rattle.im_session.specs.Kept.{Kept, MeansPut, SessionState}
+use Rattle.im_disk.specs.{declared.Disk.Ghosts, Moment.Left, Moment.Moment, Moment.Outside}
+use Rattle.im_disk.specs.Since.{LeavesNow, LeavesOnly}
 use Rattle.im_session.proofs.AcceptedLemmas.{each_accepted}
-use Rattle.im_session.proofs.CarryLemmas.{BeganWith, began_with, carried}
-use Rattle.im_serial.specs.Asked.{Wanted, wanted_of}
-use Rattle.im_serial.specs.Begun.{HasComeTo, HasGoneOn, KeepsBegun, new_memory, HasDone}
-use Rattle.im_serial.specs.Once.{HasMade, IsAskedOnce, SerialOnceOn}
+use Rattle.im_session.proofs.CarryLemmas.{began_with, BeganWith, carried}
+use Rattle.im_session.specs.{Carrying.LedBy, Kept.Kept, Kept.MeansPut, Kept.SessionState}
 use Rattle.im_serial.proofs.BegunLemmas.{all_accepted, all_asked, begun_on, gone_on}
 use Rattle.im_serial.proofs.SetupLemmas.{setup_first}
-use Rattle.im_session.specs.Carrying.{LedBy}
+use Rattle.im_serial.specs.{Asked.Wanted, Asked.wanted_of, Once.HasMade, Once.IsAskedOnce, Once.SerialOnceOn}
+use Rattle.im_serial.specs.Begun.{HasComeTo, HasDone, HasGoneOn, KeepsBegun, new_memory}
 
 module _ {D : Type 0} (disk : Ghosts D) (limits : Limits) (text : List ℕ) (s : SessionState D) (status : ℕ)
     (kept : Kept disk s) (h : disk.honest s.engine.disk)

@@ -1,14 +1,9 @@
 -- How many of each element's requests are left, and what is new of a script whose first requests were put. (Own.)
-use Rattle.std.proofs.Common.{◌≡◌, ◌∙◌, ⊎_elim, ℕ, ◌+◌, ◌-◌, ◌<◌, ◌≤◌, zero, suc, Bool, true, false}
-use Rattle.std.proofs.Common.{List, [], ◌∷◌, ◌++◌, length, map, set, get_or, refl, sym, ap, append_assoc, arith, subst}
-use Rattle.std.specs.Prelude.{◌==◌, ◌&&◌, nat_lt, slice_get, if◌then◌else◌}
-use Rattle.std.specs.Option.{option_map_or}
-use Rattle.std.proofs.lemmas.Bool.{cases_eq}
-use Rattle.std.proofs.lemmas.Bool.Decides.{nat_tests}
-use Rattle.std.proofs.lemmas.List.{get_or-set_same, get_or-set_other}
-use Rattle.im_types.specs.Contents.{Window}
-use Rattle.im_types.specs.Window.{next_number}
-use Rattle.im_laws.proofs.GroupLemmas.{above_zero}
+use Rattle.std.proofs.Common.{◌≡◌, ℕ, zero, suc, ◌+◌, ◌-◌, ◌<◌, ◌≤◌, Bool, true, false, ◌&&◌, List, [], ◌∷◌, ◌++◌, map}
+use Rattle.std.proofs.Common.{length, get_or, set, if◌then◌else◌, nat_lt, ◌==◌, slice_get, sym, refl, ap, ◌∙◌, subst}
+use Rattle.std.proofs.Common.{⊎_elim, append_assoc, arith, get_or-set_other, get_or-set_same}
+use Rattle.std.{proofs.lemmas.Bool.cases_eq, proofs.lemmas.Bool.Decides.nat_tests, specs.Option.option_map_or}
+use Rattle.{im_types.specs.Types.Window, im_types.specs.Types.next_number, im_laws.proofs.GroupLemmas.above_zero}
 use Rattle.im_serial.specs.Asked.{Wanted}
 use Rattle.im_serial.specs.Had.{bases_had, end_with, has_next, left_of, length_asked, met, news, sums_of}
 

@@ -1,45 +1,22 @@
 -- What is noted of the requests that had to wait. (Own.)
-use Rattle.std.proofs.Common.{◌≡◌, ◌⊎◌, ◌∙◌, inl, inr, ⊎_elim, ℕ, zero, suc, ◌+◌, ◌-◌, ◌*◌, ◌<◌, ◌≤◌, Bool, true}
-use Rattle.std.proofs.Common.{false, cond, List, [], ◌∷◌, ◌++◌, length, map, set, get_or, take, drop, Some, None, Ok}
-use Rattle.std.proofs.Common.{refl, sym, ap, ap₂, subst, eq-eqb, arith}
-use Rattle.std.specs.Prelude.{Option, ◌==◌, ◌&&◌, ◌%◌, nat_lt, slice_get, if◌then◌else◌}
-use Rattle.std.specs.Option.{option_map}
-use Rattle.std.proofs.lemmas.Bool.Decides.{nat_tests}
-use Rattle.std.proofs.lemmas.Bool.{ne_eqb}
-use Rattle.std.proofs.lemmas.List.{length-map, map-append}
-use Rattle.std.proofs.lemmas.Option.{same_Some, slice_get_past, slice_get_within, slice_get-get_or}
-use Rattle.im_types.specs.declared.commands.Command.{Command}
-use Rattle.im_types.specs.declared.commands.Command.TheVariants.{Request as Asks, Confirm}
-use Rattle.im_types.specs.declared.commands.Request.{Request}
-use Rattle.im_types.specs.declared.commands.Outcome.TheVariants.{Entry as Tells, Confirmed}
-use Rattle.im_types.specs.declared.operations.Entry.{Entry}
-use Rattle.im_types.specs.declared.operations.Entry.TheVariants.{Waiting, Answered}
-use Rattle.im_types.specs.declared.operations.Kept.{Kept}
-use Rattle.im_types.specs.declared.operations.Waiter.{Waiter}
-use Rattle.im_types.specs.Agreement.{StaysOrIsAnswered, WaitingAgrees, drops}
-use Rattle.im_types.specs.Contents.{Contents, Window, kept_for}
-use Rattle.im_types.specs.History.{last_entry, last_kept, latest}
-use Rattle.im_types.specs.Memory.{IsWindow}
-use Rattle.im_types.specs.Run.{after}
-use Rattle.im_types.specs.Step.{asker, step}
-use Rattle.im_types.specs.Window.{bounds}
-use Rattle.im_laws.specs.Windows.{IsForgotten}
-use Rattle.im_laws.proofs.EntryLemmas.{step-lasts, told-kept}
-use Rattle.im_laws.proofs.ForgetLemmas.{after-forgotten}
-use Rattle.im_laws.proofs.JudgeLemmas.{kept_for-confirmed}
-use Rattle.im_laws.proofs.RunAgrees.{step-keeps}
-use Rattle.im_laws.proofs.RunLemmas.{after-append}
-use Rattle.im_laws.proofs.StepLemmas.{slice_get-end}
-use Rattle.im_laws.proofs.Tests.{and_both, eq_by_test}
+use Rattle.std.proofs.Common.{◌≡◌, ℕ, zero, suc, ◌+◌, ◌-◌, ◌*◌, ◌%◌, ◌<◌, ◌≤◌, Bool, true, false, cond, ◌&&◌, ◌⊎◌, List}
+use Rattle.std.proofs.Common.{[], ◌∷◌, ◌++◌, map, length, get_or, take, drop, set, if◌then◌else◌, nat_lt, ◌==◌}
+use Rattle.std.proofs.Common.{slice_get, Some, None, Ok, Option, option_map, sym, refl, ap, ◌∙◌, subst, ap₂, inl, inr}
+use Rattle.std.proofs.Common.{⊎_elim, arith, eq-eqb, ne_eqb}
+use Rattle.std.proofs.lemmas.{Bool.Decides.nat_tests, List.length-map, List.map-append}
+use Rattle.std.proofs.lemmas.Option.{same_Some, slice_get-get_or, slice_get_past, slice_get_within}
+use Rattle.im_types.specs.Types.{Entry, Waiter, Kept, Waiting, Answered, Request, Command, Asks, Confirm, Tells}
+use Rattle.im_types.specs.Types.{Confirmed, Window, Contents, kept_for, IsWindow, WaitingAgrees, StaysOrIsAnswered}
+use Rattle.im_types.specs.Types.{drops, bounds, asker, step, after, latest, last_kept, last_entry}
+use Rattle.im_laws.{proofs.EntryLemmas.step-lasts, proofs.EntryLemmas.told-kept, specs.Windows.IsForgotten}
+use Rattle.im_laws.proofs.{ForgetLemmas.after-forgotten, JudgeLemmas.kept_for-confirmed, RunAgrees.step-keeps}
+use Rattle.im_laws.proofs.{RunLemmas.after-append, StepLemmas.slice_get-end, Tests.and_both, Tests.eq_by_test}
 use Rattle.im_laws.proofs.WindowLemmas.{kept_for-here, kept_for-window, kept_under-below, kept_under-from}
-use Rattle.im_text.specs.declared.replies.Waited.{Waited}
-use Rattle.im_text.specs.Printing.{waits_if, who_of}
-use Rattle.im_text.proofs.PrintingLemmas.{take-prefix, true_false}
-use Rattle.im_text.proofs.WindowLemmas.{bounds_found}
-use Rattle.im_serial.specs.declared.waits.Mark.{Mark}
-use Rattle.im_serial.specs.declared.waits.Mark.TheVariants.{Nobody, Earlier, Here}
-use Rattle.im_serial.specs.Noted.{AreKnown, AreNoted, IsToDrop, IsLearnt, IsMarked, entered, noted_if}
-use Rattle.im_serial.specs.Noted.{mark_place, noted_by, with_entry}
+use Rattle.im_text.proofs.{PrintingLemmas.take-prefix, PrintingLemmas.true_false, WindowLemmas.bounds_found}
+use Rattle.im_text.specs.{declared.Waited.Waited, Printing.waits_if, Printing.who_of}
+use Rattle.im_serial.specs.declared.waits.Mark.{Mark, TheVariants.Earlier, TheVariants.Here, TheVariants.Nobody}
+use Rattle.im_serial.specs.Noted.{AreKnown, AreNoted, entered, IsLearnt, IsMarked, IsToDrop, mark_place, noted_by}
+use Rattle.im_serial.specs.Noted.{noted_if, with_entry}
 
 -- ---- the last entry
 

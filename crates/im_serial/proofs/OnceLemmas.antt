@@ -1,58 +1,35 @@
 -- A script that is served once: what a memory has of it. (Own.)
-use Rattle.std.proofs.Common.{◌≡◌, ◌⊎◌, ◌∙◌, inl, inr, ⊎_elim, ℕ, ◌+◌, ◌-◌, ◌<◌, ◌≤◌, zero, suc, Bool, true, false}
-use Rattle.std.proofs.Common.{List, [], ◌∷◌, ◌++◌, length, map, take, Some, None, refl, sym, ap, ap₂}
-use Rattle.std.proofs.Common.{append_assoc, arith, subst}
-use Rattle.std.specs.Borrow.{Bor}
-use Rattle.std.specs.Prelude.{Option, Result, Ok, Err, IfOk, OnOk, MatchResult, ◌&&◌, slice_get}
-use Rattle.std.specs.Prelude.{if◌then◌else◌}
-use Rattle.std.specs.Io.KnownBytes.{Appends}
-use Rattle.std.specs.Option.{option_map_or}
-use Rattle.std.proofs.KnownBytes.{Appends-trans}
-use Rattle.std.proofs.lemmas.List.{append-nil, length-map, map-append}
-use Rattle.std.proofs.lemmas.List.{take_all, take_more}
-use Rattle.im_types.specs.declared.operations.Entry.{Entry}
-use Rattle.im_types.specs.declared.operations.Entry.TheVariants.{Waiting, Answered}
-use Rattle.im_types.specs.declared.operations.Kept.{Kept}
-use Rattle.im_types.specs.declared.operations.Waiter.{Waiter}
-use Rattle.im_types.specs.Contents.{Contents, Window, kept_for}
-use Rattle.im_types.specs.Memory.{IsMemory, IsWindow}
-use Rattle.im_types.specs.Window.{bounds, next_number}
-use Rattle.im_types.specs.declared.commands.Command.{Command}
-use Rattle.im_types.specs.Run.{after}
-use Rattle.im_disk.specs.declared.disk.Disk.{Ghosts}
-use Rattle.im_session.specs.Kept.{IsFresh, Kept as SessionKept, SessionStart, SessionState, session_of, start_at}
-use Rattle.im_laws.proofs.Tests.{and_both}
-use Rattle.im_laws.proofs.WindowLemmas.{kept_for-window}
-use Rattle.im_text.specs.declared.lines.Lines.{Lines}
-use Rattle.im_text.specs.declared.replies.Waited.{Waited}
-use Rattle.im_text.specs.Printing.{Begins, IsLast, Prints, PrintsMore, PrintsNows, PrintsOn, nows, replies, waits}
-use Rattle.im_text.specs.Printing.{waits_if, who_of}
+use Rattle.std.proofs.Common.{◌≡◌, ℕ, zero, suc, ◌+◌, ◌-◌, ◌<◌, ◌≤◌, Bool, true, false, ◌&&◌, ◌⊎◌, List, [], ◌∷◌, ◌++◌}
+use Rattle.std.proofs.Common.{map, length, take, IfOk, if◌then◌else◌, OnOk, slice_get, Some, None, Ok, Err, Option}
+use Rattle.std.proofs.Common.{Result, MatchResult, sym, refl, ap, ◌∙◌, subst, ap₂, inl, inr, ⊎_elim, append_assoc}
+use Rattle.std.proofs.Common.{append-nil, arith, take_all, Bor}
+use Rattle.std.proofs.{KnownBytes.Appends-trans, lemmas.List.length-map, lemmas.List.map-append, lemmas.List.take_more}
+use Rattle.std.specs.{Io.KnownBytes.Appends, Option.option_map_or}
+use Rattle.im_types.specs.Types.{Entry, Waiter, Kept, Waiting, Answered, Command, Window, Contents, kept_for, IsWindow}
+use Rattle.im_types.specs.Types.{IsMemory, next_number, bounds, after}
+use Rattle.im_laws.proofs.{Tests.and_both, WindowLemmas.kept_for-window}
+use Rattle.im_disk.specs.declared.Disk.{Ghosts}
+use Rattle.im_session.specs.Kept.{IsFresh, Kept as SessionKept, session_of, SessionStart, SessionState, start_at}
+use Rattle.im_script.specs.{declared.Said.Said, Script.Draft, Script.lines_of}
 use Rattle.im_text.proofs.PrintingLemmas.{prints_all, prints_begins, prints_none, true_false}
-use Rattle.im_text.proofs.WindowLemmas.{bounds_found}
-use Rattle.im_serial.specs.declared.waits.Mark.{Mark}
-use Rattle.im_serial.specs.declared.waits.Mark.TheVariants.{Here}
-use Rattle.im_serial.specs.Noted.{AreKnown, AreLast, IsMarked, mark_place, noted_if, notes}
-use Rattle.im_script.specs.declared.script.Said.{Said}
-use Rattle.im_script.specs.Script.{Draft, lines_of}
-use Rattle.im_serial.specs.Asked.{Course, Leads, Wanted, said_at, standing, wanted_by, wanted_in, wanted_of}
-use Rattle.im_serial.specs.Serving.{EndsAt, GoingAt, HasServed, IsOver, Passes, ScriptServer, server_of}
-use Rattle.im_serial.specs.Once.{Breaks, BrokenAt, HasBroken, HasMet, HasPassed, HasShown, IsPrefix, Meets, MetAt}
-use Rattle.im_serial.specs.Had.{bases_had, has_block, has_next, left_of, length_asked}
-use Rattle.im_serial.specs.Once.{Names}
-use Rattle.im_serial.specs.Had.{if_new, met, met_all, news, next_had, numbers_had}
-use Rattle.im_serial.specs.Once.{lines_had, noted_of, past_line}
-use Rattle.im_serial.specs.Had.{who_next}
-use Rattle.im_serial.specs.Once.{waits_had, waits_of, DoneOnce, EndedOnce, HasServedOnce}
-use Rattle.im_serial.specs.Once.{AreMade, HasMade, IsMadeOnce, IsMade, MakesBlocks, is_had, met_of}
-use Rattle.im_serial.specs.declared.meeting.Met.{Met}
-use Rattle.im_serial.specs.declared.meeting.Met.TheVariants as as_met
-use Rattle.im_serial.specs.Once.{HasServedNothing, IsAskedOnce, ServedOnce, ToldOnce, course_of, new_of}
+use Rattle.im_text.{proofs.WindowLemmas.bounds_found, specs.declared.Lines.Lines, specs.declared.Waited.Waited}
+use Rattle.im_text.specs.Printing.{Begins, IsLast, nows, Prints, PrintsMore, PrintsNows, PrintsOn, replies, waits}
+use Rattle.im_text.specs.Printing.{waits_if, who_of}
+use Rattle.im_serial.proofs.{AskedLemmas.wanted_line, KeepsLemmas.went_on, LeftLemmas.had_at, LeftLemmas.has_some}
+use Rattle.im_serial.proofs.{LeftLemmas.met_here, LeftLemmas.met_less, NotedLemmas.apart, NotedLemmas.last_or_before}
+use Rattle.im_serial.proofs.{ScriptedLemmas.going_from, ScriptedLemmas.leads_here, ScriptedLemmas.over_here}
+use Rattle.im_serial.specs.Asked.{Course, Leads, said_at, standing, Wanted, wanted_by, wanted_in, wanted_of}
+use Rattle.im_serial.specs.declared.{meeting.Met.Met, waits.Mark.Mark, waits.Mark.TheVariants.Here}
 use Rattle.im_serial.specs.Fitting.{FitsScript}
-use Rattle.im_serial.proofs.AskedLemmas.{wanted_line}
-use Rattle.im_serial.proofs.LeftLemmas.{had_at, has_some, met_here, met_less}
-use Rattle.im_serial.proofs.KeepsLemmas.{went_on}
-use Rattle.im_serial.proofs.NotedLemmas.{apart, last_or_before}
-use Rattle.im_serial.proofs.ScriptedLemmas.{going_from, leads_here, over_here}
+use Rattle.im_serial.specs.Had.{bases_had, has_block, has_next, if_new, left_of, length_asked, met, met_all, news}
+use Rattle.im_serial.specs.Had.{next_had, numbers_had, who_next}
+use Rattle.im_serial.specs.Noted.{AreKnown, AreLast, IsMarked, mark_place, noted_if, notes}
+use Rattle.im_serial.specs.Once.{AreMade, Breaks, BrokenAt, course_of, DoneOnce, EndedOnce, HasBroken, HasMade, HasMet}
+use Rattle.im_serial.specs.Once.{HasPassed, HasServedNothing, HasServedOnce, HasShown, is_had, IsAskedOnce, IsMade}
+use Rattle.im_serial.specs.Once.{IsMadeOnce, IsPrefix, lines_had, MakesBlocks, Meets, met_of, MetAt, Names, new_of}
+use Rattle.im_serial.specs.Once.{noted_of, past_line, ServedOnce, ToldOnce, waits_had, waits_of}
+use Rattle.im_serial.specs.Serving.{EndsAt, GoingAt, HasServed, IsOver, Passes, ScriptServer, server_of}
+use Rattle.im_serial.specs.declared.meeting.Met.TheVariants as as_met
 
 -- what a line asks for, and those behind it
 pub line_wanted : (d next : Draft) (said : Said) (text line : List ℕ) (behind : Option (Bor (List ℕ))) → lines_of text ≡

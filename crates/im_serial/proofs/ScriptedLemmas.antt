@@ -1,57 +1,33 @@
 -- A server that serves a script: what it put is what the script asks for. (Own.)
-use Rattle.std.proofs.Common.{◌≡◌, ◌∙◌, ℕ, zero, suc, ⊎_elim, Bool, true, false, List, [], ◌∷◌, ◌++◌}
-use Rattle.std.proofs.Common.{length, take, refl, sym, ap, subst, append_assoc, append-nil, arith, ◌≤◌}
-use Rattle.std.specs.Prelude.{Option, Some, None, Result, Ok, Err, IsOk, IfOk, IfSome, OnErr, OnOk, map}
-use Rattle.std.specs.Prelude.{slice_get, if◌then◌else◌}
-use Rattle.std.specs.Borrow.{Bor}
-use Rattle.std.specs.Io.KnownBytes.{Appends}
-use Rattle.std.specs.Option.{option_map_or}
-use Rattle.im_types.specs.declared.commands.Command.{Command}
-use Rattle.im_types.specs.declared.commands.Command.TheVariants.{Request as Asks, Confirm}
-use Rattle.im_types.specs.declared.commands.Request.{Request}
-use Rattle.im_types.specs.declared.commands.Outcome.{Outcome}
-use Rattle.im_types.specs.declared.commands.Outcome.TheVariants.{Entry as Tells, Confirmed}
-use Rattle.im_types.specs.declared.operations.Entry.{Entry}
-use Rattle.im_types.specs.declared.operations.Entry.TheVariants.{Waiting, Answered as Replied}
-use Rattle.im_types.specs.declared.operations.Op.{Op}
-use Rattle.im_types.specs.declared.operations.Waiter.{Waiter}
-use Rattle.im_types.specs.declared.refusals.Refusal.{Refusal}
-use Rattle.im_types.specs.declared.refusals.Refusal.TheVariants.{Failed}
-use Rattle.im_types.specs.Contents.{Contents, Window}
-use Rattle.im_types.specs.Agreement.{WaitingAgrees}
-use Rattle.im_types.specs.Memory.{IsMemory, IsWindow}
-use Rattle.im_types.specs.Window.{bounds, confirm_window}
-use Rattle.im_types.specs.Step.{step, step_confirm, is_accepted, asker}
-use Rattle.im_types.specs.Run.{accepted, after}
-use Rattle.im_laws.proofs.AcceptLemmas.{unaccepted-leaves}
-use Rattle.im_laws.proofs.MemoryLemmas.{after-memory}
-use Rattle.im_laws.proofs.RunLemmas.{after-append}
-use Rattle.im_laws.proofs.Tests.{true_or_false}
-use Rattle.im_disk.specs.declared.disk.Disk.{Ghosts}
+use Rattle.std.proofs.Common.{◌≡◌, ℕ, zero, suc, ◌≤◌, Bool, true, false, List, [], ◌∷◌, ◌++◌, map, length, take, IfSome}
+use Rattle.std.proofs.Common.{IfOk, if◌then◌else◌, OnOk, OnErr, IsOk, slice_get, Some, None, Ok, Err, Option, Result}
+use Rattle.std.proofs.Common.{sym, refl, ap, ◌∙◌, subst, ⊎_elim, append_assoc, append-nil, arith, Bor}
+use Rattle.std.specs.{Io.KnownBytes.Appends, Option.option_map_or}
+use Rattle.im_types.specs.Types.{Entry, Op, Waiter, Waiting, Answered as Replied, Request, Command, Outcome, Asks}
+use Rattle.im_types.specs.Types.{Confirm, Tells, Confirmed, Refusal, Failed, Window, Contents, IsWindow, IsMemory}
+use Rattle.im_types.specs.Types.{WaitingAgrees, confirm_window, bounds, asker, step_confirm, step, is_accepted, after}
+use Rattle.im_types.specs.Types.{accepted}
+use Rattle.{im_laws.proofs.AcceptLemmas.unaccepted-leaves, im_disk.specs.declared.Disk.Ghosts}
+use Rattle.im_laws.proofs.{MemoryLemmas.after-memory, RunLemmas.after-append, Tests.true_or_false}
 use Rattle.im_session.specs.Kept.{IsFresh, Kept, SessionStart, SessionState}
 use Rattle.im_session.specs.Serving.{CommandRefused, CommandServed, Rests}
-use Rattle.im_script.specs.declared.script.Said.{Said}
-use Rattle.im_script.specs.Places.{action_op}
-use Rattle.im_script.specs.Script.{Draft, lines_of}
-use Rattle.im_text.specs.declared.lines.Lines.{Lines}
-use Rattle.im_text.specs.declared.replies.Waited.{Waited}
-use Rattle.im_text.specs.Printing.{Begins, IsLast, Prints, PrintsMore, PrintsNows, PrintsOn, nows, replies, reply_line}
-use Rattle.im_text.specs.Printing.{told_line, waits, waits_by, waits_if, who_of}
+use Rattle.im_script.specs.{declared.Said.Said, Places.action_op, Script.Draft, Script.lines_of}
 use Rattle.im_text.proofs.PrintingLemmas.{prints_begins, prints_none, replies_more, take-all, take-prefix, true_false}
 use Rattle.im_text.proofs.PrintingLemmas.{waits_more}
-use Rattle.im_serial.specs.declared.waits.Mark.{Mark}
-use Rattle.im_serial.specs.declared.waits.Mark.TheVariants.{Here}
-use Rattle.im_serial.specs.Noted.{AreKnown, AreLast, AreNoted, Notes, learnt, noted_if, notes, mark_place}
-use Rattle.im_serial.specs.Asked.{Course, HasNamed, HasReached, LeadsIf, Standing, Wanted, bases_by, earlier_in}
-use Rattle.im_serial.specs.Asked.{request_in, said_at, standing, wanted_by, wanted_in, wanted_of, whole_course}
-use Rattle.im_serial.specs.Serving.{AreWaited, EndedAt, EndsAt, GoingAt, HasAsked, HasServed, IsOver, IsRecorded}
-use Rattle.im_serial.specs.Serving.{IsServing, Passes, MakesPlace, ScriptServer, ServedScript, Told, server_of}
-use Rattle.im_serial.proofs.AskedLemmas.{named_asked, named_confirmed, named_first, request_is}
-use Rattle.im_serial.proofs.AskedLemmas.{stands_asked, stands_confirmed, stands_first, stands_here, stands_last}
-use Rattle.im_serial.proofs.AskedLemmas.{wanted_line}
+use Rattle.im_text.specs.declared.{Lines.Lines, Waited.Waited}
+use Rattle.im_text.specs.Printing.{Begins, IsLast, nows, Prints, PrintsMore, PrintsNows, PrintsOn, replies, reply_line}
+use Rattle.im_text.specs.Printing.{told_line, waits, waits_by, waits_if, who_of}
+use Rattle.im_serial.proofs.AskedLemmas.{named_asked, named_confirmed, named_first, request_is, stands_asked}
+use Rattle.im_serial.proofs.AskedLemmas.{stands_confirmed, stands_first, stands_here, stands_last, wanted_line}
 use Rattle.im_serial.proofs.NotedLemmas.{known_asked, noted_asked, noted_confirmed, noted_known, noted_same}
 use Rattle.im_serial.proofs.NotedLemmas.{noted_waits}
 use Rattle.im_serial.proofs.ServingLemmas.{next_is_new}
+use Rattle.im_serial.specs.Asked.{bases_by, Course, earlier_in, HasNamed, HasReached, LeadsIf, request_in, said_at}
+use Rattle.im_serial.specs.Asked.{Standing, standing, Wanted, wanted_by, wanted_in, wanted_of, whole_course}
+use Rattle.im_serial.specs.declared.waits.Mark.{Mark, TheVariants.Here}
+use Rattle.im_serial.specs.Noted.{AreKnown, AreLast, AreNoted, learnt, mark_place, noted_if, Notes, notes}
+use Rattle.im_serial.specs.Serving.{AreWaited, EndedAt, EndsAt, GoingAt, HasAsked, HasServed, IsOver, IsRecorded}
+use Rattle.im_serial.specs.Serving.{IsServing, MakesPlace, Passes, ScriptServer, ServedScript, server_of, Told}
 
 on_ok : {T E : Type 0} (r : Result T E) (P : Type 0) → P → OnOk r P
 on_ok (Ok x) P it = it

@@ -1,18 +1,9 @@
 -- Commands put while a script is served. (Own.)
-use Rattle.std.proofs.Common.{◌≡◌, ◌∙◌, ◌-◌, ℕ, Bool, true, false, List, [], ◌∷◌, length, refl, sym, ap}
-use Rattle.std.proofs.Common.{subst, arith, if◌then◌else◌}
-use Rattle.std.specs.Prelude.{None, Result, Ok, Err, nat_lt, ◌||◌, slice_get}
-use Rattle.im_types.specs.declared.commands.Command.TheVariants.{Request as Asks}
-use Rattle.im_types.specs.declared.commands.Request.{Request}
-use Rattle.im_types.specs.declared.commands.Outcome.{Outcome}
-use Rattle.im_types.specs.declared.commands.Judged.{Judged}
-use Rattle.im_types.specs.declared.commands.Judged.TheVariants.{Fresh}
-use Rattle.im_types.specs.declared.refusals.Refusal.{Refusal}
-use Rattle.im_types.specs.declared.refusals.Refusal.TheVariants.{Forgotten, Gap, WindowFull}
-use Rattle.im_types.specs.declared.TheConstants.{LAST, WINDOW}
-use Rattle.im_types.specs.Contents.{Contents}
-use Rattle.im_types.specs.Window.{bounds, judge, judge_number, judge_window, next_number}
-use Rattle.im_types.specs.Step.{step, step_request, is_accepted, is_fresh}
+use Rattle.std.proofs.Common.{◌≡◌, ℕ, ◌-◌, Bool, true, false, ◌||◌, List, [], ◌∷◌, length, if◌then◌else◌, nat_lt}
+use Rattle.std.proofs.Common.{slice_get, None, Ok, Err, Result, sym, refl, ap, ◌∙◌, subst, arith}
+use Rattle.im_types.specs.Types.{Request, Outcome, Judged, Asks, Fresh, Refusal, Gap, Forgotten, WindowFull, WINDOW}
+use Rattle.im_types.specs.Types.{LAST, Contents, next_number, judge_number, judge_window, judge, bounds, step_request}
+use Rattle.im_types.specs.Types.{step, is_fresh, is_accepted}
 use Rattle.im_text.proofs.WindowLemmas.{bounds_found, HasBounds, not_below}
 
 -- ---- new requests

@@ -1,14 +1,9 @@
 -- The first request of an element that waits. (Own.)
-use Rattle.std.proofs.Common.{◌≡◌, ◌∙◌, ℕ, ◌+◌, ◌-◌, ◌<◌, ◌≤◌, zero, suc, Bool, true, false, List, [], ◌∷◌, length}
-use Rattle.std.proofs.Common.{◌++◌, Some, refl, sym, ap, ap₂, arith, drop, get_or, map, take}
-use Rattle.std.specs.Prelude.{Option, Ok, slice_get}
-use Rattle.std.specs.Option.{option_map_or}
-use Rattle.std.proofs.lemmas.List.{length-map, take_all, take_more}
-use Rattle.im_types.specs.declared.operations.Entry.{Entry}
-use Rattle.im_types.specs.declared.operations.Entry.TheVariants.{Waiting, Answered}
-use Rattle.im_types.specs.declared.operations.Kept.{Kept}
-use Rattle.im_types.specs.Contents.{Contents, Window, kept_for}
-use Rattle.im_types.specs.Window.{bounds, next_number}
+use Rattle.std.proofs.Common.{◌≡◌, ℕ, zero, suc, ◌+◌, ◌-◌, ◌<◌, ◌≤◌, Bool, true, false, List, [], ◌∷◌, ◌++◌, map}
+use Rattle.std.proofs.Common.{length, get_or, take, drop, slice_get, Some, Ok, Option, sym, refl, ap, ◌∙◌, ap₂, arith}
+use Rattle.std.proofs.Common.{take_all}
+use Rattle.std.{proofs.lemmas.List.length-map, proofs.lemmas.List.take_more, specs.Option.option_map_or}
+use Rattle.im_types.specs.Types.{Entry, Kept, Waiting, Answered, Window, Contents, kept_for, next_number, bounds}
 use Rattle.im_laws.proofs.Tests.{some_same, true_false}
 use Rattle.im_text.proofs.WindowLemmas.{bounds_found, kept_at}
 use Rattle.im_serial.specs.Had.{first_open, numbers_settled, settled_in, settled_with, still_waits}

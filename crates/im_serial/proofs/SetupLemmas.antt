@@ -1,31 +1,20 @@
 -- The blocks of a setup on a new image stand one behind another; and a script's setup comes first. (Own.)
-use Rattle.std.proofs.Common.{◌≡◌, ◌⊎◌, ◌∙◌, inl, inr, ℕ, ◌+◌, zero, suc, Bool, true, false, List, [], ◌∷◌, ◌++◌}
-use Rattle.std.proofs.Common.{Some, None, Ok, refl, sym, ap, arith, subst, replicate}
-use Rattle.std.specs.Prelude.{Option, ◌==◌, if◌then◌else◌, option_map, slice_index_or}
-use Rattle.std.specs.Option.{option_map_or, option_or}
-use Rattle.std.proofs.lemmas.Bool.Decides.{nat_tests}
-use Rattle.im_types.specs.declared.commands.Outcome.TheVariants.{Entry as Tells}
-use Rattle.im_types.specs.declared.operations.Kind.{Kind}
-use Rattle.im_types.specs.declared.operations.Reply.TheVariants.{BadLength}
-use Rattle.im_types.specs.Act.{allocate, allocate_at, only_tells}
-use Rattle.im_types.specs.Contents.{Empty, Held}
-use Rattle.im_types.specs.Place.{begins_free, fill, place}
+use Rattle.std.proofs.Common.{◌≡◌, ℕ, zero, suc, ◌+◌, Bool, true, false, ◌⊎◌, List, [], ◌∷◌, ◌++◌, replicate}
+use Rattle.std.proofs.Common.{if◌then◌else◌, ◌==◌, slice_index_or, Some, None, Ok, Option, option_map, sym, refl, ap}
+use Rattle.std.proofs.Common.{◌∙◌, subst, inl, inr, arith}
+use Rattle.std.{proofs.lemmas.Bool.Decides.nat_tests, specs.Option.option_map_or, specs.Option.option_or}
+use Rattle.im_types.specs.Types.{Kind, BadLength, Tells, Empty, Held, begins_free, place, fill, only_tells, allocate_at}
+use Rattle.im_types.specs.Types.{allocate}
 use Rattle.im_laws.proofs.Tests.{some_same, true_false}
-use Rattle.im_script.specs.declared.places.Action.TheVariants.{Alloc}
-use Rattle.im_script.specs.declared.places.Place.{Place}
-use Rattle.im_script.specs.declared.script.Heard.{Heard}
-use Rattle.im_script.specs.declared.script.Heard.TheVariants.{Says as Spoken, Glances}
-use Rattle.im_script.specs.declared.script.Said.{Said}
-use Rattle.im_script.specs.declared.script.ScriptLine.{ScriptLine}
-use Rattle.im_script.specs.declared.script.Said.TheVariants.{Nothing, Block, Begins, Asks}
-use Rattle.im_script.specs.declared.script.Stage.{Stage}
-use Rattle.im_script.specs.declared.script.Stage.TheVariants.{Start, Setup, Part}
+use Rattle.im_script.specs.declared.{Action.TheVariants.Alloc, Place.Place, Said.Said, ScriptLine.ScriptLine}
+use Rattle.im_script.specs.declared.Heard.{Heard, TheVariants.Glances, TheVariants.Says as Spoken}
+use Rattle.im_script.specs.declared.Said.TheVariants.{Asks, Begins, Block, Nothing}
+use Rattle.im_script.specs.declared.script.Stage.{Stage, TheVariants.Part, TheVariants.Setup, TheVariants.Start}
 use Rattle.im_script.specs.Grammar.{is_line, number_up_to, words_of}
 use Rattle.im_script.specs.Lines.{action_of, glanced, named_block, part_number, starts_setup}
-use Rattle.im_script.specs.Script.{Draft, begun_part, glance_at, glance_of, line_after, line_at, lines_of}
-use Rattle.im_script.specs.Script.{line_says as said_in}
-use Rattle.im_script.specs.Script.{new_draft, words_after}
-use Rattle.im_serial.specs.Asked.{Wanted, base_told, said_at, said_by, wanted_by, wanted_in, wanted_of}
+use Rattle.im_script.specs.Script.{begun_part, Draft, glance_at, glance_of, line_after, line_at, line_says as said_in}
+use Rattle.im_script.specs.Script.{lines_of, new_draft, words_after}
+use Rattle.im_serial.specs.Asked.{base_told, said_at, said_by, Wanted, wanted_by, wanted_in, wanted_of}
 
 -- ---- cells that are taken from the first on
 

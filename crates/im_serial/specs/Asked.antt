@@ -1,26 +1,12 @@
 -- Which requests a script asks for, and which of them were put on a disk. (Own.)
-use Rattle.std.specs.Prelude.{◌≡◌, ◌⊎◌, ℕ, Bool, true, false, List, [], ◌∷◌, ◌++◌, Option, None, Some, Result, Ok}
-use Rattle.std.specs.Prelude.{slice_get, if◌then◌else◌}
-use Rattle.std.specs.Option.{option_map, option_map_or, option_and_then}
-use Rattle.im_types.specs.declared.commands.Command.{Command}
-use Rattle.im_types.specs.declared.commands.Command.TheVariants.{Request as Asks, Confirm}
-use Rattle.im_types.specs.declared.commands.Request.{Request}
-use Rattle.im_types.specs.declared.commands.Outcome.{Outcome}
-use Rattle.im_types.specs.declared.commands.Outcome.TheVariants.{Entry as Tells}
-use Rattle.im_types.specs.declared.operations.Entry.TheVariants.{Answered}
-use Rattle.im_types.specs.declared.operations.Waiter.{Waiter}
-use Rattle.im_types.specs.declared.operations.Reply.TheVariants.{Base}
-use Rattle.im_types.specs.declared.refusals.Refusal.{Refusal}
-use Rattle.im_types.specs.Contents.{Contents}
-use Rattle.im_types.specs.Window.{next_number}
-use Rattle.im_types.specs.Step.{step}
-use Rattle.im_types.specs.Run.{after}
-use Rattle.im_script.specs.declared.places.Action.{Action}
-use Rattle.im_script.specs.declared.places.Action.TheVariants.{Alloc}
-use Rattle.im_script.specs.declared.script.Said.{Said}
-use Rattle.im_script.specs.declared.script.Said.TheVariants.{Nothing, Block, Begins, Asks as Line}
-use Rattle.im_script.specs.declared.script.Heard.{Heard}
-use Rattle.im_script.specs.declared.script.Heard.TheVariants.{Says, Glances}
+use Rattle.std.specs.Prelude.{◌≡◌, ℕ, Bool, true, false, ◌⊎◌, List, [], ◌∷◌, ◌++◌, if◌then◌else◌, slice_get, Some, None}
+use Rattle.std.specs.Prelude.{Ok, Option, Result, option_map, option_and_then}
+use Rattle.std.specs.Option.{option_map_or}
+use Rattle.im_types.specs.Types.{Waiter, Answered, Base, Request, Command, Outcome, Asks, Confirm, Tells, Refusal}
+use Rattle.im_types.specs.Types.{Contents, next_number, step, after}
+use Rattle.im_script.specs.declared.{Action.Action, Action.TheVariants.Alloc, Said.Said}
+use Rattle.im_script.specs.declared.Heard.{Heard, TheVariants.Glances, TheVariants.Says}
+use Rattle.im_script.specs.declared.Said.TheVariants.{Asks as Line, Begins, Block, Nothing}
 use Rattle.im_script.specs.Places.{action_op}
 use Rattle.im_script.specs.Script.{Draft, heard, lines_of, new_draft}
 

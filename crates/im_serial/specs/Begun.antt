@@ -1,15 +1,9 @@
 -- What was put of a script from a new image on, whatever stopped it and however often. (Own.)
 use Rattle.std.specs.Prelude.{◌≡◌, ℕ, List, [], ◌++◌, Some}
-use Rattle.im_types.specs.declared.commands.Command.{Command}
-use Rattle.im_types.specs.declared.sizes.Limits.{Limits}
-use Rattle.im_types.specs.Contents.{Contents, empty_contents}
-use Rattle.im_types.specs.Meaning.{accept_each}
-use Rattle.im_types.specs.Run.{after}
-use Rattle.im_disk.specs.declared.disk.Disk.{Ghosts}
-use Rattle.im_disk.specs.Moment.{Moment}
-use Rattle.im_disk.specs.Since.{Leaves, LeavesNow}
-use Rattle.im_serial.specs.Asked.{IsAsked, Leads, Wanted, wanted_of}
+use Rattle.im_types.specs.Types.{Command, Limits, Contents, empty_contents, after, accept_each}
+use Rattle.im_disk.specs.{declared.Disk.Ghosts, Moment.Moment, Since.Leaves, Since.LeavesNow}
 use Rattle.im_session.specs.Carrying.{LedBy}
+use Rattle.im_serial.specs.Asked.{IsAsked, Leads, Wanted, wanted_of}
 
 -- the memory of a new image
 abbrev pub new_memory : Limits → Contents

@@ -1,19 +1,12 @@
 -- Whether a memory was left by runs of a script: what it keeps under the script's numbers, and where windows begin.
 -- (Own.)
-use Rattle.std.specs.Prelude.{◌≡◌, ℕ, ◌+◌, ◌^◌, ◌≤◌, ◌==◌, ◌&&◌, Bool, true, false, List, [], ◌∷◌, ◌++◌, Option, None}
-use Rattle.std.specs.Prelude.{Some, Result, MatchResult, length, nat_lt, slice_get, if◌then◌else◌}
+use Rattle.std.specs.Prelude.{◌≡◌, ℕ, ◌+◌, ◌^◌, ◌≤◌, Bool, true, false, ◌&&◌, List, [], ◌∷◌, ◌++◌, length}
+use Rattle.std.specs.Prelude.{if◌then◌else◌, nat_lt, ◌==◌, slice_get, MatchResult, Some, None, Option, Result}
 use Rattle.std.specs.Option.{option_map_or}
-use Rattle.im_types.specs.declared.operations.Entry.{Entry}
-use Rattle.im_types.specs.declared.operations.Entry.TheVariants.{Answered}
-use Rattle.im_types.specs.declared.operations.Kept.{Kept}
-use Rattle.im_types.specs.declared.operations.Op.{Op}
-use Rattle.im_types.specs.declared.operations.Reply.TheVariants.{Base}
-use Rattle.im_types.specs.Contents.{Contents, Window, kept_for}
-use Rattle.im_types.specs.Window.{same_op}
-use Rattle.im_types.specs.declared.refusals.Refusal.TheVariants.{BadScript, Mismatch}
+use Rattle.im_types.specs.Types.{Entry, Op, Kept, Answered, Base, Mismatch, BadScript, Window, Contents, kept_for}
+use Rattle.im_types.specs.Types.{same_op}
 use Rattle.im_script.specs.Places.{action_op}
-use Rattle.im_text.specs.declared.reasons.Reason.{Reason}
-use Rattle.im_text.specs.declared.reasons.Reason.TheVariants.{Request}
+use Rattle.im_text.specs.declared.Reason.{Reason, TheVariants.Request}
 use Rattle.im_serial.specs.Asked.{Wanted}
 use Rattle.im_serial.specs.Had.{has_next, left_of, length_asked, met, met_all, numbers_had, who_next}
 

@@ -1,12 +1,12 @@
 -- The entry of a note, which is kept as its form and a number. (Own.)
 use Rattle.std.specs.Prelude.{ℕ, ◌%◌, ◌^◌}
-use Rattle.im_types.specs.declared.operations.Entry.{Entry}
+use Rattle.im_types.specs.Types.{Entry}
+use Rattle.im_serial.specs.declared.notes.EntryForm.{EntryForm}
+use Rattle.im_serial.specs.declared.notes.EntryForm.TheVariants.{BadLength, Base, Clash, Cleared, NoBlock, NoCell}
+use Rattle.im_serial.specs.declared.notes.EntryForm.TheVariants.{NoSpace, Released, StillWaiting, Stored, Value}
+use Rattle.im_serial.specs.declared.notes.EntryForm.TheVariants.{Waiting, WrongKind}
 use Rattle.im_types.specs.declared.operations.Entry.TheVariants as entry
 use Rattle.im_types.specs.declared.operations.Reply.TheVariants as reply
-use Rattle.im_serial.specs.declared.notes.EntryForm.{EntryForm}
-use Rattle.im_serial.specs.declared.notes.EntryForm.TheVariants.{Waiting, Base, NoSpace, BadLength, Value, Stored}
-use Rattle.im_serial.specs.declared.notes.EntryForm.TheVariants.{Clash, NoCell, WrongKind, Released, NoBlock}
-use Rattle.im_serial.specs.declared.notes.EntryForm.TheVariants.{StillWaiting, Cleared}
 
 -- the entry of this form that tells this number
 abbrev pub entry_shown : EntryForm → ℕ → Entry

@@ -1,22 +1,10 @@
 -- The requests that had to wait: what is noted of each until it is dropped, and at last. (Own.)
-use Rattle.std.specs.Prelude.{◌≡◌, ◌⊎◌, ℕ, ◌+◌, ◌*◌, ◌%◌, ◌<◌, ◌==◌, ◌&&◌, List, [], ◌∷◌, Option, Some, length}
-use Rattle.std.specs.Prelude.{◌++◌, Result, MatchResult, slice_get, if◌then◌else◌}
-use Rattle.std.specs.Option.{option_map}
-use Rattle.im_types.specs.declared.TheConstants.{WINDOW}
-use Rattle.im_types.specs.declared.commands.Command.{Command}
-use Rattle.im_types.specs.declared.operations.Entry.{Entry}
-use Rattle.im_types.specs.declared.operations.Entry.TheVariants.{Waiting, Answered}
-use Rattle.im_types.specs.declared.operations.Kept.{Kept}
-use Rattle.im_types.specs.declared.operations.Waiter.{Waiter}
-use Rattle.im_types.specs.Contents.{Contents, kept_for}
-use Rattle.im_types.specs.History.{last_entry}
-use Rattle.im_types.specs.Memory.{IsMemory}
-use Rattle.im_types.specs.Run.{after}
-use Rattle.im_laws.specs.Windows.{IsForgotten}
-use Rattle.im_text.specs.declared.replies.Waited.{Waited}
-use Rattle.im_text.specs.Printing.{who_of}
-use Rattle.im_serial.specs.declared.waits.Mark.{Mark}
-use Rattle.im_serial.specs.declared.waits.Mark.TheVariants.{Nobody, Earlier, Here}
+use Rattle.std.specs.Prelude.{◌≡◌, ℕ, ◌+◌, ◌*◌, ◌%◌, ◌<◌, ◌&&◌, ◌⊎◌, List, [], ◌∷◌, ◌++◌, length, if◌then◌else◌, ◌==◌}
+use Rattle.std.specs.Prelude.{slice_get, MatchResult, Some, Option, Result, option_map}
+use Rattle.im_types.specs.Types.{Entry, Waiter, Kept, Waiting, Answered, Command, WINDOW, Contents, kept_for, IsMemory}
+use Rattle.im_types.specs.Types.{after, last_entry}
+use Rattle.{im_laws.specs.Windows.IsForgotten, im_text.specs.declared.Waited.Waited, im_text.specs.Printing.who_of}
+use Rattle.im_serial.specs.declared.waits.Mark.{Mark, TheVariants.Earlier, TheVariants.Here, TheVariants.Nobody}
 
 -- ---- at last
 

@@ -1,35 +1,19 @@
 -- A script that is served once: what a memory has of its requests, and which of them are new. (Own.)
-use Rattle.std.specs.Prelude.{◌≡◌, ◌⊎◌, ℕ, ◌+◌, ◌<◌, ◌≤◌, Bool, List, [], ◌∷◌, ◌++◌, length, map}
-use Rattle.std.specs.Prelude.{take, true, false, codes, decimal, Result, MatchResult, OnOk, Option, Some, slice_get}
-use Rattle.std.specs.Prelude.{if◌then◌else◌}
-use Rattle.std.specs.Option.{option_map_or}
-use Rattle.std.specs.Io.KnownBytes.{Appends}
-use Rattle.im_types.specs.declared.commands.Command.{Command}
-use Rattle.im_types.specs.declared.operations.Entry.{Entry}
-use Rattle.im_types.specs.declared.operations.Entry.TheVariants.{Answered}
-use Rattle.im_types.specs.declared.operations.Reply.TheVariants.{Base}
-use Rattle.im_types.specs.declared.operations.Waiter.{Waiter}
-use Rattle.im_types.specs.declared.sizes.Limits.{Limits}
-use Rattle.im_types.specs.Contents.{Contents, kept_for}
-use Rattle.im_types.specs.Memory.{IsMemory}
-use Rattle.im_disk.specs.Since.{LeavesNow}
-use Rattle.im_disk.specs.declared.disk.Disk.{Ghosts}
+use Rattle.std.specs.Prelude.{◌≡◌, ℕ, ◌+◌, ◌<◌, ◌≤◌, Bool, true, false, ◌⊎◌, List, [], ◌∷◌, ◌++◌, map, length, take}
+use Rattle.std.specs.Prelude.{if◌then◌else◌, OnOk, slice_get, MatchResult, Some, codes, decimal, Option, Result}
+use Rattle.std.specs.{Io.KnownBytes.Appends, Option.option_map_or}
+use Rattle.im_types.specs.Types.{Entry, Waiter, Answered, Base, Command, Limits, Contents, kept_for, IsMemory}
+use Rattle.{im_disk.specs.declared.Disk.Ghosts, im_disk.specs.Since.LeavesNow, im_session.specs.Carrying.LedBy}
 use Rattle.im_session.specs.Kept.{IsFresh, Kept as SessionKept, SessionStart, SessionState}
-use Rattle.im_text.specs.declared.replies.Waited.{Waited}
-use Rattle.im_text.specs.declared.lines.Lines.{Lines}
-use Rattle.im_text.specs.Printing.{Begins, IsLast, Prints, PrintsMore, PrintsOn, nows, replies, told_line, waits}
+use Rattle.im_text.specs.{declared.Lines.Lines, declared.Waited.Waited, Texts.line_feed}
+use Rattle.im_text.specs.Printing.{Begins, IsLast, nows, Prints, PrintsMore, PrintsOn, replies, told_line, waits}
 use Rattle.im_text.specs.Printing.{waits_if, who_of}
-use Rattle.im_text.specs.Texts.{line_feed}
-use Rattle.im_serial.specs.Asked.{Course, IsAsked, Wanted, standing, wanted_of}
-use Rattle.im_serial.specs.declared.meeting.Met.{Met}
-use Rattle.im_serial.specs.declared.meeting.Met.TheVariants.{New, Done, Kept}
-use Rattle.im_serial.specs.declared.waits.Mark.{Mark}
-use Rattle.im_serial.specs.Noted.{AreKnown, AreLast, IsMarked, noted_if, notes}
-use Rattle.im_serial.specs.Begun.{HasGoneOn, HasComeTo}
-use Rattle.im_serial.specs.Fitting.{FitsScript}
+use Rattle.im_serial.specs.Asked.{Course, IsAsked, standing, Wanted, wanted_of}
+use Rattle.im_serial.specs.{Begun.HasComeTo, Begun.HasGoneOn, declared.waits.Mark.Mark, Fitting.FitsScript}
+use Rattle.im_serial.specs.declared.meeting.Met.{Met, TheVariants.Done, TheVariants.Kept, TheVariants.New}
 use Rattle.im_serial.specs.Had.{bases_had, has_block, has_next, left_of, met, news, next_had, numbers_had, who_next}
+use Rattle.im_serial.specs.Noted.{AreKnown, AreLast, IsMarked, noted_if, notes}
 use Rattle.im_serial.specs.Serving.{IsOver, IsServing, NotOpened, ScriptServer}
-use Rattle.im_session.specs.Carrying.{LedBy}
 
 -- ---- what is printed of it
 

@@ -1,28 +1,16 @@
 -- What serving a script leaves on a disk. (Own.)
-use Rattle.std.specs.Prelude.{◌≡◌, ◌⊎◌, ℕ, ◌≤◌, List, [], ◌∷◌, ◌++◌, length, take, map, Option, Some, false}
-use Rattle.std.specs.Prelude.{Result, Ok, IfOk, OnOk, IfSome, MatchResult}
+use Rattle.std.specs.Prelude.{◌≡◌, ℕ, ◌≤◌, false, ◌⊎◌, List, [], ◌∷◌, ◌++◌, map, length, take, IfSome, IfOk, OnOk}
+use Rattle.std.specs.Prelude.{MatchResult, Some, Ok, Option, Result}
 use Rattle.std.specs.Io.KnownBytes.{Appends}
-use Rattle.im_types.specs.declared.commands.Command.{Command}
-use Rattle.im_types.specs.declared.commands.Outcome.TheVariants.{Entry as Tells}
-use Rattle.im_types.specs.declared.operations.Entry.{Entry}
-use Rattle.im_types.specs.declared.operations.Op.{Op}
-use Rattle.im_types.specs.declared.operations.Waiter.{Waiter}
-use Rattle.im_types.specs.Contents.{Contents}
-use Rattle.im_types.specs.Memory.{IsMemory}
-use Rattle.im_types.specs.Run.{after}
-use Rattle.im_disk.specs.declared.disk.Disk.{Ghosts}
-use Rattle.im_disk.specs.Moment.{Moment, Left}
-use Rattle.im_disk.specs.Since.{Leaves}
+use Rattle.im_types.specs.Types.{Entry, Op, Waiter, Command, Tells, Contents, IsMemory, after}
+use Rattle.im_disk.specs.{declared.Disk.Ghosts, Moment.Left, Moment.Moment, Since.Leaves}
 use Rattle.im_session.specs.Kept.{Kept, SessionStart, SessionState}
-use Rattle.im_text.specs.declared.lines.Lines.{Lines}
-use Rattle.im_text.specs.declared.replies.Waited.{Waited}
-use Rattle.im_text.specs.Printing.{Begins, IsLast, Prints, nows, replies, waits, who_of}
-use Rattle.im_script.specs.Places.{action_op}
-use Rattle.im_serial.specs.declared.server.Server.{Server as Whole}
-use Rattle.im_serial.specs.declared.waits.Mark.{Mark}
+use Rattle.{im_script.specs.Places.action_op, im_text.specs.declared.Lines.Lines, im_text.specs.declared.Waited.Waited}
+use Rattle.im_text.specs.Printing.{Begins, IsLast, nows, Prints, replies, waits, who_of}
+use Rattle.im_serial.specs.Asked.{bases_by, Course, earlier_in, HasNamed, HasReached, IsAsked, LeadsIf, Standing}
+use Rattle.im_serial.specs.Asked.{standing, Wanted, wanted_of}
+use Rattle.im_serial.specs.declared.{server.Server.Server as Whole, waits.Mark.Mark}
 use Rattle.im_serial.specs.Noted.{AreKnown, AreLast, AreNoted, Notes, notes}
-use Rattle.im_serial.specs.Asked.{Course, HasNamed, HasReached, IsAsked, LeadsIf, Standing, Wanted, bases_by}
-use Rattle.im_serial.specs.Asked.{earlier_in, standing, wanted_of}
 
 -- ---- while it is served
 

@@ -1,8 +1,8 @@
 //! A server's requests, one after another: room is made for each, it is asked, and its line is printed.
-ghost use Rattle.std.specs.Prelude.{◌≡◌, ◌++◌, ◌∷◌, [], ℕ, Ok, OnOk};
-ghost use Rattle.im_types.specs.Window.{bounds};
+ghost use Rattle.std.specs.Prelude.{◌≡◌, ℕ, [], ◌∷◌, ◌++◌, OnOk, Ok};
+ghost use Rattle.im_types.specs.Types.{bounds};
 ghost use Rattle.im_serial.specs.Asked.{wanted_by, wanted_of};
-ghost use Rattle.im_serial.specs.Serving.{HasAsked, MakesPlace, ServedBy, seen_by};
+ghost use Rattle.im_serial.specs.Serving.{HasAsked, MakesPlace, seen_by, ServedBy};
 
 use crate::hearing::hear;
 use crate::room::{confirm, first_waiting, next_number, reason_of};

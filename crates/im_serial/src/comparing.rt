@@ -1,12 +1,10 @@
 //! Compares a script with what an image has of it.
-ghost use Rattle.std.specs.Prelude.{◌≡◌, ℕ, false, true, [], IfErr, IfSome, OnOk, length, nat_lt, slice_get};
-ghost use Rattle.im_types.specs.declared.refusals.Refusal.{Refusal};
-ghost use Rattle.im_types.specs.declared.refusals.Refusal.TheVariants.{BadScript, Mismatch};
-ghost use Rattle.im_text.specs.declared.reasons.Reason.TheVariants.{Request};
-ghost use Rattle.im_serial.specs.Asked.{wanted_by, wanted_of};
-ghost use Rattle.im_serial.specs.Fitting.{BeginsWithin, Compares, bases_with, behind_script, fits, fits_as, fits_from};
+ghost use Rattle.std.specs.Prelude.{◌≡◌, ℕ, true, false, [], length, IfSome, IfErr, OnOk, nat_lt, slice_get};
+ghost use Rattle.im_types.specs.Types.{Refusal, Mismatch, BadScript};
+ghost use Rattle.im_text.specs.declared.Reason.TheVariants.{Request};
+ghost use Rattle.im_serial.specs.{Asked.wanted_by, Asked.wanted_of, Had.left_of, Had.met, Had.met_all};
+ghost use Rattle.im_serial.specs.Fitting.{bases_with, BeginsWithin, behind_script, Compares, fits, fits_as, fits_from};
 ghost use Rattle.im_serial.specs.Fitting.{is_base, keeps_as, keeps_base, keeps_op};
-ghost use Rattle.im_serial.specs.Had.{left_of, met, met_all};
 
 use crate::hearing::hear;
 use crate::past::Past;

@@ -1,16 +1,11 @@
 //! Prints what an image has of a script's requests.
-ghost use Rattle.std.specs.Prelude.{◌≡◌, ◌+◌, ◌++◌, ℕ, true, [], ◌∷◌, IfOk, OnOk, None, Some};
-ghost use Rattle.std.specs.Prelude.{false, length, not, slice_get};
-ghost use Rattle.im_types.specs.declared.operations.Kept.{Kept};
-ghost use Rattle.im_types.specs.declared.operations.Waiter.{Waiter};
-ghost use Rattle.im_types.specs.Contents.{kept_for};
-ghost use Rattle.im_serial.specs.Noted.{MarksWaiting, NotesMore, mark_place};
-ghost use Rattle.im_serial.specs.Asked.{Wanted, wanted_by, wanted_of};
-ghost use Rattle.im_serial.specs.Had.{has_next, met};
-ghost use Rattle.im_serial.specs.Once.{HasPassed, IsMade, MakesBlocks, Names, is_had, met_of, noted_of};
-ghost use Rattle.im_serial.specs.Had.{who_next};
-ghost use Rattle.im_serial.specs.Once.{TellsPast, past_line};
-ghost use Rattle.im_serial.specs.Serving.{seen_by};
+ghost use Rattle.std.specs.Prelude.{◌≡◌, ℕ, ◌+◌, true, false, not, [], ◌∷◌, ◌++◌, length, IfOk, OnOk, slice_get, Some};
+ghost use Rattle.std.specs.Prelude.{None};
+ghost use Rattle.im_types.specs.Types.{Waiter, Kept, kept_for};
+ghost use Rattle.im_serial.specs.{Asked.Wanted, Asked.wanted_by, Asked.wanted_of, Had.has_next, Had.met, Had.who_next};
+ghost use Rattle.im_serial.specs.{Noted.mark_place, Noted.MarksWaiting, Noted.NotesMore, Serving.seen_by};
+ghost use Rattle.im_serial.specs.Once.{HasPassed, is_had, IsMade, MakesBlocks, met_of, Names, noted_of, past_line};
+ghost use Rattle.im_serial.specs.Once.{TellsPast};
 
 use crate::hearing::hear;
 use crate::past::Past;

@@ -1,6 +1,6 @@
 //! A note of a request that had to wait. A long script has many of them at once, so each takes 24 bytes.
 ghost use Rattle.std.specs.Prelude.{◌≡◌};
-ghost use Rattle.im_types.specs.declared.operations.Entry.TheVariants.{Answered};
+ghost use Rattle.im_types.specs.Types.{Answered};
 ghost use Rattle.im_serial.specs.Forms.{entry_shown};
 
 use im_text::Waited;
@@ -38,7 +38,7 @@ pub struct WaitNote {
 }
 
 impl Model for WaitNote {
-    ghost use Rattle.im_text.specs.declared.replies.Waited.{Waited};
+    ghost use Rattle.im_text.specs.declared.Waited.{Waited};
     ghost use Rattle.im_serial.specs.Forms.{entry_shown};
 
     ghost Value = { Waited };

@@ -1,9 +1,7 @@
 //! A script's requests, each served once, whatever stopped before.
 ghost use Rattle.std.specs.Prelude.{◌≡◌};
-ghost use Rattle.im_serial.specs.Asked.{wanted_by, wanted_of};
-ghost use Rattle.im_serial.specs.Had.{met_all, news};
-ghost use Rattle.im_serial.specs.Once.{FitsOrStays, HasServedOnce, ShowsOrBreaks};
-ghost use Rattle.im_serial.specs.Serving.{ServedBy, seen_by};
+ghost use Rattle.im_serial.specs.{Asked.wanted_by, Asked.wanted_of, Had.met_all, Had.news, Once.FitsOrStays};
+ghost use Rattle.im_serial.specs.{Once.HasServedOnce, Once.ShowsOrBreaks, Serving.seen_by, Serving.ServedBy};
 
 use crate::comparing::compare_script;
 use crate::hearing::hear;

@@ -1,14 +1,12 @@
 //! What an image has of a script already.
 //!
 //! The n-th request of an element has number n, so an image needs no mark of a script (decision 330).
-ghost use Rattle.std.specs.Prelude.{◌≡◌, ◌-◌, ◌+◌, ℕ, false, true, [], IfOk, Ok, OnOk, slice_get, string_bytes};
+ghost use Rattle.std.specs.Prelude.{◌≡◌, ℕ, ◌+◌, ◌-◌, true, false, [], IfOk, OnOk, slice_get, Ok, string_bytes};
 ghost use Rattle.std.specs.Option.{option_map_or};
-ghost use Rattle.im_types.specs.Window.{bounds, next_number};
-ghost use Rattle.im_serial.specs.Asked.{wanted_by};
-ghost use Rattle.im_serial.specs.Fitting.{end_behind_base, base_placed};
+ghost use Rattle.im_types.specs.Types.{next_number, bounds};
+ghost use Rattle.im_serial.specs.{Asked.wanted_by, Fitting.base_placed, Fitting.end_behind_base, Once.done_line};
 ghost use Rattle.im_serial.specs.Had.{first_open, left_of, met, met_all, news, numbers_had, numbers_settled};
 ghost use Rattle.im_serial.specs.Had.{still_waits};
-ghost use Rattle.im_serial.specs.Once.{done_line};
 
 use im_memory::Memory;
 use im_script::Said;

@@ -1,8 +1,6 @@
 //! Makes room for the next request: in the journal, and in its element's window. A server does so before each request.
-ghost use Rattle.std.specs.Prelude.{◌≡◌, ◌≤◌, ℕ, Ok, IfOk, OnErr, OnOk};
-ghost use Rattle.im_types.specs.declared.commands.Command.TheVariants.{Confirm};
-ghost use Rattle.im_types.specs.declared.commands.Outcome.{Outcome};
-ghost use Rattle.im_types.specs.Window.{bounds};
+ghost use Rattle.std.specs.Prelude.{◌≡◌, ℕ, ◌≤◌, IfOk, OnOk, OnErr, Ok};
+ghost use Rattle.im_types.specs.Types.{Outcome, Confirm, bounds};
 ghost use Rattle.im_session.specs.Serving.{CommandRefused, CommandServed};
 
 use im_checkpoint::TurnDone;

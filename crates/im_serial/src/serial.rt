@@ -1,9 +1,8 @@
 //! A script's requests, served one after another.
-ghost use Rattle.std.specs.Prelude.{◌≡◌, ◌≤◌, [], false, IsOk};
+ghost use Rattle.std.specs.Prelude.{◌≡◌, ◌≤◌, false, [], IsOk};
 ghost use Rattle.im_session.specs.Kept.{IsFresh};
-ghost use Rattle.im_serial.specs.Begun.{KeepsOnce};
+ghost use Rattle.im_serial.specs.{Begun.KeepsOnce, Serving.seen_by, Serving.SerialOn, Serving.ServedScript};
 ghost use Rattle.im_serial.specs.Once.{HasServedNothing, ServedOnce, ServesOnceOn};
-ghost use Rattle.im_serial.specs.Serving.{SerialOn, ServedScript, seen_by};
 
 use crate::server::{Desk, Server};
 use im_disk::Disk;

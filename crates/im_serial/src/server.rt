@@ -1,17 +1,9 @@
 //! A session that serves requests one after another, and prints their lines.
-ghost use Rattle.std.specs.Prelude.{◌≡◌, ℕ, [], List, Some, OnOk, IfOk, length, map, slice_get};
-ghost use Rattle.im_types.specs.declared.commands.Command.{Command};
-ghost use Rattle.im_types.specs.declared.operations.Entry.TheVariants.{Waiting};
-ghost use Rattle.im_types.specs.declared.operations.Waiter.{Waiter};
-ghost use Rattle.im_types.specs.Contents.{Contents};
-ghost use Rattle.im_types.specs.Memory.{IsMemory};
-ghost use Rattle.im_types.specs.Run.{after};
-ghost use Rattle.im_text.specs.Printing.{PrintsMore, PrintsNows, Pushes, now_line, nows, told_line};
-ghost use Rattle.im_text.specs.Printing.{who_of};
-ghost use Rattle.im_serial.specs.declared.waits.Mark.TheVariants.{Here};
-ghost use Rattle.im_serial.specs.Noted.{AreKnown, AreLast, NotesMore, noted_if, mark_place};
-ghost use Rattle.im_serial.specs.Once.{done_line};
-ghost use Rattle.im_serial.specs.Serving.{ServedBy};
+ghost use Rattle.std.specs.Prelude.{◌≡◌, ℕ, List, [], map, length, IfOk, OnOk, slice_get, Some};
+ghost use Rattle.im_types.specs.Types.{Waiter, Waiting, Command, Contents, IsMemory, after};
+ghost use Rattle.im_text.specs.Printing.{now_line, nows, PrintsMore, PrintsNows, Pushes, told_line, who_of};
+ghost use Rattle.im_serial.specs.{declared.waits.Mark.TheVariants.Here, Once.done_line, Serving.ServedBy};
+ghost use Rattle.im_serial.specs.Noted.{AreKnown, AreLast, mark_place, noted_if, NotesMore};
 
 use crate::notes::WaitNote;
 use crate::past::make_done;

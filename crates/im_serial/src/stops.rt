@@ -1,11 +1,8 @@
 //! Runs of a script that are stopped, and gone on with. This is a client's view of [`serial_once_on`].
-ghost use Rattle.std.specs.Prelude.{◌≡◌, ◌≤◌, List, ℕ};
-ghost use Rattle.im_types.specs.declared.sizes.Limits.{Limits};
-ghost use Rattle.im_types.specs.Meaning.{Means};
-ghost use Rattle.im_disk.specs.Since.{LeavesNow};
-ghost use Rattle.im_serial.specs.Asked.{Wanted, wanted_of};
-ghost use Rattle.im_serial.specs.Begun.{new_memory, HasComeTo, HasDone};
-ghost use Rattle.im_session.specs.Carrying.{LedBy};
+ghost use Rattle.std.specs.Prelude.{◌≡◌, ℕ, ◌≤◌, List};
+ghost use Rattle.im_types.specs.Types.{Limits, Means};
+ghost use Rattle.{im_disk.specs.Since.LeavesNow, im_session.specs.Carrying.LedBy};
+ghost use Rattle.im_serial.specs.{Asked.Wanted, Asked.wanted_of, Begun.HasComeTo, Begun.HasDone, Begun.new_memory};
 
 use crate::serial::serial_once_on;
 use im_disk::{Crash, FuseDisk, MemDisk, Mode};

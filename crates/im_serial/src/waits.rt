@@ -1,15 +1,10 @@
 //! The requests that had to wait, and what is kept for them.
-ghost use Rattle.std.specs.Prelude.{◌≡◌, ◌≤◌, ◌+◌, ◌++◌, ℕ, List, Some, true, length, map, slice_get, OnOk};
-ghost use Rattle.std.specs.Prelude.{MatchResult};
-ghost use Rattle.im_types.specs.declared.commands.Command.{Command};
-ghost use Rattle.im_types.specs.declared.operations.Entry.TheVariants.{Waiting};
-ghost use Rattle.im_types.specs.declared.operations.Waiter.{Waiter};
-ghost use Rattle.im_types.specs.Contents.{Contents};
-ghost use Rattle.im_types.specs.Memory.{IsMemory};
-ghost use Rattle.im_types.specs.Run.{after};
+ghost use Rattle.std.specs.Prelude.{◌≡◌, ℕ, ◌+◌, ◌≤◌, true, List, ◌++◌, map, length, OnOk, slice_get, MatchResult};
+ghost use Rattle.std.specs.Prelude.{Some};
+ghost use Rattle.im_types.specs.Types.{Waiter, Waiting, Command, Contents, IsMemory, after};
 ghost use Rattle.im_text.specs.Printing.{who_of};
 ghost use Rattle.im_serial.specs.declared.waits.Mark.TheVariants.{Here};
-ghost use Rattle.im_serial.specs.Noted.{AreKnown, AreLast, IsLearnt, Learns, entered, noted_if, mark_place, noted_by};
+ghost use Rattle.im_serial.specs.Noted.{AreKnown, AreLast, entered, IsLearnt, Learns, mark_place, noted_by, noted_if};
 ghost use Rattle.im_serial.specs.Noted.{with_entry};
 
 use crate::notes::WaitNote;

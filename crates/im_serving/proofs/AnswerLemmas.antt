@@ -1,23 +1,13 @@
 -- The answers to an element's requests, in what its port has seen of the trace. (Own.)
-use Rattle.std.proofs.Common.{◌≡◌, ◌∙◌, ◌⊎◌, inl, inr, ℕ, zero, suc, ◌+◌, ◌≤◌, List, [], ◌∷◌, ◌++◌, arith, refl, sym, ap, subst, length}
-use Rattle.std.proofs.Common.{append-nil, append_assoc, length-append, slice_set}
-use Rattle.std.specs.Prelude.{Result, Ok}
-use mathlib.Core.List.{IsPrefix}
-use Rattle.im_types.specs.declared.operations.Op.{Op}
-use Rattle.im_types.specs.declared.operations.Entry.{Entry}
-use Rattle.im_types.specs.declared.commands.Line.{Line}
-use Rattle.im_types.specs.declared.commands.Command.{Command}
-use Rattle.im_types.specs.declared.commands.Outcome.{Outcome}
-use Rattle.im_types.specs.declared.commands.Call.TheVariants.{Command as Commands}
-use Rattle.im_types.specs.declared.commands.Command.TheVariants.{Request as Asks}
-use Rattle.im_types.specs.declared.commands.Outcome.TheVariants.{Entry as Tells}
-use Rattle.im_types.specs.declared.refusals.Refusal.{Refusal}
-use Rattle.im_controller.specs.Lines.{GoesOnTo, line_of}
-use Rattle.im_controller.specs.Log.{ReceiptState, FoundState, SeesReceipt}
-use Rattle.im_controller.specs.Waits.{SeesEntry}
+use Rattle.std.proofs.Common.{◌≡◌, ℕ, zero, suc, ◌+◌, ◌≤◌, ◌⊎◌, List, [], ◌∷◌, ◌++◌, length, slice_set, Ok, Result, sym}
+use Rattle.std.proofs.Common.{refl, ap, ◌∙◌, subst, inl, inr, append_assoc, append-nil, arith, length-append}
+use Rattle.im_types.specs.Types.{Entry, Op, Command, Outcome, Line, Asks, Tells, Commands, Refusal}
 use Rattle.im_trace.proofs.ChainLemmas.{prefix-trans}
-use Rattle.im_serving.specs.Numbers.{Noted}
-use Rattle.im_serving.specs.Serving.{HasAnswers, AreFound, HasAsked, Looked, StandIn, asked_line, asked_lines, found_line}
+use Rattle.im_controller.specs.{Lines.GoesOnTo, Lines.line_of, Waits.SeesEntry}
+use Rattle.im_controller.specs.Log.{FoundState, ReceiptState, SeesReceipt}
+use Rattle.im_serving.specs.{Numbers.Noted, Serving.AreFound, Serving.asked_line, Serving.asked_lines}
+use Rattle.im_serving.specs.{Serving.found_line, Serving.HasAnswers, Serving.HasAsked, Serving.Looked, Serving.StandIn}
+use mathlib.Core.List.{IsPrefix}
 
 -- ---- lines that stand in a trace
 

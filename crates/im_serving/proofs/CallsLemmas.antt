@@ -1,24 +1,14 @@
 -- The calls that an element's server makes. (Own.)
-use Rattle.std.proofs.Common.{◌≡◌, ◌∙◌, ℕ, zero, suc, ◌+◌, ◌≤◌, ◌<◌, Bool, true, false, List, [], ◌∷◌, ◌++◌, arith}
-use Rattle.std.proofs.Common.{refl, sym, ap, subst, length, append-nil}
-use Rattle.std.specs.Prelude.{Result, Ok, Err, Some, count_by, cond, slice_get, if◌then◌else◌}
-use mathlib.Core.List.{IsPrefix}
-use Rattle.im_types.specs.declared.operations.Op.{Op}
-use Rattle.im_types.specs.declared.operations.Entry.{Entry}
-use Rattle.im_types.specs.declared.commands.Line.{Line}
-use Rattle.im_types.specs.declared.commands.Call.{Call}
-use Rattle.im_types.specs.declared.commands.Call.TheVariants.{Command as Commands, Collect}
-use Rattle.im_types.specs.declared.commands.Command.TheVariants.{Request as Asks, Confirm}
-use Rattle.im_types.specs.declared.commands.Outcome.{Outcome}
-use Rattle.im_types.specs.declared.refusals.Refusal.{Refusal}
-use Rattle.im_types.specs.Refusals.{is_of_numbers}
-use Rattle.im_controller.specs.Lines.{LineCounts, counts_after, left_lines, line_of}
-use Rattle.im_controller.specs.State.{PortState}
-use Rattle.im_serving.specs.declared.intent.Intent.{Intent}
-use Rattle.im_serving.specs.declared.intent.Intent.TheVariants.{Request, Glance}
-use Rattle.im_serving.specs.Serving.{ops_of, requests}
-use Rattle.im_serving.specs.Calls.{IsOwnCall, MakesOnly}
+use Rattle.std.proofs.Common.{◌≡◌, ℕ, zero, suc, ◌+◌, ◌<◌, ◌≤◌, Bool, true, false, cond, List, [], ◌∷◌, ◌++◌, length}
+use Rattle.std.proofs.Common.{if◌then◌else◌, slice_get, Some, Ok, Err, count_by, Result, sym, refl, ap, ◌∙◌, subst}
+use Rattle.std.proofs.Common.{append-nil, arith}
+use Rattle.im_types.specs.Types.{Entry, Op, Outcome, Call, Line, Asks, Confirm, Commands, Collect, Refusal}
+use Rattle.im_types.specs.Types.{is_of_numbers}
+use Rattle.im_controller.specs.{Lines.counts_after, Lines.left_lines, Lines.line_of, Lines.LineCounts, State.PortState}
 use Rattle.im_serving.proofs.GlanceLemmas.{ops_more}
+use Rattle.im_serving.specs.{Calls.IsOwnCall, Calls.MakesOnly, Serving.ops_of, Serving.requests}
+use Rattle.im_serving.specs.declared.intent.Intent.{Intent, TheVariants.Glance, TheVariants.Request}
+use mathlib.Core.List.{IsPrefix}
 
 -- ---- one of a list's first elements
 

@@ -1,9 +1,13 @@
 -- Which values of a controller may cross threads. Part by part: one search through all of them runs out of steps.
 use denote.RattleType.{RattleType}
 use denote.Param.Send.{IsSend, IsSync, sendable}
+use Rattle.core.proofs.{ledger.Sent.book_send, ledger.Sent.share_send, snapshot.Sent.snapshot_send}
+use Rattle.logbook.proofs.tokens.{Pen.TheSendSync.the_send as pen_send, Seen.TheSendSync.the_send as seen_send}
+use Rattle.logbook.proofs.word.Word.TheSendSync.{the_send as word_send}
 use Rattle.std.proofs.Crossing.{crosses}
-use Rattle.core.proofs.ledger.Sent.{book_send, share_send}
-use Rattle.core.proofs.snapshot.Sent.{snapshot_send}
+use Rattle.im_glass.proofs.glance.Glance.TheSendSync.{the_send as glance_send}
+use Rattle.im_glass.proofs.pane.Pane.TheSendSync.{the_send as pane_send}
+use Rattle.im_planning.proofs.plan.Plan.TheSendSync.{the_send as plan_send}
 use Rattle.im_disk.specs.declared.disk.Disk as disk
 use Rattle.im_trace.specs.declared.name.Name as name
 use Rattle.im_memory.specs.contracts.memory.Memory as Memory
@@ -22,11 +26,6 @@ use Rattle.im_queue.specs.contracts.servers.Servers as Servers
 use Rattle.im_trace.specs.contracts.books.Reserve as Reserve
 use Rattle.im_trace.specs.contracts.books.Tally as Tally
 use Rattle.im_controller.specs.contracts.ports.Port as Port
-use Rattle.logbook.proofs.tokens.Seen.TheSendSync.{the_send as seen_send}
-use Rattle.logbook.proofs.tokens.Pen.TheSendSync.{the_send as pen_send}
-use Rattle.logbook.proofs.word.Word.TheSendSync.{the_send as word_send}
-use Rattle.im_glass.proofs.pane.Pane.TheSendSync.{the_send as pane_send}
-use Rattle.im_planning.proofs.plan.Plan.TheSendSync.{the_send as plan_send}
 use Rattle.im_controller.specs.contracts.shared.Shared as Shared
 use Rattle.im_queue.specs.contracts.inbox.Inbox as Inbox
 use Rattle.im_serving.specs.contracts.numbers.ServedNumbers as ServedNumbers
@@ -39,7 +38,6 @@ use Rattle.im_serving.specs.contracts.glances.Glances as Glances
 use Rattle.im_serving.specs.contracts.parts.ServerStart as ServerStart
 use Rattle.im_serving.specs.contracts.parts.Done as Done
 use Rattle.im_serving.specs.contracts.running.Stopped as Stopped
-use Rattle.im_glass.proofs.glance.Glance.TheSendSync.{the_send as glance_send}
 use Rattle.im_queue.specs.contracts.turns.Turns as Turns
 use Rattle.im_queue.specs.contracts.bell.Bell as Bell
 use Rattle.im_controller.specs.contracts.controller.Controller as Controller

@@ -1,20 +1,14 @@
 -- What becomes of elements that are served all at once. (Own.)
-use Rattle.std.proofs.Common.{◌≡◌, ◌∙◌, ◌⊎◌, inl, inr, Bool, true, false, List, [], ◌∷◌, ◌++◌, arith, refl, sym, ap}
-use Rattle.std.proofs.Common.{subst, length}
-use Rattle.std.specs.Prelude.{Result, Ok, Err, OnOk, MatchResult}
-use mathlib.Core.List.{IsPrefix}
-use Rattle.im_types.specs.declared.commands.Line.{Line}
-use Rattle.im_types.specs.Contents.{Contents}
-use Rattle.im_types.specs.declared.refusals.Refusal.TheVariants.{NoMemory}
-use Rattle.im_pipes.specs.Ends.{PipeEnd, PipeId}
-use Rattle.im_serving.specs.declared.intent.Intent.{Intent}
-use Rattle.im_serving.specs.Calls.{IsOwnCall, MakesOnly}
+use Rattle.std.proofs.Common.{◌≡◌, Bool, true, false, ◌⊎◌, List, [], ◌∷◌, ◌++◌, length, OnOk, Ok, Err, Result}
+use Rattle.std.proofs.Common.{MatchResult, sym, refl, ap, ◌∙◌, subst, inl, inr, arith}
+use Rattle.im_types.specs.Types.{Line, NoMemory, Contents}
+use Rattle.{im_pipes.specs.Ends.PipeEnd, im_pipes.specs.Ends.PipeId, im_trace.proofs.ChainLemmas.prefix-trans}
+use Rattle.im_serving.proofs.{CallsLemmas.makes_more, CallsLemmas.ops_longer, GlanceLemmas.begun_more}
+use Rattle.im_serving.specs.{Calls.IsOwnCall, Calls.MakesOnly, declared.intent.Intent.Intent}
+use Rattle.im_serving.specs.Elements.{AreEnded, Asked, Deeds, End, HasSent, HasStopped, IsEnded, IsUnserved}
+use Rattle.im_serving.specs.Elements.{ServesIntents}
 use Rattle.im_serving.specs.Serving.{AreDone, AreGlanced, HasBegun, ops_of}
-use Rattle.im_serving.specs.Elements.{Deeds, Asked, End, ServesIntents, IsEnded, AreEnded, IsUnserved, HasStopped}
-use Rattle.im_serving.specs.Elements.{HasSent}
-use Rattle.im_trace.proofs.ChainLemmas.{prefix-trans}
-use Rattle.im_serving.proofs.CallsLemmas.{makes_more, ops_longer}
-use Rattle.im_serving.proofs.GlanceLemmas.{begun_more}
+use mathlib.Core.List.{IsPrefix}
 
 from_none : {T E : Type 0} (r : Result T E) (P : List Intent → Type 0) (Q : Type 0) (before : List Intent) → before
     ≡ [] → OnOk r (P before → Q) → OnOk r (P [] → Q)

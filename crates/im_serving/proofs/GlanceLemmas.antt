@@ -1,31 +1,17 @@
 -- What an element saw, and what was done for it. (Own.)
-use Rattle.std.proofs.Common.{◌≡◌, ◌≤◌, ◌∙◌, ℕ, ◌+◌, suc, All, List, [], ◌∷◌, ◌++◌, arith, refl, sym, ap, subst, length}
-use Rattle.std.proofs.Common.{map, length-append}
-use Rattle.std.specs.Prelude.{Option, None, Some, Result, Ok, Err, OnOk, OnErr}
-use Rattle.std.proofs.lemmas.List.{append-nil, map-append}
-use Rattle.std.proofs.lemmas.List.Elements.{All-append, All-cons, All-nil}
-use mathlib.Core.List.{IsPrefix}
-use Rattle.im_types.specs.Contents.{Contents}
-use Rattle.im_types.specs.Changes.{opening, shown_by, value_after}
-use Rattle.im_types.specs.Trace.{IsLegal}
-use Rattle.im_types.specs.declared.changes.Change.{Change}
-use Rattle.im_types.specs.declared.operations.Op.{Op}
-use Rattle.im_types.specs.declared.operations.Entry.{Entry}
-use Rattle.im_types.specs.declared.commands.Line.{Line}
-use Rattle.im_types.specs.declared.commands.Command.{Command}
-use Rattle.im_types.specs.declared.commands.Outcome.{Outcome}
-use Rattle.im_types.specs.declared.commands.Call.TheVariants.{Command as Commands}
-use Rattle.im_types.specs.declared.commands.Command.TheVariants.{Request as Asks}
-use Rattle.im_types.specs.declared.commands.Outcome.TheVariants.{Entry as Tells}
-use Rattle.im_controller.specs.Lines.{EndsIn, line_of}
-use Rattle.im_controller.specs.State.{PortState}
+use Rattle.std.proofs.Common.{◌≡◌, ℕ, suc, ◌+◌, ◌≤◌, List, [], ◌∷◌, ◌++◌, map, length, OnOk, OnErr, Some, None, Ok, Err}
+use Rattle.std.proofs.Common.{All, Option, Result, sym, refl, ap, ◌∙◌, subst, append-nil, arith, length-append}
+use Rattle.std.proofs.lemmas.List.{Elements.All-append, Elements.All-cons, Elements.All-nil, map-append}
+use Rattle.im_types.specs.Types.{Entry, Op, Command, Outcome, Line, Asks, Tells, Commands, Contents, IsLegal}
+use Rattle.im_types.specs.Types.{value_after, opening, shown_by, Change}
 use Rattle.im_trace.proofs.ChainLemmas.{prefix-trans}
-use Rattle.im_serving.specs.declared.glances.Glanced.{Glanced}
-use Rattle.im_serving.specs.declared.numbers.ServedNumbers.{ServedNumbers}
-use Rattle.im_serving.specs.declared.intent.Intent.{Intent}
-use Rattle.im_serving.specs.declared.intent.Intent.TheVariants.{Request, Glance}
-use Rattle.im_serving.specs.Serving.{AreDone, AreGlanced, HasAsked, HasBegun, HasLearnt, IsGlanced, Looked, ops_of, requests, sites}
+use Rattle.im_controller.specs.{Lines.EndsIn, Lines.line_of, State.PortState}
 use Rattle.im_serving.proofs.AnswerLemmas.{answered_as, answered_more, answered_on, asked_count, found_length}
+use Rattle.im_serving.specs.declared.{glances.Glanced.Glanced, numbers.ServedNumbers.ServedNumbers}
+use Rattle.im_serving.specs.declared.intent.Intent.{Intent, TheVariants.Glance, TheVariants.Request}
+use Rattle.im_serving.specs.Serving.{AreDone, AreGlanced, HasAsked, HasBegun, HasLearnt, IsGlanced, Looked, ops_of}
+use Rattle.im_serving.specs.Serving.{requests, sites}
+use mathlib.Core.List.{IsPrefix}
 
 -- ---- what was seen
 

@@ -1,7 +1,5 @@
 -- What was sent is a beginning of what was to be sent. (Own.)
-use Rattle.std.proofs.Common.{◌≡◌, ℕ, List, ◌++◌, ap, ◌∙◌}
-use Rattle.std.specs.Prelude.{take, drop}
-use Rattle.std.proofs.lemmas.List.{take-append-drop}
+use Rattle.std.proofs.Common.{◌≡◌, ℕ, List, ◌++◌, take, drop, ap, ◌∙◌, take-append-drop}
 use Rattle.im_serving.specs.declared.intent.Intent.{Intent}
 use mathlib.Core.List.{IsPrefix}
 

@@ -1,18 +1,13 @@
 -- What is told of earlier scripts. (Own.)
-use Rattle.std.proofs.Common.{◌≡◌, ◌∙◌, ◌⊎◌, ⊎_elim, ℕ, suc, ◌+◌, ◌≤◌, ◌<◌, List, [], ◌∷◌, ◌++◌, arith, refl, sym, ap}
-use Rattle.std.proofs.Common.{subst, append-nil, append_assoc, length, length-append}
-use Rattle.std.specs.Prelude.{Option, None, Some}
-use mathlib.Core.List.{IsPrefix}
-use Rattle.im_types.specs.declared.operations.Entry.{Entry}
-use Rattle.im_types.specs.declared.commands.Line.{Line}
-use Rattle.im_controller.specs.Lines.{GoesOnTo}
-use Rattle.im_serving.specs.declared.earlier.EarlierAnswer.{EarlierAnswer}
-use Rattle.im_serving.specs.declared.numbers.ServedNumbers.{ServedNumbers}
-use Rattle.im_serving.specs.Earlier.{ToldAlso, answers_from}
-use Rattle.im_serving.specs.Serving.{StandIn, found_line}
-use Rattle.im_serving.specs.Told.{AreAnswersIn, AreSameNumbers, IsToldBelow, TellsEarlier, TellsNext}
+use Rattle.std.proofs.Common.{◌≡◌, ℕ, suc, ◌+◌, ◌<◌, ◌≤◌, ◌⊎◌, List, [], ◌∷◌, ◌++◌, length, Some, None, Option, sym}
+use Rattle.std.proofs.Common.{refl, ap, ◌∙◌, subst, ⊎_elim, append_assoc, append-nil, arith, length-append}
+use Rattle.{im_types.specs.Types.Entry, im_types.specs.Types.Line, im_controller.specs.Lines.GoesOnTo}
 use Rattle.im_trace.proofs.ChainLemmas.{prefix-trans}
 use Rattle.im_serving.proofs.AnswerLemmas.{goes_has, goes_longer, stand_longer}
+use Rattle.im_serving.specs.declared.{earlier.EarlierAnswer.EarlierAnswer, numbers.ServedNumbers.ServedNumbers}
+use Rattle.im_serving.specs.{Earlier.answers_from, Earlier.ToldAlso, Serving.found_line, Serving.StandIn}
+use Rattle.im_serving.specs.Told.{AreAnswersIn, AreSameNumbers, IsToldBelow, TellsEarlier, TellsNext}
+use mathlib.Core.List.{IsPrefix}
 
 -- ---- what someone was told
 

@@ -1,14 +1,7 @@
 -- The calls that an element's server makes. (Own.)
-use Rattle.std.specs.Prelude.{◌≡◌, ◌<◌, ℕ, ◌+◌, Bool, false, List, Some, Result, length, slice_get}
-use Rattle.im_types.specs.declared.operations.Op.{Op}
-use Rattle.im_types.specs.declared.commands.Line.{Line}
-use Rattle.im_types.specs.declared.commands.Call.{Call}
-use Rattle.im_types.specs.declared.commands.Call.TheVariants.{Command as Commands, Collect}
-use Rattle.im_types.specs.declared.commands.Command.TheVariants.{Request as Asks, Confirm}
-use Rattle.im_types.specs.declared.commands.Outcome.{Outcome}
-use Rattle.im_types.specs.declared.refusals.Refusal.{Refusal}
-use Rattle.im_controller.specs.Lines.{line_of}
-use Rattle.im_controller.specs.State.{PortState}
+use Rattle.std.specs.Prelude.{◌≡◌, ℕ, ◌+◌, ◌<◌, Bool, false, List, length, slice_get, Some, Result}
+use Rattle.im_types.specs.Types.{Op, Outcome, Call, Line, Asks, Confirm, Commands, Collect, Refusal}
+use Rattle.im_controller.specs.{Lines.line_of, State.PortState}
 use Rattle.im_serving.specs.declared.numbers.ServedNumbers.{ServedNumbers}
 
 -- A call of an element's server that is to ask for these operations, under the numbers from the first on: one of them

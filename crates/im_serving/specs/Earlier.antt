@@ -1,6 +1,6 @@
 -- What someone is told of earlier scripts. (Own.)
-use Rattle.std.specs.Prelude.{◌≡◌, ℕ, suc, List, [], ◌∷◌, ◌++◌, Option, None, Some}
-use Rattle.im_types.specs.declared.operations.Entry.{Entry}
+use Rattle.std.specs.Prelude.{◌≡◌, ℕ, suc, List, [], ◌∷◌, ◌++◌, Some, None, Option}
+use Rattle.im_types.specs.Types.{Entry}
 use Rattle.im_serving.specs.declared.earlier.EarlierAnswer.{EarlierAnswer}
 
 -- someone was told these answers more, if what it was told is known

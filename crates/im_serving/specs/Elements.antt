@@ -1,19 +1,11 @@
 -- What becomes of elements that are all served at once. (Own.)
-use Rattle.std.specs.Prelude.{◌≡◌, ◌≤◌, ℕ, ◌+◌, Bool, true, List, [], ◌∷◌, Option, Result, Err, OnOk, length}
-use mathlib.Core.List.{IsPrefix}
-use Rattle.im_types.specs.declared.changes.Change.{Change}
-use Rattle.im_types.specs.declared.commands.Line.{Line}
-use Rattle.im_types.specs.declared.refusals.Refusal.{Refusal}
-use Rattle.im_types.specs.declared.refusals.Refusal.TheVariants.{NoMemory}
-use Rattle.im_types.specs.Contents.{Contents}
-use Rattle.im_controller.specs.State.{PortState}
-use Rattle.im_pipes.specs.Ends.{PipeEnd, PipeId}
-use Rattle.im_serving.specs.declared.numbers.ServedNumbers.{ServedNumbers}
-use Rattle.im_serving.specs.declared.intent.Intent.{Intent}
-use Rattle.im_serving.specs.declared.glances.Glanced.{Glanced}
-use Rattle.im_serving.specs.declared.glances.Glances.{Glances}
-use Rattle.im_serving.specs.Calls.{MakesOwn}
+use Rattle.std.specs.Prelude.{◌≡◌, ℕ, ◌+◌, ◌≤◌, Bool, true, List, [], ◌∷◌, length, OnOk, Err, Option, Result}
+use Rattle.im_types.specs.Types.{Line, Refusal, NoMemory, Contents, Change}
+use Rattle.{im_pipes.specs.Ends.PipeEnd, im_pipes.specs.Ends.PipeId, im_controller.specs.State.PortState}
+use Rattle.im_serving.specs.{Calls.MakesOwn, declared.glances.Glanced.Glanced, declared.glances.Glances.Glances}
+use Rattle.im_serving.specs.declared.{intent.Intent.Intent, numbers.ServedNumbers.ServedNumbers}
 use Rattle.im_serving.specs.Serving.{AreDone, AreGlanced, HasBegun, ops_of}
+use mathlib.Core.List.{IsPrefix}
 
 -- what was done for an element: its port with what it has seen of the trace, its numbers and entries, the number of the
 -- last request that was answered, what the element has seen, and its glances

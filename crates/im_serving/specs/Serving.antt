@@ -1,23 +1,11 @@
 -- What a server is told of its requests, and what it saw at its glances. (Own.)
-use Rattle.std.specs.Prelude.{◌≡◌, ◌⊎◌, ℕ, ◌+◌, suc, List, [], ◌∷◌, ◌++◌, length, map, Option, None, Some, Ok}
-use Rattle.std.specs.List.{All}
+use Rattle.std.specs.Prelude.{◌≡◌, ℕ, suc, ◌+◌, ◌⊎◌, List, [], ◌∷◌, ◌++◌, map, length, Some, None, Ok, All, Option}
+use Rattle.im_types.specs.Types.{Entry, Op, Line, Asks, Tells, Commands, Collect, Contents, IsLegal, value_after}
+use Rattle.im_types.specs.Types.{opening, shown_by, Change}
+use Rattle.im_controller.specs.{Lines.EndsIn, Lines.GoesOnTo, Lines.line_of, State.PortState}
+use Rattle.im_serving.specs.declared.{glances.Glanced.Glanced, numbers.ServedNumbers.ServedNumbers}
+use Rattle.im_serving.specs.declared.intent.Intent.{Intent, TheVariants.Glance, TheVariants.Request}
 use mathlib.Core.List.{IsPrefix}
-use Rattle.im_types.specs.declared.operations.Op.{Op}
-use Rattle.im_types.specs.declared.operations.Entry.{Entry}
-use Rattle.im_types.specs.declared.commands.Line.{Line}
-use Rattle.im_types.specs.declared.commands.Call.TheVariants.{Command as Commands, Collect}
-use Rattle.im_types.specs.declared.commands.Command.TheVariants.{Request as Asks}
-use Rattle.im_types.specs.declared.commands.Outcome.TheVariants.{Entry as Tells}
-use Rattle.im_types.specs.Contents.{Contents}
-use Rattle.im_types.specs.Trace.{IsLegal}
-use Rattle.im_types.specs.declared.changes.Change.{Change}
-use Rattle.im_types.specs.Changes.{opening, shown_by, value_after}
-use Rattle.im_serving.specs.declared.numbers.ServedNumbers.{ServedNumbers}
-use Rattle.im_serving.specs.declared.intent.Intent.{Intent}
-use Rattle.im_serving.specs.declared.intent.Intent.TheVariants.{Request, Glance}
-use Rattle.im_serving.specs.declared.glances.Glanced.{Glanced}
-use Rattle.im_controller.specs.Lines.{EndsIn, GoesOnTo, line_of}
-use Rattle.im_controller.specs.State.{PortState}
 
 -- a legal trace from the memory ends in the line of this element's request with this entry as its answer
 abbrev pub IsAskedIn : Contents → ℕ → ℕ → Op → Entry → Type 0

@@ -1,13 +1,9 @@
 -- What a server tells of earlier scripts before it confirms it. (Own.)
-use Rattle.std.specs.Prelude.{◌≡◌, ◌⊎◌, ◌<◌, ℕ, ◌+◌, suc, List, [], ◌∷◌, length, Option}
+use Rattle.std.specs.Prelude.{◌≡◌, ℕ, suc, ◌+◌, ◌<◌, ◌⊎◌, List, [], ◌∷◌, length, Option}
+use Rattle.im_types.specs.Types.{Entry, Waiting, Line}
+use Rattle.im_serving.specs.declared.{earlier.EarlierAnswer.EarlierAnswer, numbers.ServedNumbers.ServedNumbers}
+use Rattle.im_serving.specs.{Earlier.answers_from, Earlier.ToldAlso, Serving.found_line, Serving.StandIn}
 use mathlib.Core.List.{IsPrefix}
-use Rattle.im_types.specs.declared.operations.Entry.{Entry}
-use Rattle.im_types.specs.declared.operations.Entry.TheVariants.{Waiting}
-use Rattle.im_types.specs.declared.commands.Line.{Line}
-use Rattle.im_serving.specs.declared.earlier.EarlierAnswer.{EarlierAnswer}
-use Rattle.im_serving.specs.declared.numbers.ServedNumbers.{ServedNumbers}
-use Rattle.im_serving.specs.Earlier.{ToldAlso, answers_from}
-use Rattle.im_serving.specs.Serving.{StandIn, found_line}
 
 -- an entry below this number, if it is one of an earlier script, was told
 abbrev pub IsToldBelow : ℕ → ServedNumbers → Type 0

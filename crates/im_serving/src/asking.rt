@@ -1,14 +1,10 @@
 //! What a server asks of its port: an operation or a confirmation, again after each turn that the full journal needs.
-ghost use Rattle.std.specs.Prelude.{◌≡◌, ◌∷◌, [], Ok, IfOk};
-ghost use mathlib.Core.List.{IsPrefix};
-ghost use Rattle.im_types.specs.Trace.{IsLegal};
-ghost use Rattle.im_types.specs.declared.commands.Call.TheVariants.{Command as Commands};
-ghost use Rattle.im_types.specs.declared.commands.Command.TheVariants.{Request as Asks, Confirm};
+ghost use Rattle.std.specs.Prelude.{◌≡◌, [], ◌∷◌, IfOk, Ok};
+ghost use Rattle.im_types.specs.Types.{Asks, Confirm, Commands, IsLegal};
 ghost use Rattle.im_controller.specs.Lines.{EndsIn, GoesOnTo, line_of};
-ghost use Rattle.im_serving.specs.Calls.{MakesOnly};
-ghost use Rattle.im_serving.specs.Elements.{StayGlanced};
-ghost use Rattle.im_serving.specs.Serving.{IsAskedIn, asked_line};
-ghost use Rattle.im_serving.specs.Told.{IsToldBelow};
+ghost use Rattle.im_serving.specs.{Calls.MakesOnly, Elements.StayGlanced, Told.IsToldBelow};
+ghost use Rattle.im_serving.specs.Serving.{asked_line, IsAskedIn};
+ghost use mathlib.Core.List.{IsPrefix};
 
 use crate::context::Context;
 use crate::gate::Gate;

@@ -1,8 +1,6 @@
 //! What a server waits for: an answer, a place in its window, and all that it still keeps.
 ghost use Rattle.std.specs.Prelude.{◌≡◌, []};
-ghost use Rattle.im_serving.specs.Calls.{MakesOwn};
-ghost use Rattle.im_serving.specs.Elements.{StayGlanced};
-ghost use Rattle.im_serving.specs.Serving.{Looked};
+ghost use Rattle.im_serving.specs.{Calls.MakesOwn, Elements.StayGlanced, Serving.Looked};
 ghost use Rattle.im_serving.specs.Told.{AreSameNumbers, TellsEarlier};
 
 use crate::asking::confirm;

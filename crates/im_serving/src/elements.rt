@@ -1,5 +1,5 @@
 //! All elements at once. Each has one thread that sends and one that serves, beside the thread that keeps checkpoints.
-ghost use Rattle.std.specs.Prelude.{◌≡◌, ◌≤◌, [], IfOk, length, vec_capacity};
+ghost use Rattle.std.specs.Prelude.{◌≡◌, ◌≤◌, [], length, IfOk, vec_capacity};
 ghost use Rattle.im_serving.specs.Elements.{AreEnded};
 
 use crate::context::Context;

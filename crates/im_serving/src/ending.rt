@@ -1,8 +1,8 @@
 //! The end of an element's threads.
-ghost use Rattle.std.specs.Prelude.{◌≡◌, ◌⊎◌, ◌≤◌, [], Err, false, true, MatchResult, length, vec_capacity};
-ghost use mathlib.Core.List.{IsPrefix};
-ghost use Rattle.im_types.specs.declared.refusals.Refusal.TheVariants.{NoMemory};
+ghost use Rattle.std.specs.Prelude.{◌≡◌, ◌≤◌, true, false, ◌⊎◌, [], length, MatchResult, Err, vec_capacity};
+ghost use Rattle.im_types.specs.Types.{NoMemory};
 ghost use Rattle.im_serving.specs.Elements.{AreEnded, HasSent, IsEnded};
+ghost use mathlib.Core.List.{IsPrefix};
 
 use crate::parts::Done;
 use crate::running::{Pair, Running, Sends, Stopped};

@@ -1,7 +1,7 @@
 //! An element's glances, in their place among its requests.
-ghost use Rattle.std.specs.Prelude.{◌≡◌, ◌++◌, ◌∷◌, [], None, IfOk, OnOk, OnErr};
+ghost use Rattle.std.specs.Prelude.{◌≡◌, [], ◌∷◌, ◌++◌, IfOk, OnOk, OnErr, None};
+ghost use Rattle.im_types.specs.Types.{value_after, opening, shown_by};
 ghost use mathlib.Core.List.{IsPrefix};
-ghost use Rattle.im_types.specs.Changes.{opening, shown_by, value_after};
 
 use im_controller::{Controller, Name, Receipt, Shown};
 use im_disk::Disk;

@@ -1,5 +1,5 @@
 //! What a server knows of its element's numbers.
-ghost use Rattle.std.specs.Prelude.{◌≡◌, ◌<◌, ◌+◌, ℕ, IfOk, length};
+ghost use Rattle.std.specs.Prelude.{◌≡◌, ℕ, ◌+◌, ◌<◌, length, IfOk};
 ghost use Rattle.im_serving.specs.Numbers.{Noted};
 
 use im_types::{Entry, Refusal};

@@ -1,8 +1,6 @@
 //! What receipts say together: they are of one trace, and those of one port are in its own order.
-ghost use Rattle.std.specs.Prelude.{Ok, IfOk, [], ◌∷◌};
-ghost use Rattle.im_types.specs.declared.commands.Call.TheVariants.{Command as Commands};
-ghost use Rattle.im_types.specs.declared.commands.Command.TheVariants.{Request as Asks};
-ghost use Rattle.im_types.specs.Trace.{IsLegal};
+ghost use Rattle.std.specs.Prelude.{[], ◌∷◌, IfOk, Ok};
+ghost use Rattle.im_types.specs.Types.{Asks, Commands, IsLegal};
 ghost use Rattle.im_controller.specs.Lines.{AreInOrder, GoesOnTo, line_of};
 
 use im_controller::{Controller, Name, Port, Receipt};

@@ -1,5 +1,5 @@
 //! The thread that sends what an element asks for.
-ghost use Rattle.std.specs.Prelude.{◌≡◌, [], true};
+ghost use Rattle.std.specs.Prelude.{◌≡◌, true, []};
 ghost use mathlib.Core.List.{IsPrefix};
 
 use crate::intent::Intent;

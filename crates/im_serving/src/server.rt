@@ -1,10 +1,9 @@
 //! The thread that serves what an element asks for.
-ghost use Rattle.std.specs.Prelude.{◌≡◌, ◌≤◌, ◌+◌, ◌++◌, ◌∷◌, [], List, false, length, OnOk, OnErr};
-ghost use mathlib.Core.List.{IsPrefix};
-ghost use Rattle.im_serving.specs.Calls.{MakesNext, MakesOwn};
-ghost use Rattle.im_serving.specs.Elements.{ServesOn, StayGlanced, deeds_of};
+ghost use Rattle.std.specs.Prelude.{◌≡◌, ◌+◌, ◌≤◌, false, List, [], ◌∷◌, ◌++◌, length, OnOk, OnErr};
+ghost use Rattle.im_serving.specs.{Calls.MakesNext, Calls.MakesOwn, Told.TellsEarlier};
+ghost use Rattle.im_serving.specs.Elements.{deeds_of, ServesOn, StayGlanced};
 ghost use Rattle.im_serving.specs.Serving.{AreDone, HasAsked, Looked, ops_of};
-ghost use Rattle.im_serving.specs.Told.{TellsEarlier};
+ghost use mathlib.Core.List.{IsPrefix};
 
 use crate::asking::ask;
 use crate::awaiting::{await_rest, make_place};

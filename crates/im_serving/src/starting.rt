@@ -1,5 +1,5 @@
 //! The start of an element's threads.
-ghost use Rattle.std.specs.Prelude.{◌≡◌, ◌≤◌, [], false, IfOk, IfErr, MatchResult, length, vec_capacity};
+ghost use Rattle.std.specs.Prelude.{◌≡◌, ◌≤◌, false, [], length, IfOk, IfErr, MatchResult, vec_capacity};
 ghost use Rattle.im_pipes.specs.Ends.{AreNewEnds};
 ghost use Rattle.im_serving.specs.Elements.{HasSent, HasStopped, IsUnserved};
 

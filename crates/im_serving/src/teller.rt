@@ -5,9 +5,8 @@ use im_types::Unobserved;
 
 /// Someone who is told the answers that are kept for requests of earlier scripts, each before it is confirmed.
 pub trait Teller {
-    ghost use Rattle.std.specs.Prelude.{◌∷◌, [], List, Option};
-    ghost use Rattle.im_serving.specs.declared.earlier.EarlierAnswer.{EarlierAnswer};
-    ghost use Rattle.im_serving.specs.Earlier.{ToldAlso};
+    ghost use Rattle.std.specs.Prelude.{List, [], ◌∷◌, Option};
+    ghost use Rattle.im_serving.specs.{declared.earlier.EarlierAnswer.EarlierAnswer, Earlier.ToldAlso};
 
     /// What it was told, if that is known.
     ghost told: { Self → Option (List EarlierAnswer) };

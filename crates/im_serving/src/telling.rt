@@ -1,8 +1,7 @@
 //! Tells what a server found of earlier scripts (decision 870).
 ghost use Rattle.std.specs.Prelude.{◌≡◌, ◌<◌, true};
-ghost use Rattle.im_types.specs.declared.operations.Entry.TheVariants.{Waiting};
-ghost use Rattle.im_serving.specs.Numbers.{Noted};
-ghost use Rattle.im_serving.specs.Told.{TellsNext};
+ghost use Rattle.im_types.specs.Types.{Waiting};
+ghost use Rattle.im_serving.specs.{Numbers.Noted, Told.TellsNext};
 
 use crate::earlier::EarlierAnswer;
 use crate::numbers::ServedNumbers;

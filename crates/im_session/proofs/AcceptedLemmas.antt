@@ -1,11 +1,7 @@
 -- Commands that are each accepted in their turn, said in two ways.
-use Rattle.std.proofs.Common.{◌≡◌, ◌≤◌, Bool, true, false, List, [], ◌∷◌, length, refl, ap, arith}
-use Rattle.std.specs.Prelude.{None, Some, if◌then◌else◌}
-use Rattle.im_types.specs.declared.commands.Command.{Command}
-use Rattle.im_types.specs.Contents.{Contents}
-use Rattle.im_types.specs.Step.{step, is_accepted}
-use Rattle.im_types.specs.Meaning.{accept_each}
-use Rattle.im_types.specs.Run.{accepted, after}
+use Rattle.std.proofs.Common.{◌≡◌, ◌≤◌, Bool, true, false, List, [], ◌∷◌, length, if◌then◌else◌, Some, None, refl, ap}
+use Rattle.std.proofs.Common.{arith}
+use Rattle.im_types.specs.Types.{Command, Contents, step, is_accepted, after, accepted, accept_each}
 
 pub one_accepted : (m : Contents) (c : Command) → is_accepted m c ≡ true → accepted m (c ∷ []) ≡ c ∷ []
 one_accepted m c e = ap (λ (b : Bool). if b then c ∷ [] else []) e

@@ -1,30 +1,19 @@
 -- What each call of an engine comes to.
-use Rattle.std.proofs.Common.{◌≡◌, ◌⊎◌, inl, inr, ⊎_elim, ℕ, ◌+◌, ◌<◌, Bool, true, false, List, [], ◌∷◌, length}
-use Rattle.std.proofs.Common.{refl, sym, ◌∙◌, ap, ap₂, arith}
-use Rattle.std.specs.Prelude.{Result, Ok, Err, ◌&&◌, if◌then◌else◌}
-use Rattle.im_types.specs.declared.commands.Command.{Command}
-use Rattle.im_types.specs.declared.commands.Outcome.{Outcome}
-use Rattle.im_types.specs.declared.groups.Served.{Served}
-use Rattle.im_types.specs.declared.refusals.Refusal.{Refusal}
-use Rattle.im_types.specs.declared.refusals.Refusal.TheVariants.{Failed, JournalFull}
-use Rattle.im_types.specs.Step.{step, is_accepted}
-use Rattle.im_types.specs.Run.{after}
-use Rattle.im_laws.proofs.Tests.{true_or_false}
-use Rattle.im_disk.specs.declared.disk.Disk.{Ghosts}
-use Rattle.im_disk.specs.Moment.{Faults}
-use Rattle.im_groups.specs.Commands.{places}
-use Rattle.im_groups.proofs.CommandLemmas.{at-after, at-accepts}
-use Rattle.im_checkpoint.specs.declared.checkpoint.TurnDone.{TurnDone}
-use Rattle.im_checkpoint.proofs.Fitting.{none_or_some}
-use Rattle.im_engine.specs.State.{EngineState, MeansState, MeansEither, with_command}
-use Rattle.im_engine.specs.Answered.{Answered, SweepAnswered, TurnAnswered, is_device}
-use Rattle.im_engine.specs.Commands.{CommandsAnswered, ServesCommands, after_commands, commands_put}
-use Rattle.im_engine.proofs.Accepting.{accepted_answers}
-use Rattle.im_session.specs.Put.{sure_by, doubted_by, sure_of, doubted_of}
+use Rattle.std.proofs.Common.{◌≡◌, ℕ, ◌+◌, ◌<◌, Bool, true, false, ◌&&◌, ◌⊎◌, List, [], ◌∷◌, length, if◌then◌else◌, Ok}
+use Rattle.std.proofs.Common.{Err, Result, sym, refl, ap, ◌∙◌, ap₂, inl, inr, ⊎_elim, arith}
+use Rattle.im_types.specs.Types.{Command, Outcome, Served, Refusal, JournalFull, Failed, step, is_accepted, after}
+use Rattle.{im_laws.proofs.Tests.true_or_false, im_engine.proofs.Accepting.accepted_answers}
+use Rattle.im_disk.specs.{declared.Disk.Ghosts, Moment.Faults}
+use Rattle.im_groups.{proofs.CommandLemmas.at-accepts, proofs.CommandLemmas.at-after, specs.Commands.places}
+use Rattle.im_checkpoint.{proofs.Fitting.none_or_some, specs.declared.TurnDone.TurnDone}
+use Rattle.im_engine.specs.Answered.{Answered, is_device, SweepAnswered, TurnAnswered}
+use Rattle.im_engine.specs.Commands.{after_commands, commands_put, CommandsAnswered, ServesCommands}
+use Rattle.im_engine.specs.State.{EngineState, MeansEither, MeansState, with_command}
 use Rattle.im_session.proofs.AcceptedLemmas.{accepted_each, one_accepted}
-use Rattle.im_session.proofs.KeptLemmas.{Accepted, CallLeaves, GoesOn, all_of, none_of, puts_all, puts_none}
-use Rattle.im_session.proofs.KeptLemmas.{MeansWithOrWithout, rose_by, steady_by}
+use Rattle.im_session.proofs.KeptLemmas.{Accepted, all_of, CallLeaves, GoesOn, MeansWithOrWithout, none_of, puts_all}
+use Rattle.im_session.proofs.KeptLemmas.{puts_none, rose_by, steady_by}
 use Rattle.im_session.proofs.ServedLemmas.{not_device, undoubted, unsure}
+use Rattle.im_session.specs.Put.{doubted_by, doubted_of, sure_by, sure_of}
 
 -- ---- a command
 

@@ -1,17 +1,11 @@
 -- What each file left has, if the commands of a session keep it.
-use Rattle.std.proofs.Common.{◌≡◌, ◌+◌, ⊎_elim, ℕ, List, ◌++◌, length, take, sym, subst, arith, length-append}
-use Rattle.std.proofs.lemmas.List.{length-take-le}
-use Rattle.im_types.specs.declared.commands.Command.{Command}
-use Rattle.im_types.specs.Contents.{Contents}
-use Rattle.im_types.specs.Meaning.{Means}
-use Rattle.im_types.specs.Run.{after}
-use Rattle.im_disk.specs.declared.disk.Disk.{Ghosts}
-use Rattle.im_disk.specs.Since.{LeavesNow, LeavesOnly}
-use Rattle.im_disk.proofs.SinceLemmas.{leaves_weaker}
-use Rattle.im_engine.proofs.FilesMean.{means_one}
-use Rattle.im_session.specs.Kept.{Kept, MeansPrefix, SessionState}
-use Rattle.im_session.specs.Carrying.{LedBy, PrefixesKeep}
+use Rattle.std.proofs.Common.{◌≡◌, ℕ, ◌+◌, List, ◌++◌, length, take, sym, subst, ⊎_elim, arith, length-append}
+use Rattle.std.proofs.Common.{length-take-le}
+use Rattle.im_types.specs.Types.{Command, Contents, after, Means}
+use Rattle.{im_disk.proofs.SinceLemmas.leaves_weaker, im_engine.proofs.FilesMean.means_one}
+use Rattle.im_disk.specs.{declared.Disk.Ghosts, Since.LeavesNow, Since.LeavesOnly}
 use Rattle.im_session.proofs.KeptLemmas.{all_begins, beginning}
+use Rattle.im_session.specs.{Carrying.LedBy, Carrying.PrefixesKeep, Kept.Kept, Kept.MeansPrefix, Kept.SessionState}
 
 -- the commands that led to where a session began
 pub record BeganWith {D : Type 0} (P : List Command → Contents → Type 0) (s : SessionState D) : Type 0 where

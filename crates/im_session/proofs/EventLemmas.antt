@@ -1,46 +1,28 @@
 -- A run of events, one after another.
-use Rattle.std.proofs.Common.{◌≡◌, ◌⊎◌, ⊎_elim, ℕ, ◌+◌, ◌<◌, Bool, true, false, ◌&&◌, ◌||◌, List, [], ◌∷◌, ◌++◌, map}
-use Rattle.std.proofs.Common.{length, take, get_or, Result, Ok, Err, append_assoc, refl, sym, ◌∙◌, ap, ap₂, subst}
-use Rattle.std.proofs.Common.{arith, length-append}
-use Rattle.std.specs.Prelude.{not}
-use Rattle.std.proofs.lemmas.List.{append-nil, take_all, take-append-le, take_more, length-take-le}
-use Rattle.im_types.specs.declared.commands.Request.{Request}
-use Rattle.im_types.specs.declared.commands.Command.{Command}
-use Rattle.im_types.specs.declared.commands.Command.TheVariants.{Request as Asks}
-use Rattle.im_types.specs.declared.commands.Outcome.{Outcome}
-use Rattle.im_types.specs.declared.groups.Served.{Served}
-use Rattle.im_types.specs.declared.refusals.Refusal.{Refusal}
-use Rattle.im_types.specs.Contents.{Contents}
-use Rattle.im_types.specs.Step.{step, is_accepted}
-use Rattle.im_types.specs.Run.{after}
-use Rattle.im_laws.specs.Groups.{IsCounted}
-use Rattle.im_laws.proofs.RunLemmas.{after-append}
-use Rattle.im_laws.proofs.Tests.{true_false, true_or_false}
-use Rattle.im_disk.specs.declared.disk.Disk.{Ghosts}
-use Rattle.im_disk.specs.Since.{LeavesWithin}
-use Rattle.im_disk.proofs.SinceLemmas.{leaves_start, leaves_then}
-use Rattle.im_groups.specs.Ahead.{ServesPrefix}
-use Rattle.im_checkpoint.specs.declared.checkpoint.TurnDone.{TurnDone}
-use Rattle.im_checkpoint.proofs.Fitting.{none_or_some}
+use Rattle.std.proofs.Common.{◌≡◌, ℕ, ◌+◌, ◌<◌, Bool, true, false, not, ◌&&◌, ◌||◌, ◌⊎◌, List, [], ◌∷◌, ◌++◌, map}
+use Rattle.std.proofs.Common.{length, get_or, take, Ok, Err, Result, sym, refl, ap, ◌∙◌, subst, ap₂, ⊎_elim}
+use Rattle.std.proofs.Common.{append_assoc, append-nil, arith, length-append, length-take-le, take_all}
 use Rattle.arrayvec.specs.ArrayVec.{ArrayVec}
-use Rattle.im_engine.specs.State.{EngineState}
-use Rattle.im_engine.specs.Answered.{Answered, TurnAnswered, SweepAnswered}
-use Rattle.im_engine.specs.Groups.{reached_in, GroupAnswered}
-use Rattle.im_engine.specs.Commands.{CommandsAnswered, commands_put}
+use Rattle.std.proofs.lemmas.List.{take-append-le, take_more}
+use Rattle.im_types.specs.Types.{Request, Command, Outcome, Asks, Served, Refusal, Contents, step, is_accepted, after}
+use Rattle.im_laws.proofs.{RunLemmas.after-append, Tests.true_false, Tests.true_or_false}
+use Rattle.{im_laws.specs.Groups.IsCounted, im_groups.specs.Ahead.ServesPrefix}
+use Rattle.im_disk.proofs.SinceLemmas.{leaves_start, leaves_then}
+use Rattle.im_disk.specs.{declared.Disk.Ghosts, Since.LeavesWithin}
+use Rattle.im_checkpoint.{proofs.Fitting.none_or_some, specs.declared.TurnDone.TurnDone}
 use Rattle.im_engine.proofs.Requests.{all_served, put_is, requests_answered}
 use Rattle.im_engine.proofs.StepFaults.{step-no_device}
-use Rattle.im_session.specs.declared.events.Event.{Event}
-use Rattle.im_session.specs.declared.events.Event.TheVariants.{Command as Serve, Group as Together, Turn, Sweep}
-use Rattle.im_session.specs.declared.events.Answer.{Answer}
-use Rattle.im_session.specs.declared.events.Answer.TheVariants.{Served as Told, Grouped, Turned as TookTurn}
-use Rattle.im_session.specs.declared.events.Answer.TheVariants.{Swept as DidSweep}
-use Rattle.im_session.specs.Put.{sure_of, doubted_of}
-use Rattle.im_session.specs.Kept.{Kept, MeansPut, SessionState, session_of}
-use Rattle.im_session.specs.Keeping.{LeavesWhole}
-use Rattle.im_session.specs.Serving.{Rests, served_together}
-use Rattle.im_session.specs.Events.{EventAnswered, AnsweredInTurn, acknowledged, acknowledged_by, after_event}
-use Rattle.im_session.specs.Events.{after_events, has_fault, in_doubt, in_doubt_by, is_fault, MeansEvents}
+use Rattle.im_engine.specs.{Answered.Answered, Answered.SweepAnswered, Answered.TurnAnswered, Commands.commands_put}
+use Rattle.im_engine.specs.{Commands.CommandsAnswered, Groups.GroupAnswered, Groups.reached_in, State.EngineState}
 use Rattle.im_session.proofs.GroupLemmas.{FailsBy, group_puts, lost_fails, same_fails}
+use Rattle.im_session.specs.declared.events.Answer.{Answer, TheVariants.Grouped, TheVariants.Served as Told}
+use Rattle.im_session.specs.declared.events.Answer.{TheVariants.Swept as DidSweep, TheVariants.Turned as TookTurn}
+use Rattle.im_session.specs.{declared.events.Event.Event, Keeping.LeavesWhole, Put.doubted_of, Put.sure_of}
+use Rattle.im_session.specs.declared.events.Event.TheVariants.{Command as Serve, Group as Together, Sweep, Turn}
+use Rattle.im_session.specs.Events.{acknowledged, acknowledged_by, after_event, after_events, AnsweredInTurn}
+use Rattle.im_session.specs.Events.{EventAnswered, has_fault, in_doubt, in_doubt_by, is_fault, MeansEvents}
+use Rattle.im_session.specs.Kept.{Kept, MeansPut, session_of, SessionState}
+use Rattle.im_session.specs.Serving.{Rests, served_together}
 
 -- what holds of each event that can be answered so
 module _ {D : Type 0} (old new : EngineState D) (P : Event → Answer → Type 0)

@@ -1,31 +1,18 @@
 -- What the members of a group acknowledge.
-use Rattle.std.proofs.Common.{◌≡◌, ⊎_elim, ℕ, zero, suc, ◌<◌, Bool, true, false, ◌&&◌, ◌||◌, List, [], ◌∷◌, ◌++◌}
-use Rattle.std.proofs.Common.{length, map, Result, Ok, Err, refl, sym, ap, ap₂, ◌∙◌, arith, if◌then◌else◌}
-use Rattle.std.specs.Prelude.{nat_lt, ◌==◌, not}
+use Rattle.std.proofs.Common.{◌≡◌, ℕ, zero, suc, ◌<◌, Bool, true, false, not, ◌&&◌, ◌||◌, List, [], ◌∷◌, ◌++◌, map}
+use Rattle.std.proofs.Common.{length, if◌then◌else◌, nat_lt, ◌==◌, Ok, Err, Result, sym, refl, ap, ◌∙◌, ap₂, ⊎_elim}
+use Rattle.std.proofs.Common.{arith}
 use Rattle.std.proofs.lemmas.Bool.Decides.{nat_tests}
-use Rattle.im_types.specs.declared.commands.Request.{Request}
-use Rattle.im_types.specs.declared.commands.Command.{Command}
-use Rattle.im_types.specs.declared.commands.Command.TheVariants.{Request as Asks}
-use Rattle.im_types.specs.declared.commands.Outcome.{Outcome}
-use Rattle.im_types.specs.declared.groups.Served.{Served}
-use Rattle.im_types.specs.declared.refusals.Refusal.{Refusal}
-use Rattle.im_types.specs.declared.refusals.Refusal.TheVariants.{JournalFull, Device, Failed}
-use Rattle.im_types.specs.Contents.{Contents}
-use Rattle.im_types.specs.Step.{step}
-use Rattle.im_types.specs.Run.{after}
-use Rattle.im_types.specs.Meaning.{Reached}
-use Rattle.im_types.specs.Groups.{as_served, is_new, is_put, with_request, answer_of, reached_by_one, answers_of}
-use Rattle.im_types.specs.Groups.{puts_of}
+use Rattle.im_types.specs.Types.{Request, Command, Outcome, Asks, Served, Refusal, JournalFull, Device, Failed}
+use Rattle.im_types.specs.Types.{Contents, step, after, as_served, is_new, is_put, with_request, answer_of}
+use Rattle.im_types.specs.Types.{reached_by_one, answers_of, puts_of, Reached}
 use Rattle.im_laws.proofs.Tests.{true_false, true_or_false}
-use Rattle.im_engine.specs.State.{EngineState}
-use Rattle.im_engine.specs.Answered.{is_device}
-use Rattle.im_engine.specs.Groups.{reached_in, group_put, all_refused, answers_in, GroupAnswered}
-use Rattle.im_engine.proofs.Accepting.{Answers, accepted_answers}
-use Rattle.im_engine.proofs.StepFaults.{step-no_device}
-use Rattle.im_session.specs.Put.{sure_by, sure_of, doubted_of}
-use Rattle.im_session.specs.Serving.{served_answer}
-use Rattle.im_session.specs.Events.{says_device, has_device, acknowledged_members, reached_at}
+use Rattle.im_engine.proofs.{Accepting.accepted_answers, Accepting.Answers, StepFaults.step-no_device}
+use Rattle.im_engine.specs.{Answered.is_device, State.EngineState}
+use Rattle.im_engine.specs.Groups.{all_refused, answers_in, group_put, GroupAnswered, reached_in}
 use Rattle.im_session.proofs.ServedLemmas.{unsure}
+use Rattle.im_session.specs.Events.{acknowledged_members, has_device, reached_at, says_device}
+use Rattle.im_session.specs.{Put.doubted_of, Put.sure_by, Put.sure_of, Serving.served_answer}
 
 -- the command that a member puts on the disk
 abbrev put_by_one : Reached → Request → List Command

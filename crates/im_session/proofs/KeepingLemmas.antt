@@ -1,15 +1,11 @@
 -- What a session keeps as it goes on.
-use Rattle.std.proofs.Common.{⊎_elim, ℕ, ◌+◌, ◌≤◌, List, [], ◌++◌, length, refl, sym, subst, arith}
+use Rattle.std.proofs.Common.{ℕ, ◌+◌, ◌≤◌, List, [], ◌++◌, length, sym, refl, subst, ⊎_elim, append-nil, arith}
 use Rattle.std.proofs.Common.{length-append}
-use Rattle.std.proofs.Math.Seq.{take-append_seam}
-use Rattle.std.proofs.lemmas.List.{append-nil, take-append-le}
-use Rattle.im_types.specs.declared.commands.Command.{Command}
-use Rattle.im_types.specs.Meaning.{Means}
-use Rattle.im_types.specs.Run.{after}
-use Rattle.im_disk.specs.declared.disk.Disk.{Ghosts}
-use Rattle.im_disk.proofs.SinceLemmas.{leaves_start, only_now}
-use Rattle.im_session.specs.Kept.{Kept, MeansPut, SessionStart, SessionState}
+use Rattle.std.proofs.{lemmas.List.take-append-le, Math.Seq.take-append_seam}
+use Rattle.im_types.specs.Types.{Command, after, Means}
+use Rattle.im_disk.{proofs.SinceLemmas.leaves_start, proofs.SinceLemmas.only_now, specs.declared.Disk.Ghosts}
 use Rattle.im_session.specs.Keeping.{KeepsPut, KeptFrom, MeansFrom}
+use Rattle.im_session.specs.Kept.{Kept, MeansPut, SessionStart, SessionState}
 
 -- a file that means the memory after these commands has any number of them
 pub from_all : {D : Type 0} (start : SessionStart D) (put more : List Command) (least : ℕ) (file : List ℕ)

@@ -1,26 +1,18 @@
 -- What a call of its engine comes to for a session.
-use Rattle.std.proofs.Common.{◌≡◌, ◌⊎◌, inl, inr, ⊎_elim, ℕ, ◌+◌, true, false, List, [], ◌++◌, length, take}
-use Rattle.std.proofs.Common.{refl, sym, ◌∙◌, ap, ap₂, subst, arith, length-append, append_assoc}
-use Rattle.std.specs.Prelude.{Result, Ok, Err}
-use Rattle.std.proofs.lemmas.List.{append-nil, take_all, take-append-le}
-use Rattle.im_types.specs.declared.commands.Command.{Command}
-use Rattle.im_types.specs.declared.refusals.Refusal.{Refusal}
-use Rattle.im_types.specs.declared.refusals.Refusal.TheVariants.{Device}
-use Rattle.im_types.specs.Contents.{Contents}
-use Rattle.im_types.specs.Meaning.{Means}
-use Rattle.im_types.specs.Run.{accepted, after}
-use Rattle.im_laws.proofs.RunLemmas.{accepted-append, after-append}
-use Rattle.im_laws.proofs.Tests.{true_false}
-use Rattle.im_disk.specs.declared.disk.Disk.{Ghosts}
-use Rattle.im_disk.specs.Moment.{Faults, Left, Moment, Rises}
-use Rattle.im_disk.specs.Since.{LeavesWithin, LeavesNow}
+use Rattle.std.proofs.Common.{◌≡◌, ℕ, ◌+◌, true, false, ◌⊎◌, List, [], ◌++◌, length, take, Ok, Err, Result, sym, refl}
+use Rattle.std.proofs.Common.{ap, ◌∙◌, subst, ap₂, inl, inr, ⊎_elim, append_assoc, append-nil, arith, length-append}
+use Rattle.std.proofs.Common.{take_all}
+use Rattle.std.proofs.lemmas.List.{take-append-le}
+use Rattle.im_types.specs.Types.{Command, Refusal, Device, Contents, after, accepted, Means}
+use Rattle.im_laws.proofs.{RunLemmas.accepted-append, RunLemmas.after-append, Tests.true_false}
 use Rattle.im_disk.proofs.SinceLemmas.{leaves_now, leaves_start, leaves_then, leaves_weaker, left_now}
+use Rattle.im_disk.specs.{declared.Disk.Ghosts, Since.LeavesNow, Since.LeavesWithin}
+use Rattle.im_disk.specs.Moment.{Faults, Left, Moment, Rises}
+use Rattle.im_engine.specs.Leaving.{LeavesAfter, LeavesSince, LeavesState}
 use Rattle.im_engine.specs.State.{EngineState, MeansState}
-use Rattle.im_engine.specs.Leaving.{LeavesSince, LeavesAfter, LeavesState}
-use Rattle.im_session.specs.Kept.{Kept, MeansPrefix, MeansPut, SessionStart, session_of, start_at}
-use Rattle.im_session.specs.Keeping.{KeepsPut, LeavesWhole, MeansFrom}
-use Rattle.im_session.specs.Opening.{CanBegin}
 use Rattle.im_session.proofs.KeepingLemmas.{from_all}
+use Rattle.im_session.specs.{Keeping.KeepsPut, Keeping.LeavesWhole, Keeping.MeansFrom, Opening.CanBegin}
+use Rattle.im_session.specs.Kept.{Kept, MeansPrefix, MeansPut, session_of, SessionStart, start_at}
 
 -- each of the commands is accepted in its turn
 abbrev pub Accepted : Contents → List Command → Type 0

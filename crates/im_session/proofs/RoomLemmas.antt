@@ -1,13 +1,9 @@
 -- What turns that make room come to.
-use Rattle.std.proofs.Common.{◌≡◌, inl, inr, ⊎_elim, true, Result, Ok, Err, refl, sym, ◌∙◌, ap}
-use Rattle.im_types.specs.declared.refusals.Refusal.{Refusal}
-use Rattle.im_types.specs.declared.refusals.Refusal.TheVariants.{Device, Failed}
-use Rattle.im_checkpoint.specs.declared.checkpoint.TurnDone.{TurnDone}
-use Rattle.im_laws.proofs.Tests.{true_or_false}
-use Rattle.im_engine.specs.State.{EngineState}
-use Rattle.im_engine.specs.Answered.{TurnAnswered}
-use Rattle.im_session.specs.Kept.{SessionState, session_of}
-use Rattle.im_session.specs.Serving.{IsBroken, Rests}
+use Rattle.std.proofs.Common.{◌≡◌, true, Ok, Err, Result, sym, refl, ap, ◌∙◌, inl, inr, ⊎_elim}
+use Rattle.im_types.specs.Types.{Refusal, Device, Failed}
+use Rattle.{im_laws.proofs.Tests.true_or_false, im_checkpoint.specs.declared.TurnDone.TurnDone}
+use Rattle.im_engine.specs.{Answered.TurnAnswered, State.EngineState}
+use Rattle.im_session.specs.{Kept.session_of, Kept.SessionState, Serving.IsBroken, Serving.Rests}
 
 pub rests_none : {D : Type 0} (s : SessionState D) → Rests s s
 rests_none s = record { same = refl; memory = refl; count = refl }

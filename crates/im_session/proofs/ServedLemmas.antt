@@ -1,22 +1,13 @@
 -- What a served command comes to, for whoever holds a session.
-use Rattle.std.proofs.Common.{◌≡◌, ◌⊎◌, inl, inr, ⊎_elim, Bool, true, false, List, [], ◌∷◌, ◌++◌, refl, sym, ◌∙◌, ap}
-use Rattle.std.proofs.Common.{ap₂, subst}
-use Rattle.std.specs.Prelude.{Result, Ok, Err, IsOk, ◌&&◌, if◌then◌else◌}
-use Rattle.std.proofs.lemmas.List.{append-nil}
-use Rattle.im_types.specs.declared.commands.Command.{Command}
-use Rattle.im_types.specs.declared.commands.Outcome.{Outcome}
-use Rattle.im_types.specs.declared.refusals.Refusal.{Refusal}
-use Rattle.im_types.specs.declared.refusals.Refusal.TheVariants.{Device, Failed, JournalFull}
-use Rattle.im_types.specs.Contents.{Contents}
-use Rattle.im_types.specs.Step.{step, is_accepted}
-use Rattle.im_types.specs.Run.{accepted}
+use Rattle.std.proofs.Common.{◌≡◌, Bool, true, false, ◌&&◌, ◌⊎◌, List, [], ◌∷◌, ◌++◌, if◌then◌else◌, IsOk, Ok, Err}
+use Rattle.std.proofs.Common.{Result, sym, refl, ap, ◌∙◌, subst, ap₂, inl, inr, ⊎_elim, append-nil}
+use Rattle.im_types.specs.Types.{Command, Outcome, Refusal, JournalFull, Device, Failed, Contents, step, is_accepted}
+use Rattle.im_types.specs.Types.{accepted}
 use Rattle.im_laws.proofs.AcceptLemmas.{accepted-ok, unaccepted-leaves}
-use Rattle.im_laws.proofs.Tests.{true_or_false, true_false}
+use Rattle.im_laws.proofs.Tests.{true_false, true_or_false}
 use Rattle.im_checkpoint.proofs.Fitting.{none_or_some}
-use Rattle.im_engine.specs.State.{EngineState}
-use Rattle.im_engine.specs.Answered.{Answered, is_device}
-use Rattle.im_session.specs.Put.{doubted_by, sure_by}
-use Rattle.im_session.specs.Kept.{SessionState, session_of}
+use Rattle.im_engine.specs.{Answered.Answered, Answered.is_device, State.EngineState}
+use Rattle.im_session.specs.{Kept.session_of, Kept.SessionState, Put.doubted_by, Put.sure_by}
 use Rattle.im_session.specs.Serving.{CommandRefused, CommandServed, Rests, served_one}
 
 ok_err : (x : Outcome) (e : Refusal) → ◌≡◌ {A = Result Outcome Refusal} (Ok x) (Err e) → ⊥

@@ -1,13 +1,9 @@
 -- What the calls of a session put on its disk. (Own.)
 use Rattle.std.specs.Prelude.{Bool, List, [], ◌∷◌, ◌++◌, length, take, Result}
-use Rattle.im_types.specs.declared.commands.Command.{Command}
-use Rattle.im_types.specs.declared.commands.Outcome.{Outcome}
-use Rattle.im_types.specs.declared.refusals.Refusal.{Refusal}
-use Rattle.im_types.specs.Contents.{Contents}
+use Rattle.im_types.specs.Types.{Command, Outcome, Refusal, Contents}
 use Rattle.im_groups.specs.Commands.{commands_at}
-use Rattle.im_session.specs.Put.{PutList, sure_by, doubted_by, sure_of, doubted_of}
-use Rattle.im_session.specs.declared.calls.SessionCall.{SessionCall}
-use Rattle.im_session.specs.declared.calls.SessionCall.TheVariants.{Alone, Together}
+use Rattle.im_session.specs.declared.calls.SessionCall.{SessionCall, TheVariants.Alone, TheVariants.Together}
+use Rattle.im_session.specs.Put.{doubted_by, doubted_of, PutList, sure_by, sure_of}
 
 -- nothing was put yet
 abbrev pub nothing_put : PutList

@@ -1,26 +1,15 @@
 -- Events of a session: how they are answered, what is acknowledged of them, and what is in doubt.
-use Rattle.std.specs.Prelude.{◌≡◌, ℕ, ◌+◌, ◌≤◌, Bool, false, ◌||◌, List, [], ◌∷◌, ◌++◌, length, take, Ok, Err}
-use Rattle.std.specs.Prelude.{if◌then◌else◌}
-use Rattle.im_types.specs.declared.commands.Request.{Request}
-use Rattle.im_types.specs.declared.commands.Command.{Command}
-use Rattle.im_types.specs.declared.commands.Command.TheVariants.{Request as Asks}
-use Rattle.im_types.specs.declared.groups.Served.{Served}
-use Rattle.im_types.specs.declared.groups.Served.TheVariants.{Unserved, Done, Refused}
-use Rattle.im_types.specs.Contents.{Contents}
-use Rattle.im_types.specs.Run.{after}
-use Rattle.im_types.specs.Meaning.{Reached}
-use Rattle.im_types.specs.Groups.{puts_of}
-use Rattle.im_engine.specs.State.{EngineState}
-use Rattle.im_engine.specs.Answered.{Answered, TurnAnswered, SweepAnswered, is_device}
-use Rattle.im_engine.specs.Groups.{GroupAnswered}
-use Rattle.im_session.specs.declared.events.Event.{Event}
-use Rattle.im_session.specs.declared.events.Event.TheVariants.{Command as Serve, Group as Together, Turn, Sweep}
-use Rattle.im_session.specs.declared.events.Answer.{Answer}
-use Rattle.im_session.specs.declared.events.Answer.TheVariants.{Served as Told, Grouped, Turned as TookTurn}
-use Rattle.im_session.specs.declared.events.Answer.TheVariants.{Swept as DidSweep}
-use Rattle.im_session.specs.Put.{sure_by, doubted_by}
-use Rattle.im_session.specs.Kept.{MeansPut, SessionState, session_of}
-use Rattle.im_session.specs.Serving.{served_answer}
+use Rattle.std.specs.Prelude.{◌≡◌, ℕ, ◌+◌, ◌≤◌, Bool, false, ◌||◌, List, [], ◌∷◌, ◌++◌, length, take, if◌then◌else◌, Ok}
+use Rattle.std.specs.Prelude.{Err}
+use Rattle.im_types.specs.Types.{Request, Command, Asks, Served, Unserved, Done, Refused, Contents, after, puts_of}
+use Rattle.im_types.specs.Types.{Reached}
+use Rattle.im_engine.specs.Answered.{Answered, is_device, SweepAnswered, TurnAnswered}
+use Rattle.im_engine.specs.{Groups.GroupAnswered, State.EngineState}
+use Rattle.im_session.specs.declared.events.Answer.{Answer, TheVariants.Grouped, TheVariants.Served as Told}
+use Rattle.im_session.specs.declared.events.Answer.{TheVariants.Swept as DidSweep, TheVariants.Turned as TookTurn}
+use Rattle.im_session.specs.{declared.events.Event.Event, Put.doubted_by, Put.sure_by, Serving.served_answer}
+use Rattle.im_session.specs.declared.events.Event.TheVariants.{Command as Serve, Group as Together, Sweep, Turn}
+use Rattle.im_session.specs.Kept.{MeansPut, session_of, SessionState}
 
 -- an engine's answer to one event; the answer to a group has the room that it found
 abbrev pub EventAnswered : {D : Type 0} → EngineState D → Event → Answer → EngineState D → Type 0

@@ -1,13 +1,8 @@
 -- What a session keeps as it goes on.
-use Rattle.std.specs.Prelude.{◌≡◌, ◌⊎◌, ◌+◌, ◌≤◌, ℕ, List, ◌∷◌, ◌++◌, length, take}
-use Rattle.im_types.specs.declared.commands.Command.{Command}
-use Rattle.im_types.specs.Meaning.{Means}
-use Rattle.im_types.specs.Run.{after}
-use Rattle.im_disk.specs.declared.disk.Disk.{Ghosts}
-use Rattle.im_disk.specs.Moment.{LeftSince}
-use Rattle.im_disk.specs.Since.{CallsAtMost, LeavesWithin}
-use Rattle.im_engine.specs.Commands.{commands_put}
-use Rattle.im_engine.specs.Groups.{calls_for_group}
+use Rattle.std.specs.Prelude.{◌≡◌, ℕ, ◌+◌, ◌≤◌, ◌⊎◌, List, ◌∷◌, ◌++◌, length, take}
+use Rattle.im_types.specs.Types.{Command, after, Means}
+use Rattle.im_disk.specs.{declared.Disk.Ghosts, Moment.LeftSince, Since.CallsAtMost, Since.LeavesWithin}
+use Rattle.im_engine.specs.{Commands.commands_put, Groups.calls_for_group}
 use Rattle.im_session.specs.Kept.{MeansPut, SessionStart, SessionState}
 
 -- the file means the memory after a prefix of these commands that has at least so many of them

@@ -1,12 +1,7 @@
 -- A session: what was put on a disk since it began, and what a crash leaves of it.
-use Rattle.std.specs.Prelude.{◌≡◌, ◌⊎◌, ◌+◌, ◌≤◌, ℕ, List, [], ◌++◌, length, take, true, false}
-use Rattle.im_types.specs.declared.commands.Command.{Command}
-use Rattle.im_types.specs.Contents.{Contents}
-use Rattle.im_types.specs.Meaning.{Means}
-use Rattle.im_types.specs.Run.{accepted, after}
-use Rattle.im_disk.specs.declared.disk.Disk.{Ghosts}
-use Rattle.im_disk.specs.Moment.{Left, Rises}
-use Rattle.im_disk.specs.Since.{LeavesWithin, LeavesNow}
+use Rattle.std.specs.Prelude.{◌≡◌, ℕ, ◌+◌, ◌≤◌, true, false, ◌⊎◌, List, [], ◌++◌, length, take}
+use Rattle.im_types.specs.Types.{Command, Contents, after, accepted, Means}
+use Rattle.im_disk.specs.{declared.Disk.Ghosts, Moment.Left, Moment.Rises, Since.LeavesNow, Since.LeavesWithin}
 use Rattle.im_engine.specs.State.{EngineState}
 
 -- where a session begins: the disk, and the memory and the count of commands that its image has

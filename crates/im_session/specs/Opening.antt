@@ -1,8 +1,7 @@
 -- What an opening leaves. (Own.)
 use Rattle.std.specs.Prelude.{◌≡◌, false}
-use Rattle.im_disk.specs.declared.disk.Disk.{Ghosts}
-use Rattle.im_engine.specs.State.{EngineState}
-use Rattle.im_engine.specs.Leaving.{LeavesAsBefore}
+use Rattle.im_disk.specs.declared.Disk.{Ghosts}
+use Rattle.im_engine.specs.{Leaving.LeavesAsBefore, State.EngineState}
 
 -- An engine works, and since its disk was like this nothing was put on it: a crash leaves what it could leave then.
 pub record CanBegin {D : Type 0} (disk : Ghosts D) (old : D) (engine : EngineState D) : Type 0 where

@@ -1,10 +1,6 @@
 -- What a call put on a disk.
-use Rattle.std.specs.Prelude.{List, [], ◌∷◌, ◌&&◌, Bool, not, Result, Ok, Err, if◌then◌else◌}
-use Rattle.im_types.specs.declared.commands.Command.{Command}
-use Rattle.im_types.specs.declared.commands.Outcome.{Outcome}
-use Rattle.im_types.specs.declared.refusals.Refusal.{Refusal}
-use Rattle.im_types.specs.Contents.{Contents}
-use Rattle.im_types.specs.Step.{is_accepted}
+use Rattle.std.specs.Prelude.{Bool, not, ◌&&◌, List, [], ◌∷◌, if◌then◌else◌, Ok, Err, Result}
+use Rattle.im_types.specs.Types.{Command, Outcome, Refusal, Contents, is_accepted}
 use Rattle.im_engine.specs.Answered.{is_device}
 
 -- the commands that were acknowledged, and those in doubt

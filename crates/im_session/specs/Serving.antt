@@ -1,17 +1,10 @@
 -- What a call of a session comes to.
-use Rattle.std.specs.Prelude.{◌≡◌, ◌⊎◌, List, [], ◌∷◌, ◌++◌, Result, Ok, Err, true, false}
-use Rattle.im_types.specs.declared.commands.Command.{Command}
-use Rattle.im_types.specs.declared.commands.Outcome.{Outcome}
-use Rattle.im_types.specs.declared.refusals.Refusal.{Refusal}
-use Rattle.im_types.specs.declared.groups.Served.{Served}
-use Rattle.im_types.specs.declared.groups.Served.TheVariants.{Unserved, Done, Refused}
-use Rattle.im_types.specs.declared.refusals.Refusal.TheVariants.{NoMemory, Device, Failed}
-use Rattle.im_types.specs.Step.{step, is_accepted}
-use Rattle.im_types.specs.Run.{accepted}
-use Rattle.im_engine.specs.State.{EngineState}
-use Rattle.im_engine.specs.Commands.{commands_put}
-use Rattle.im_session.specs.Put.{sure_by, doubted_by, sure_of, doubted_of}
-use Rattle.im_session.specs.Kept.{SessionState, session_of}
+use Rattle.std.specs.Prelude.{◌≡◌, true, false, ◌⊎◌, List, [], ◌∷◌, ◌++◌, Ok, Err, Result}
+use Rattle.im_types.specs.Types.{Command, Outcome, Served, Unserved, Done, Refused, Refusal, Device, Failed, NoMemory}
+use Rattle.im_types.specs.Types.{step, is_accepted, accepted}
+use Rattle.im_engine.specs.{Commands.commands_put, State.EngineState}
+use Rattle.im_session.specs.Kept.{session_of, SessionState}
+use Rattle.im_session.specs.Put.{doubted_by, doubted_of, sure_by, sure_of}
 
 -- the session after a command with this answer
 abbrev pub served_one : {D : Type 0} → SessionState D → Command → Result Outcome Refusal → EngineState D

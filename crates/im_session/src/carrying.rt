@@ -1,23 +1,17 @@
 //! Laws of sessions. Each function does nothing, and its contract is a law.
-ghost use Rattle.std.specs.Prelude.{◌≡◌, ◌<◌, List, [], length, map, true, false};
-ghost use Rattle.im_types.specs.declared.commands.Request.{Request};
-ghost use Rattle.im_types.specs.declared.refusals.Refusal.{Refusal};
-ghost use Rattle.im_types.specs.declared.refusals.Refusal.TheVariants.{Device, Failed};
-ghost use Rattle.im_types.specs.Contents.{Contents};
-ghost use Rattle.im_types.specs.Meaning.{Reached};
-ghost use Rattle.im_types.specs.Groups.{as_served, answers_of, puts_of};
+ghost use Rattle.std.specs.Prelude.{◌≡◌, ◌<◌, true, false, List, [], map, length};
+ghost use Rattle.im_types.specs.Types.{Request, Refusal, Device, Failed, Contents, as_served, answers_of, puts_of};
+ghost use Rattle.im_types.specs.Types.{Reached};
 ghost use Rattle.im_engine.specs.Groups.{all_refused};
+ghost use Rattle.im_session.specs.{Carrying.PrefixesCarry, Kept.SessionState};
 ghost use Rattle.im_session.specs.Events.{acknowledged_members, has_device};
-ghost use Rattle.im_session.specs.Kept.{SessionState};
-ghost use Rattle.im_session.specs.Carrying.{PrefixesCarry};
 
 use im_disk::Disk;
 
 /// A property of commands, and of the memory to which they lead.
 pub trait Property {
     ghost use Rattle.std.specs.Prelude.{List};
-    ghost use Rattle.im_types.specs.declared.commands.Command.{Command};
-    ghost use Rattle.im_types.specs.Contents.{Contents};
+    ghost use Rattle.im_types.specs.Types.{Command, Contents};
 
     /// It holds of these commands and this memory.
     ghost holds: { List Command → Contents → Type 0 };

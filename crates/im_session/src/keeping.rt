@@ -2,10 +2,9 @@
 //! threads have it. They also say how many calls of the disk they make, and where a group ends.
 ghost use Rattle.std.specs.Prelude.{◌≡◌, [], length, take};
 ghost use Rattle.im_disk.specs.Since.{CallsAtMost, CallsBy};
-ghost use Rattle.im_checkpoint.specs.Turns.{most_calls};
-ghost use Rattle.im_groups.specs.Ahead.{ServesPrefix};
-ghost use Rattle.im_engine.specs.Commands.{CommandsAnswered, commands_put};
-ghost use Rattle.im_engine.specs.Answered.{Answered, SweepAnswered, TurnAnswered, calls_for};
+ghost use Rattle.{im_groups.specs.Ahead.ServesPrefix, im_checkpoint.specs.Turns.most_calls};
+ghost use Rattle.im_engine.specs.Answered.{Answered, calls_for, SweepAnswered, TurnAnswered};
+ghost use Rattle.im_engine.specs.Commands.{commands_put, CommandsAnswered};
 ghost use Rattle.im_session.specs.Keeping.{KeepsPut, LeavesWhole, MakesFewCalls};
 ghost use Rattle.im_session.specs.Serving.{Rests, served_one, served_together};
 

@@ -1,13 +1,9 @@
 //! Where a session begins: at an opening of its image, or with an engine.
-ghost use Rattle.std.specs.Prelude.{◌≡◌, ◌⊎◌, [], false, IfOk, IfErr};
-ghost use Rattle.im_types.specs.declared.refusals.Refusal.TheVariants.{NoMemory, Device};
-ghost use Rattle.im_disk.specs.Moment.{Fault};
-ghost use Rattle.im_disk.specs.Since.{LeavesNow};
-ghost use Rattle.im_image.specs.Headers.{MayRefuseOpening};
-ghost use Rattle.im_engine.specs.State.{IsFirstFault};
-ghost use Rattle.im_engine.specs.Leaving.{LeavesAsBefore};
-ghost use Rattle.im_session.specs.Kept.{IsFresh, session_of, start_at};
-ghost use Rattle.im_session.specs.Opening.{CanBegin};
+ghost use Rattle.std.specs.Prelude.{◌≡◌, false, ◌⊎◌, [], IfOk, IfErr};
+ghost use Rattle.{im_types.specs.Types.Device, im_types.specs.Types.NoMemory, im_image.specs.Headers.MayRefuseOpening};
+ghost use Rattle.im_disk.specs.{Moment.Fault, Since.LeavesNow};
+ghost use Rattle.im_engine.specs.{Leaving.LeavesAsBefore, State.IsFirstFault};
+ghost use Rattle.im_session.specs.{Kept.IsFresh, Kept.session_of, Kept.start_at, Opening.CanBegin};
 
 use crate::calls::SessionCalls;
 use crate::session::Session;

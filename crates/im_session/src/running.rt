@@ -1,11 +1,9 @@
 //! Runs commands, groups, turns and sweeps one after another.
-ghost use Rattle.std.specs.Prelude.{◌≡◌, ◌&&◌, not, IfOk, IfErr, OnErr};
-ghost use Rattle.im_types.specs.declared.refusals.Refusal.TheVariants.{NoMemory};
-ghost use Rattle.im_session.specs.declared.events.Event.TheVariants.{Group as Together};
-ghost use Rattle.im_engine.specs.Leaving.{LeavesSince};
-ghost use Rattle.im_session.specs.Events.{EventAnswered, AnsweredInTurn, MeansEvents, after_event, after_events};
-ghost use Rattle.im_session.specs.Events.{has_fault};
-ghost use Rattle.im_session.specs.Keeping.{LeavesWhole};
+ghost use Rattle.std.specs.Prelude.{◌≡◌, not, ◌&&◌, IfOk, IfErr, OnErr};
+ghost use Rattle.{im_types.specs.Types.NoMemory, im_engine.specs.Leaving.LeavesSince};
+ghost use Rattle.im_session.specs.{declared.events.Event.TheVariants.Group as Together, Keeping.LeavesWhole};
+ghost use Rattle.im_session.specs.Events.{after_event, after_events, AnsweredInTurn, EventAnswered, has_fault};
+ghost use Rattle.im_session.specs.Events.{MeansEvents};
 
 use crate::events::{Answer, Event};
 use crate::session::Session;

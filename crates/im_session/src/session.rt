@@ -1,7 +1,7 @@
 //! A session, and its calls.
 ghost use Rattle.std.specs.Prelude.{◌≡◌, [], length, take};
-ghost use Rattle.im_engine.specs.Commands.{CommandsAnswered};
 ghost use Rattle.im_engine.specs.Answered.{Answered, SweepAnswered, TurnAnswered};
+ghost use Rattle.im_engine.specs.Commands.{CommandsAnswered};
 ghost use Rattle.im_session.specs.Kept.{Kept};
 ghost use Rattle.im_session.specs.Serving.{Rests, served_answer, served_one, served_together};
 
@@ -38,7 +38,7 @@ impl<D: Disk + Drop> Drop for Session<D> {
 }
 
 impl<D: Disk> Model for Session<D> {
-    ghost use Rattle.im_session.specs.Kept.{Kept, SessionState, session_of};
+    ghost use Rattle.im_session.specs.Kept.{Kept, session_of, SessionState};
 
     ghost Value = { SessionState D };
 

@@ -1,21 +1,12 @@
 -- What a ring shows, after its places or its bounds change.
-use Rattle.std.proofs.Common.{◌≡◌, ◌≢◌, ℕ, zero, suc, ◌+◌, ◌-◌, ◌<◌, ◌≤◌, List, [], ◌∷◌, ◌++◌, length, get_or, set}
-use Rattle.std.proofs.Common.{take, drop, Some, true, false, refl, sym, ap, ◌∙◌, arith, add-one}
-use Rattle.std.specs.Prelude.{slice_get, ◌||◌}
-use Rattle.std.specs.List.{list_any}
-use Rattle.std.proofs.lemmas.List.{get_or-set_other, get_or-set_same, get_or_default, get_or-take, length-take-le}
-use Rattle.std.proofs.lemmas.List.Folds.{list_any_more, list_any_at}
-use Rattle.std.proofs.lemmas.Option.{get_or_from_slice_get}
-use Rattle.im_types.specs.declared.TheConstants.{WINDOW}
-use Rattle.im_types.specs.declared.operations.Kept.{Kept}
-use Rattle.im_types.specs.declared.operations.Op.{Op}
-use Rattle.im_types.specs.declared.operations.Reply.{Reply}
-use Rattle.im_types.specs.declared.operations.Entry.{Entry}
-use Rattle.im_types.specs.declared.operations.Entry.TheVariants.{Answered}
-use Rattle.im_types.specs.Contents.{Window}
-use Rattle.im_types.specs.Memory.{IsWindow}
-use Rattle.im_types.specs.Window.{is_waiting, next_number, note_in, answer_at, answer_in}
-use Rattle.im_sessions.specs.Places.{blank, ring_place, entries_from, AreBounds}
+use Rattle.std.proofs.Common.{◌≡◌, ℕ, zero, suc, ◌+◌, ◌-◌, ◌<◌, ◌≤◌, true, false, ◌||◌, ◌≢◌, List, [], ◌∷◌, ◌++◌}
+use Rattle.std.proofs.Common.{length, get_or, take, drop, set, slice_get, Some, sym, refl, ap, ◌∙◌, add-one, arith}
+use Rattle.std.proofs.Common.{length-take-le, get_or-set_other, get_or-take, get_or-set_same}
+use Rattle.std.proofs.lemmas.List.{Folds.list_any_at, Folds.list_any_more, get_or_default}
+use Rattle.std.{proofs.lemmas.Option.get_or_from_slice_get, specs.List.list_any}
+use Rattle.im_types.specs.Types.{Entry, Op, Reply, Kept, Answered, WINDOW, Window, IsWindow, next_number, note_in}
+use Rattle.im_types.specs.Types.{answer_at, answer_in, is_waiting}
+use Rattle.im_sessions.specs.Places.{AreBounds, blank, entries_from, ring_place}
 
 -- the window that a ring shows
 abbrev pub window_of : List Kept → ℕ → ℕ → Window

@@ -1,19 +1,11 @@
 -- All windows, after one of them changes.
-use Rattle.std.proofs.Common.{◌≡◌, ◌⊎◌, inl, inr, ⊎_elim, ℕ, zero, suc, ◌<◌, List, [], ◌∷◌, length, get_or, set}
-use Rattle.std.proofs.Common.{replicate, Some, None, Ok, Err, Bool, true, false, cond, ◌-◌, refl, sym, ap, ◌∙◌, subst}
-use Rattle.std.proofs.Common.{arith}
-use Rattle.std.specs.Prelude.{Option, Result, MatchResult, OnOk, IfErr, slice_get, nat_lt, option_and_then}
-use Rattle.std.proofs.lemmas.List.{set-get_or}
-use Rattle.std.proofs.lemmas.Option.{slice_get-get_or}
-use Rattle.im_types.specs.declared.refusals.Refusal.{Refusal}
-use Rattle.im_types.specs.declared.refusals.Refusal.TheVariants.{Forgotten}
-use Rattle.im_types.specs.declared.operations.Entry.{Entry}
-use Rattle.im_types.specs.declared.operations.Entry.TheVariants.{Waiting, Answered}
-use Rattle.im_types.specs.declared.operations.Waiter.{Waiter}
-use Rattle.im_types.specs.declared.operations.Kept.{Kept}
-use Rattle.im_types.specs.Contents.{Window, new_window, kept_under, kept_for}
-use Rattle.im_types.specs.Memory.{IsWindow}
-use Rattle.im_types.specs.Window.{confirm_window, is_waiting_entry, is_waiting, ask_number, ask_window, ask}
+use Rattle.std.proofs.Common.{◌≡◌, ℕ, zero, suc, ◌-◌, ◌<◌, Bool, true, false, cond, ◌⊎◌, List, [], ◌∷◌, length, get_or}
+use Rattle.std.proofs.Common.{set, replicate, IfErr, OnOk, nat_lt, slice_get, Some, None, Ok, Err, Option, Result}
+use Rattle.std.proofs.Common.{MatchResult, option_and_then, sym, refl, ap, ◌∙◌, subst, inl, inr, ⊎_elim, arith}
+use Rattle.std.proofs.lemmas.{List.set-get_or, Option.slice_get-get_or}
+use Rattle.im_types.specs.Types.{Entry, Waiter, Kept, Waiting, Answered, Refusal, Forgotten, Window, new_window}
+use Rattle.im_types.specs.Types.{kept_under, kept_for, IsWindow, is_waiting_entry, is_waiting, confirm_window}
+use Rattle.im_types.specs.Types.{ask_number, ask_window, ask}
 use Rattle.im_sessions.specs.Windows.{AreWindows}
 
 IsWindow-new_window : IsWindow new_window

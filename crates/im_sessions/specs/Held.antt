@@ -1,20 +1,15 @@
 -- An entry as one flat variant, and the entry that it stands for.
-use Rattle.std.specs.Prelude.{◌≡◌, refl, Option, None, Some}
-use Rattle.im_types.specs.declared.operations.Reply.{Reply}
-use Rattle.im_types.specs.declared.operations.Reply.TheVariants.{Base, NoSpace, BadLength, Value, Stored, Clash}
-use Rattle.im_types.specs.declared.operations.Reply.TheVariants.{NoCell, WrongKind, Released, NoBlock, StillWaiting}
-use Rattle.im_types.specs.declared.operations.Reply.TheVariants.{Cleared}
-use Rattle.im_types.specs.declared.operations.Entry.{Entry}
-use Rattle.im_types.specs.declared.operations.Entry.TheVariants.{Waiting, Answered}
+use Rattle.std.specs.Prelude.{◌≡◌, Some, None, Option, refl}
+use Rattle.im_types.specs.Types.{Entry, Reply, Waiting, Answered, Base, NoSpace, BadLength, Value, Stored, Clash}
+use Rattle.im_types.specs.Types.{NoCell, WrongKind, Released, NoBlock, StillWaiting, Cleared}
 use Rattle.im_sessions.specs.declared.place.Held.{Held}
-use Rattle.im_sessions.specs.declared.place.Held.TheVariants.{Waiting as HeldWaiting, Base as HeldBase}
-use Rattle.im_sessions.specs.declared.place.Held.TheVariants.{NoSpace as HeldNoSpace, BadLength as HeldBadLength}
-use Rattle.im_sessions.specs.declared.place.Held.TheVariants.{Value as HeldValue, Stored as HeldStored}
-use Rattle.im_sessions.specs.declared.place.Held.TheVariants.{Clash as HeldClash, NoCell as HeldNoCell}
-use Rattle.im_sessions.specs.declared.place.Held.TheVariants.{WrongKind as HeldWrongKind, Released as HeldReleased}
-use Rattle.im_sessions.specs.declared.place.Held.TheVariants.{NoBlock as HeldNoBlock}
-use Rattle.im_sessions.specs.declared.place.Held.TheVariants.{StillWaiting as HeldStillWaiting}
-use Rattle.im_sessions.specs.declared.place.Held.TheVariants.{Cleared as HeldCleared}
+use Rattle.im_sessions.specs.declared.place.Held.TheVariants.{BadLength as HeldBadLength, Base as HeldBase}
+use Rattle.im_sessions.specs.declared.place.Held.TheVariants.{Clash as HeldClash, Cleared as HeldCleared}
+use Rattle.im_sessions.specs.declared.place.Held.TheVariants.{NoBlock as HeldNoBlock, NoCell as HeldNoCell}
+use Rattle.im_sessions.specs.declared.place.Held.TheVariants.{NoSpace as HeldNoSpace, Released as HeldReleased}
+use Rattle.im_sessions.specs.declared.place.Held.TheVariants.{StillWaiting as HeldStillWaiting, Stored as HeldStored}
+use Rattle.im_sessions.specs.declared.place.Held.TheVariants.{Value as HeldValue, Waiting as HeldWaiting}
+use Rattle.im_sessions.specs.declared.place.Held.TheVariants.{WrongKind as HeldWrongKind}
 
 -- a reply as a flat variant
 abbrev pub held_by : Reply → Held

@@ -1,9 +1,6 @@
 -- The places of a ring. The place of an entry is its number modulo the size of the window.
 use Rattle.std.specs.Prelude.{ℕ, zero, suc, ◌+◌, ◌%◌, ◌≤◌, List, [], ◌∷◌, slice_index_or}
-use Rattle.im_types.specs.declared.TheConstants.{WINDOW, LAST}
-use Rattle.im_types.specs.declared.operations.Op.TheVariants.{Release}
-use Rattle.im_types.specs.declared.operations.Entry.TheVariants.{Waiting}
-use Rattle.im_types.specs.declared.operations.Kept.{Kept}
+use Rattle.im_types.specs.Types.{Kept, Waiting, Release, WINDOW, LAST}
 
 -- the element that is read past the end of the places; no window shows it
 abbrev pub blank : Kept

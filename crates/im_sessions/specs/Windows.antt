@@ -1,7 +1,6 @@
 -- All windows, by element.
-use Rattle.std.specs.Prelude.{◌≡◌, ℕ, List, Some, slice_get}
-use Rattle.im_types.specs.Contents.{Window}
-use Rattle.im_types.specs.Memory.{IsWindow}
+use Rattle.std.specs.Prelude.{◌≡◌, ℕ, List, slice_get, Some}
+use Rattle.im_types.specs.Types.{Window, IsWindow}
 
 -- each window is within its bounds
 abbrev pub AreWindows : List Window → Type 0

@@ -2,10 +2,9 @@
 //! entries they have.
 #![tactic(auto)]
 
-ghost use Rattle.std.specs.Prelude.{◌≡◌, ◌<◌, length, replicate, slice_get, slice_set, IfOk, IfErr, OnOk, MatchResult};
-ghost use Rattle.im_types.specs.Contents.{Window, new_window, kept_for};
-ghost use Rattle.im_types.specs.Memory.{IsWindow};
-ghost use Rattle.im_types.specs.Window.{judge, note, answer, confirm_window, ask, bounds};
+ghost use Rattle.std.specs.Prelude.{◌≡◌, ◌<◌, length, replicate, IfOk, IfErr, OnOk, slice_get, slice_set, MatchResult};
+ghost use Rattle.im_types.specs.Types.{Window, new_window, kept_for, IsWindow, judge, note, answer, confirm_window};
+ghost use Rattle.im_types.specs.Types.{ask, bounds};
 ghost use Rattle.im_sessions.specs.Windows.{AreWindows};
 
 mod place;
@@ -29,7 +28,7 @@ pub struct Sessions {
 
 impl Model for Sessions {
     ghost use Rattle.std.specs.Prelude.{List};
-    ghost use Rattle.im_types.specs.Contents.{Window};
+    ghost use Rattle.im_types.specs.Types.{Window};
     ghost use Rattle.im_sessions.specs.Windows.{AreWindows};
 
     ghost Value = { List Window };

@@ -1,8 +1,7 @@
 //! One place of a ring: an operation and its entry.
 ghost use Rattle.std.specs.Prelude.{◌≡◌};
-ghost use Rattle.im_types.specs.declared.operations.Entry.TheVariants.{Answered};
-ghost use Rattle.im_sessions.specs.Held.{held_by, held_form, held_entry};
-ghost use Rattle.im_types.specs.Window.{is_waiting};
+ghost use Rattle.im_types.specs.Types.{Answered, is_waiting};
+ghost use Rattle.im_sessions.specs.Held.{held_by, held_entry, held_form};
 
 use im_types::{Entry, Kept, Op, Reply};
 use std::marker::Model;
@@ -33,7 +32,7 @@ pub struct RingPlace {
 }
 
 impl Model for RingPlace {
-    ghost use Rattle.im_types.specs.declared.operations.Kept.{Kept};
+    ghost use Rattle.im_types.specs.Types.{Kept};
     ghost use Rattle.im_sessions.specs.Held.{held_entry, held_form, held_of-entry_of};
 
     ghost Value = { Kept };

@@ -1,11 +1,9 @@
 //! One element's window, as a ring of places. The place of an entry is its number modulo the size of the window. So
 //! each entry is found at once, and none moves when others are dropped.
-ghost use Rattle.std.specs.Prelude.{◌≡◌, [], ◌+◌, ◌-◌, ◌<◌, ◌≤◌, length, take, drop, slice_get, MatchResult, OnOk};
+ghost use Rattle.std.specs.Prelude.{◌≡◌, ◌+◌, ◌-◌, ◌<◌, ◌≤◌, [], length, take, drop, OnOk, slice_get, MatchResult};
 ghost use Rattle.std.specs.List.{list_any};
-ghost use Rattle.im_types.specs.Contents.{new_window, kept_under};
-ghost use Rattle.im_types.specs.Memory.{IsWindow};
-ghost use Rattle.im_types.specs.Window.{judge_window, confirm_window, ask_window, note_in, answer_in, is_waiting};
-ghost use Rattle.im_types.specs.Window.{next_number, same_op};
+ghost use Rattle.im_types.specs.Types.{new_window, kept_under, IsWindow, next_number, same_op, judge_window, note_in};
+ghost use Rattle.im_types.specs.Types.{answer_in, is_waiting, confirm_window, ask_window};
 ghost use Rattle.im_sessions.specs.Places.{ring_place};
 
 use crate::place::RingPlace;
@@ -23,8 +21,8 @@ pub struct Ring {
 }
 
 impl Model for Ring {
-    ghost use Rattle.im_types.specs.Contents.{Window};
-    ghost use Rattle.im_sessions.specs.Places.{entries_from, AreBounds};
+    ghost use Rattle.im_types.specs.Types.{Window};
+    ghost use Rattle.im_sessions.specs.Places.{AreBounds, entries_from};
 
     ghost Value = { Window };
 

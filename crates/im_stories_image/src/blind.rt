@@ -1,5 +1,5 @@
 //! A disk whose contents no proof knows, so that a story may put any bytes on it.
-ghost use Rattle.std.specs.Prelude.{◌≡◌, ◌+◌, ◌-◌, ◌^◌, ◌≤◌, [], true, length};
+ghost use Rattle.std.specs.Prelude.{◌≡◌, ◌+◌, ◌-◌, ◌^◌, ◌≤◌, true, [], length};
 
 use im_disk::{DeviceFault, Disk, FuseDisk, MemDisk, Mode};
 use im_types::LAST;

@@ -21,8 +21,7 @@ pub struct Checkpointed {
 }
 
 impl Model for Checkpointed {
-    ghost use Rattle.im_types.specs.Contents.{Contents};
-    ghost use Rattle.im_checkpoint.specs.Keeping.{Fits};
+    ghost use Rattle.{im_types.specs.Types.Contents, im_checkpoint.specs.Keeping.Fits};
 
     ghost Value = { Contents };
 

@@ -1,6 +1,6 @@
 //! Accesses of cells: a table of cells with the lists of their waiters.
-ghost use Rattle.std.specs.Prelude.{◌≡◌, ◌<◌, List, Option, length, IfOk};
-ghost use Rattle.im_cell.specs.declared.slots.Slot.{Slot};
+ghost use Rattle.std.specs.Prelude.{◌≡◌, ◌<◌, List, length, IfOk, Option};
+ghost use Rattle.im_cell.specs.declared.Slot.{Slot};
 ghost use Rattle.im_istore.specs.Agreement.{Agree, AgreeBut};
 
 use im_arena::Arena;
@@ -21,9 +21,7 @@ pub struct Accesses {
 
 impl Model for Accesses {
     ghost use Rattle.std.specs.Prelude.{List, Option};
-    ghost use Rattle.im_types.specs.Contents.{Held};
-    ghost use Rattle.im_istore.specs.Joined.{cells_of};
-    ghost use Rattle.im_istore.specs.Agreement.{Agree};
+    ghost use Rattle.{im_types.specs.Types.Held, im_istore.specs.Agreement.Agree, im_istore.specs.Joined.cells_of};
 
     ghost Value = { List (Option Held) };
 

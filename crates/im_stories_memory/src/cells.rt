@@ -1,7 +1,7 @@
 //! A table of cells, the table that is restored from the records of its cells, and a random walk beside slots that are
 //! kept plainly.
-ghost use Rattle.std.specs.Prelude.{◌≡◌, ◌<◌, ◌^◌, length, map, IfOk};
-ghost use Rattle.im_cell.specs.Slots.{slot_at, shown_cell, shown_slot, HoldsBlocks};
+ghost use Rattle.std.specs.Prelude.{◌≡◌, ◌^◌, ◌<◌, map, length, IfOk};
+ghost use Rattle.im_cell.specs.Slots.{HoldsBlocks, shown_cell, shown_slot, slot_at};
 
 use im_cell::{CellTable, Slot};
 use im_story::{Phrase, Saying};

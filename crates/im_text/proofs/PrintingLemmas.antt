@@ -1,16 +1,12 @@
 -- Lines on their way to a writer, and the lines of commands. (Own.)
-use Rattle.std.proofs.Common.{◌≡◌, ◌∙◌, inl, inr, ℕ, Bool, true, false, List, [], ◌∷◌, ◌++◌, length, take, drop, refl, sym, ap, ap₂, subst, append_assoc, append-nil, take-append-drop}
-use Rattle.std.specs.Prelude.{◌⊎◌, OnOk, IsOk, Option, None, Some, Result, Ok, Err}
+use Rattle.std.proofs.Common.{◌≡◌, ℕ, Bool, true, false, ◌⊎◌, List, [], ◌∷◌, ◌++◌, length, take, drop, OnOk, IsOk, Some}
+use Rattle.std.proofs.Common.{None, Ok, Err, Option, Result, sym, refl, ap, ◌∙◌, subst, ap₂, inl, inr, append_assoc}
+use Rattle.std.proofs.Common.{append-nil, take-append-drop}
+use Rattle.std.proofs.KnownBytes.{Appends-nil, Appends-trans}
 use Rattle.std.specs.Io.KnownBytes.{Appends, Keeps}
-use Rattle.std.proofs.KnownBytes.{Appends-trans, Appends-nil}
-use Rattle.im_types.specs.declared.commands.Command.{Command}
-use Rattle.im_types.specs.declared.operations.Waiter.{Waiter}
-use Rattle.im_types.specs.Contents.{Contents}
-use Rattle.im_types.specs.Step.{step}
-use Rattle.im_types.specs.Run.{after}
+use Rattle.im_types.specs.Types.{Waiter, Command, Refusal, Contents, step, after}
 use Rattle.im_text.specs.declared.lines.Lines.{Lines}
-use Rattle.im_types.specs.declared.refusals.Refusal.{Refusal}
-use Rattle.im_text.specs.Printing.{Begins, IsLast, Prints, refused_line, reply_line, replies, waits_by, waits}
+use Rattle.im_text.specs.Printing.{Begins, IsLast, Prints, refused_line, replies, reply_line, waits, waits_by}
 
 -- ---- writers
 

@@ -1,10 +1,8 @@
 -- The windows of those whose lines are printed. (Own.)
-use Rattle.std.proofs.Common.{◌≡◌, ◌∙◌, ℕ, ◌-◌, ◌≤◌, List, refl, ap, arith, Bool, false, nat_lt, Some}
-use Rattle.std.specs.Prelude.{Option, None, Ok, if◌then◌else◌, slice_get}
-use Rattle.std.specs.Option.{option_and_then}
+use Rattle.std.proofs.Common.{◌≡◌, ℕ, ◌-◌, ◌≤◌, Bool, false, List, if◌then◌else◌, nat_lt, slice_get, Some, None, Ok}
+use Rattle.std.proofs.Common.{Option, option_and_then, refl, ap, ◌∙◌, arith}
 use Rattle.std.proofs.lemmas.Bool.Decides.{nat_tests}
-use Rattle.im_types.specs.Contents.{Window, kept_for, kept_under}
-use Rattle.im_types.specs.Window.{bounds_of, next_number}
+use Rattle.im_types.specs.Types.{Window, kept_under, kept_for, next_number, bounds_of}
 
 pub not_below : (n base : ℕ) → base ≤ n → nat_lt n base ≡ false
 not_below n base le = grind (arith, nat_tests)

@@ -1,41 +1,10 @@
 -- The lines that are printed while a script is served, and how far they were written. (Own.)
-use Rattle.std.specs.Prelude.{
-  ◌≡◌,
-  ◌⊎◌,
-  ℕ,
-  ◌≤◌,
-  false,
-  List,
-  [],
-  ◌∷◌,
-  ◌++◌,
-  length,
-  take,
-  codes,
-  decimal,
-  Option,
-  None,
-  Some,
-  Result,
-  MatchResult,
-  Ok,
-  Err,
-  slice_get,
-}
+use Rattle.std.specs.Prelude.{◌≡◌, ℕ, ◌≤◌, false, ◌⊎◌, List, [], ◌∷◌, ◌++◌, length, take, slice_get, MatchResult, Some}
+use Rattle.std.specs.Prelude.{None, Ok, Err, codes, decimal, Option, Result}
 use Rattle.std.specs.Io.KnownBytes.{Appends}
-use Rattle.im_types.specs.declared.commands.Command.{Command}
-use Rattle.im_types.specs.declared.commands.Command.TheVariants.{Request as Asks, Confirm}
-use Rattle.im_types.specs.declared.commands.Outcome.{Outcome}
-use Rattle.im_types.specs.declared.commands.Outcome.TheVariants.{Entry as Tells, Confirmed}
-use Rattle.im_types.specs.declared.operations.Entry.{Entry}
-use Rattle.im_types.specs.declared.operations.Entry.TheVariants.{Waiting, Answered}
-use Rattle.im_types.specs.declared.operations.Waiter.{Waiter}
-use Rattle.im_types.specs.declared.refusals.Refusal.{Refusal}
-use Rattle.im_types.specs.Refusals.{number_of}
-use Rattle.im_types.specs.Contents.{Contents}
-use Rattle.im_types.specs.Step.{step, asker}
-use Rattle.im_text.specs.declared.lines.Lines.{Lines}
-use Rattle.im_text.specs.declared.replies.Waited.{Waited}
+use Rattle.im_types.specs.Types.{Entry, Waiter, Waiting, Answered, Command, Outcome, Asks, Confirm, Tells, Confirmed}
+use Rattle.im_types.specs.Types.{Refusal, number_of, Contents, asker, step}
+use Rattle.im_text.specs.declared.{lines.Lines.Lines, replies.Waited.Waited}
 use Rattle.im_text.specs.Texts.{entry_text, line_feed, texts_below}
 
 -- ---- lines

@@ -1,32 +1,9 @@
 -- The exit status of a program that tells its refusals apart. (Own.)
 use Rattle.std.specs.Prelude.{ℕ}
-use Rattle.im_types.specs.declared.refusals.Refusal.{Refusal}
-use Rattle.im_types.specs.declared.refusals.Refusal.TheVariants.{
-  Gap,
-  Forgotten,
-  WindowFull,
-  Mismatch,
-  NoElement,
-  NotAnswered,
-  JournalFull,
-  Device,
-  Failed,
-  NoMemory,
-  TraceFull,
-  WrongLength,
-  NoHeader,
-  BadHeader,
-  BadPage,
-  BadRecord,
-  BadLimits,
-  BadScript,
-  Stalled,
-  OffPlan,
-  OldVersion,
-  NotBlank,
-  BadPlan,
-  PaneGone,
-}
+use Rattle.im_types.specs.Types.{Refusal, Gap, Forgotten, WindowFull, Mismatch, NoElement, NotAnswered, JournalFull}
+use Rattle.im_types.specs.Types.{Device, Failed, NoMemory, TraceFull, WrongLength, NoHeader, BadHeader, BadPage}
+use Rattle.im_types.specs.Types.{BadRecord, BadLimits, BadScript, Stalled, OffPlan, OldVersion, NotBlank, BadPlan}
+use Rattle.im_types.specs.Types.{PaneGone}
 
 -- 5 if a file is no image, is damaged or old, or can't take one: another try is of no use; else 1
 abbrev pub status_of_image : Refusal → ℕ

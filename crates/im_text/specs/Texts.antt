@@ -1,26 +1,8 @@
 -- The texts that lines are made of: numbers below a bound, kinds, operations, answers. (Own.)
 use Rattle.std.specs.Prelude.{ℕ, zero, suc, List, [], ◌∷◌, ◌++◌, codes, decimal}
-use Rattle.im_types.specs.declared.operations.Kind.{Kind}
-use Rattle.im_types.specs.declared.operations.Kind.TheVariants.{I, M}
-use Rattle.im_types.specs.declared.operations.Op.{Op}
-use Rattle.im_types.specs.declared.operations.Op.TheVariants.{Alloc, Release, Reset, Fetch, Store, Take, Put}
-use Rattle.im_types.specs.declared.operations.Reply.{Reply}
-use Rattle.im_types.specs.declared.operations.Reply.TheVariants.{
-  Base,
-  NoSpace,
-  BadLength,
-  Value,
-  Stored,
-  Clash,
-  NoCell,
-  WrongKind,
-  Released,
-  NoBlock,
-  StillWaiting,
-  Cleared,
-}
-use Rattle.im_types.specs.declared.operations.Entry.{Entry}
-use Rattle.im_types.specs.declared.operations.Entry.TheVariants.{Waiting, Answered}
+use Rattle.im_types.specs.Types.{Entry, Kind, Op, Reply, Waiting, Answered, I, M, Alloc, Release, Reset, Fetch, Store}
+use Rattle.im_types.specs.Types.{Take, Put, Base, NoSpace, BadLength, Value, Stored, Clash, NoCell, WrongKind, Released}
+use Rattle.im_types.specs.Types.{NoBlock, StillWaiting, Cleared}
 
 -- the end of a line
 abbrev pub line_feed : List ℕ

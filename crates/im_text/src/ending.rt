@@ -1,6 +1,6 @@
 //! How work ends: the lines that were kept back are written, and then the line of a refusal. Whoever serves or runs a
 //! script ends so.
-ghost use Rattle.std.specs.Prelude.{◌≡◌, ◌≤◌, ◌++◌, List, ℕ, Option, IsOk, OnOk, OnErr};
+ghost use Rattle.std.specs.Prelude.{◌≡◌, ℕ, ◌≤◌, List, ◌++◌, OnOk, OnErr, IsOk, Option};
 ghost use Rattle.std.specs.Io.KnownBytes.{Appends, Keeps};
 ghost use Rattle.im_text.specs.Printing.{Begins, IsLast, MayPrint, Prints};
 

@@ -1,5 +1,5 @@
 //! Writes lines in batches.
-ghost use Rattle.std.specs.Prelude.{◌≡◌, ◌≤◌, [], false, take, length, IfOk, OnOk};
+ghost use Rattle.std.specs.Prelude.{◌≡◌, ◌≤◌, false, [], length, take, IfOk, OnOk};
 ghost use Rattle.std.specs.Io.KnownBytes.{Appends, WriteAppends};
 ghost use Rattle.im_text.specs.Printing.{Begins, PrintsOn, Pushes};
 

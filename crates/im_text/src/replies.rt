@@ -1,5 +1,5 @@
 //! The texts of requests, replies and refusals.
-ghost use Rattle.std.specs.Prelude.{◌≡◌, ◌++◌, ℕ, List, Some, OnOk, string_bytes};
+ghost use Rattle.std.specs.Prelude.{◌≡◌, ℕ, List, ◌++◌, OnOk, Some, string_bytes};
 ghost use Rattle.im_text.specs.Printing.{now_line, refused_line, told_line};
 ghost use Rattle.im_text.specs.Texts.{entry_text, kind_text, op_text, reply_text};
 

@@ -1,7 +1,6 @@
 //! The exit status of a program that tells its refusals apart.
 ghost use Rattle.std.specs.Prelude.{◌≡◌, ◌⊎◌};
-ghost use Rattle.im_types.specs.declared.refusals.Refusal.{Refusal};
-ghost use Rattle.im_damage.specs.declared.damage.Damage.{Damage};
+ghost use Rattle.{im_types.specs.Types.Refusal, im_damage.specs.declared.Damage.Damage};
 ghost use Rattle.im_text.specs.Statuses.{status_of_image};
 
 use crate::faults::PathFault;

@@ -1,20 +1,15 @@
 -- The steps keep the rule of the book of lines, and what they leave of its lines.
-use Rattle.std.proofs.Common.{◌≡◌, ◌⊎◌, inl, inr, ℕ, zero, suc, ◌<◌, ◌==◌, Bool, true, false, List, [], ◌∷◌}
-use Rattle.std.proofs.Common.{◌++◌, length, refl, ap, sym, ◌≤◌}
-use Rattle.std.proofs.Common.{◌∙◌, subst, arith, None, set, take, drop, append-nil, append_assoc, take-append-drop}
-use Rattle.std.proofs.Common.{if◌then◌else◌}
-use Rattle.std.proofs.lemmas.Bool.Decides.{nat_tests}
-use Rattle.std.specs.List.{AllByRecursion}
+use Rattle.std.proofs.Common.{◌≡◌, ℕ, zero, suc, ◌<◌, ◌≤◌, Bool, true, false, ◌⊎◌, List, [], ◌∷◌, ◌++◌, length, take}
+use Rattle.std.proofs.Common.{drop, set, if◌then◌else◌, ◌==◌, None, sym, refl, ap, ◌∙◌, subst, inl, inr, append_assoc}
+use Rattle.std.proofs.Common.{append-nil, arith, take-append-drop}
+use Rattle.logbook.specs.Pages.{adds, Cell, cell, gives, keeps, may_write, Moves, Nib, no_nib, step}
+use Rattle.std.{proofs.lemmas.Bool.Decides.nat_tests, specs.List.AllByRecursion}
+use Rattle.{im_types.specs.Types.Line, im_laws.proofs.Tests.test-self, im_laws.proofs.Tests.true_false}
+use Rattle.im_trace.specs.Chains.{IsApart, IsChained, IsUsed, KeepsPen, KnowsAll, lines_from, MakesPen, read_from}
+use Rattle.im_trace.specs.Chains.{times_from, tip_from, UsesPen}
+use Rattle.im_trace.specs.{declared.rule.Link.Link, Lines.AreInOrder}
 use mathlib.Core.List.{IsPrefix}
 use prog.Atomic.{either}
-use Rattle.logbook.specs.Pages.{Cell, cell, keeps, gives, adds, no_nib, Nib, may_write, step}
-use Rattle.logbook.specs.Pages.{Moves}
-use Rattle.im_types.specs.declared.commands.Line.{Line}
-use Rattle.im_laws.proofs.Tests.{true_false, test-self}
-use Rattle.im_trace.specs.declared.rule.Link.{Link}
-use Rattle.im_trace.specs.Lines.{AreInOrder}
-use Rattle.im_trace.specs.Chains.{IsChained, IsUsed, IsApart, MakesPen, KeepsPen, UsesPen, KnowsAll, read_from}
-use Rattle.im_trace.specs.Chains.{lines_from, times_from, tip_from}
 
 abbrev pub shown : List Link → List Link
 shown log = []

@@ -1,31 +1,20 @@
 -- A log that grows by a line, keeps an answer for its port, and hands it out.
-use Rattle.std.proofs.Common.{◌≡◌, ℕ, zero, suc, ◌+◌, ◌<◌, ◌≤◌, Bool, true, false, List, [], ◌∷◌, ◌++◌, refl, sym, ap}
-use Rattle.std.proofs.Common.{◌∙◌, subst, cond, Option, None, Some, Result, Ok, Err, length, length-append}
-use Rattle.std.proofs.Common.{append-nil, append_assoc, slice_get, slice_set, sum_by, take, arith}
-use Rattle.std.proofs.Common.{if◌then◌else◌}
-use Rattle.std.specs.Prelude.{count_by, IfOk}
+use Rattle.std.proofs.Common.{◌≡◌, ℕ, zero, suc, ◌+◌, ◌<◌, ◌≤◌, Bool, true, false, cond, List, [], ◌∷◌, ◌++◌, length}
+use Rattle.std.proofs.Common.{take, IfOk, if◌then◌else◌, slice_get, slice_set, Some, None, Ok, Err, sum_by, count_by}
+use Rattle.std.proofs.Common.{Option, Result, sym, refl, ap, ◌∙◌, subst, append_assoc, append-nil, arith, length-append}
+use Rattle.std.proofs.Common.{take_all}
+use Rattle.std.proofs.lemmas.List.{Sums.sum_by-append, Sums.sum_by-set, take-append-le}
+use Rattle.std.proofs.lemmas.Option.{get_or_from_slice_get, slice_get_within}
 use Rattle.std.specs.List.{AllByRecursion}
-use mathlib.Core.List.{IsPrefix}
-use Rattle.std.proofs.lemmas.List.{take_all, take-append-le}
-use Rattle.std.proofs.lemmas.List.Sums.{sum_by-append, sum_by-set}
-use Rattle.std.proofs.lemmas.Option.{slice_get_within, get_or_from_slice_get}
-use Rattle.im_types.specs.declared.changes.Change.{Change}
-use Rattle.im_types.specs.declared.commands.Command.{Command}
-use Rattle.im_types.specs.declared.commands.Outcome.{Outcome}
-use Rattle.im_types.specs.declared.commands.Call.{Call}
-use Rattle.im_types.specs.declared.commands.Call.TheVariants.{Command as Commands}
-use Rattle.im_types.specs.declared.commands.Line.{Line}
-use Rattle.im_types.specs.declared.refusals.Refusal.{Refusal}
-use Rattle.im_types.specs.Contents.{Contents}
-use Rattle.im_types.specs.declared.operations.Entry.{Entry}
-use Rattle.im_types.specs.declared.commands.Outcome.TheVariants.{Entry as Tells}
-use Rattle.im_types.specs.Trace.{told, answer_to, contents_after, IsLegal, end_of}
+use Rattle.im_types.specs.Types.{Entry, Command, Outcome, Call, Line, Tells, Commands, Refusal, Contents, told}
+use Rattle.im_types.specs.Types.{answer_to, contents_after, IsLegal, end_of, Change}
 use Rattle.im_laws.proofs.TraceLemmas.{end_of-append, IsLegal-push, IsLegal-split}
-use Rattle.im_trace.specs.Lines.{LineCounts, EndsIn, EndsInAll, leaves_line, line_of, left_lines, memory_after}
-use Rattle.im_trace.specs.Lines.{counts_after, time_at}
-use Rattle.im_trace.specs.Log.{sender_of, UnclaimedState, LogState, IsProof, StandsInTrace, unclaimed_lines, with_line}
-use Rattle.im_trace.specs.Log.{with_unclaimed, without_unclaimed, AreVacant, AreClaimed, IsLog, IsOfTrace}
-use Rattle.im_trace.specs.Log.{receipt_for, IsTimed}
+use Rattle.im_trace.specs.Lines.{counts_after, EndsIn, EndsInAll, leaves_line, left_lines, line_of, LineCounts}
+use Rattle.im_trace.specs.Lines.{memory_after, time_at}
+use Rattle.im_trace.specs.Log.{AreClaimed, AreVacant, IsLog, IsOfTrace, IsProof, IsTimed, LogState, receipt_for}
+use Rattle.im_trace.specs.Log.{sender_of, StandsInTrace, unclaimed_lines, UnclaimedState, with_line, with_unclaimed}
+use Rattle.im_trace.specs.Log.{without_unclaimed}
+use mathlib.Core.List.{IsPrefix}
 
 -- the line of a call, if it leaves one
 abbrev pub lines_by : Bool → Call → Result Outcome Refusal → List Line

@@ -1,17 +1,11 @@
 -- What a port has seen of the trace, once it has taken an answer that waited.
-use Rattle.std.proofs.Common.{◌≡◌, ⊎_elim, ℕ, ◌≤◌, List, [], ◌++◌, refl, sym, ap, ◌∙◌, subst, Some, Result, Ok, Err}
-use Rattle.std.proofs.Common.{length, length-append, append-nil, arith}
-use mathlib.Core.List.{IsPrefix}
-use Rattle.im_types.specs.declared.commands.Command.{Command}
-use Rattle.im_types.specs.declared.commands.Outcome.{Outcome}
-use Rattle.im_types.specs.declared.commands.Call.TheVariants.{Command as Commands}
-use Rattle.im_types.specs.declared.commands.Line.{Line}
-use Rattle.im_types.specs.declared.changes.Change.{Change}
-use Rattle.im_types.specs.declared.refusals.Refusal.{Refusal}
+use Rattle.std.proofs.Common.{◌≡◌, ℕ, ◌≤◌, List, [], ◌++◌, length, Some, Ok, Err, Result, sym, refl, ap, ◌∙◌, subst}
+use Rattle.std.proofs.Common.{⊎_elim, append-nil, arith, length-append}
+use Rattle.im_types.specs.Types.{Command, Outcome, Line, Commands, Refusal, Change}
 use Rattle.im_glass.proofs.PrefixLemmas.{prefix_shorter}
-use Rattle.im_trace.specs.Lines.{AreInOrder, left_lines}
-use Rattle.im_trace.specs.Log.{ReceiptState, HasHistory, SeesAnswer, IsBefore, plain, receipt_for}
-use Rattle.im_trace.proofs.ToldLemmas.{plain-receipt}
+use Rattle.im_trace.{proofs.ToldLemmas.plain-receipt, specs.Lines.AreInOrder, specs.Lines.left_lines}
+use Rattle.im_trace.specs.Log.{HasHistory, IsBefore, plain, receipt_for, ReceiptState, SeesAnswer}
+use mathlib.Core.List.{IsPrefix}
 
 -- ---- prefixes
 

@@ -1,18 +1,13 @@
 -- The times of the lines of a trace.
-use Rattle.std.proofs.Common.{◌≡◌, ◌⊎◌, inl, inr, ⊎_elim, ℕ, zero, suc, ◌+◌, ◌<◌, ◌≤◌, Bool, true, false, List, [], ◌∷◌}
-use Rattle.std.proofs.Common.{◌++◌, length, length-append, map, refl, sym, ap, ◌∙◌, subst, arith, Result, Ok, Err}
-use Rattle.std.proofs.Common.{if◌then◌else◌, append_assoc}
+use Rattle.std.proofs.Common.{◌≡◌, ℕ, zero, suc, ◌+◌, ◌<◌, ◌≤◌, Bool, true, false, ◌⊎◌, List, [], ◌∷◌, ◌++◌, map}
+use Rattle.std.proofs.Common.{length, if◌then◌else◌, Ok, Err, Result, sym, refl, ap, ◌∙◌, subst, inl, inr, ⊎_elim}
+use Rattle.std.proofs.Common.{append_assoc, arith, length-append}
 use Rattle.std.proofs.lemmas.List.{length-map, map-append}
-use mathlib.Core.List.{IsPrefix}
-use Rattle.im_types.specs.declared.commands.Outcome.{Outcome}
-use Rattle.im_types.specs.declared.commands.Call.{Call}
-use Rattle.im_types.specs.declared.commands.Line.{Line}
-use Rattle.im_types.specs.declared.refusals.Refusal.{Refusal}
+use Rattle.im_types.specs.Types.{Command, Outcome, Call, Line, Refusal, Change}
 use Rattle.im_laws.proofs.Tests.{below_or_from}
-use Rattle.im_trace.specs.Lines.{leaves_line, line_of, left_lines, times_of, time_at, NeverGoBack}
-use Rattle.im_types.specs.declared.changes.Change.{Change}
-use Rattle.im_types.specs.declared.commands.Command.{Command}
-use Rattle.im_trace.specs.Log.{TimedLog, GoesOnAt, receipt_for}
+use Rattle.im_trace.specs.Lines.{leaves_line, left_lines, line_of, NeverGoBack, time_at, times_of}
+use Rattle.im_trace.specs.Log.{GoesOnAt, receipt_for, TimedLog}
+use mathlib.Core.List.{IsPrefix}
 
 -- a line's time stays in a longer book
 pub time-later : (xs ys : List ℕ) (n : ℕ) → IsPrefix xs ys → n ≤ length xs → time_at xs n ≡ time_at ys n

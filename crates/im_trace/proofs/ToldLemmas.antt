@@ -1,15 +1,9 @@
 -- What a trace shows if it is longer, and what an answer is without its receipt.
-use Rattle.std.proofs.Common.{◌≡◌, ℕ, List, [], ◌∷◌, ◌++◌, refl, sym, ap, ◌∙◌, Result, Ok, Err, append_assoc}
-use mathlib.Core.List.{IsPrefix}
-use Rattle.im_types.specs.declared.changes.Change.{Change}
-use Rattle.im_types.specs.declared.commands.Command.{Command}
-use Rattle.im_types.specs.declared.commands.Outcome.{Outcome}
-use Rattle.im_types.specs.declared.commands.Line.{Line}
-use Rattle.im_types.specs.declared.refusals.Refusal.{Refusal}
-use Rattle.im_types.specs.Contents.{Contents}
-use Rattle.im_types.specs.Trace.{contents_after, end_of}
-use Rattle.im_types.specs.Changes.{changes_in, changes_of, opening, shown_by}
+use Rattle.std.proofs.Common.{◌≡◌, ℕ, List, [], ◌∷◌, ◌++◌, Ok, Err, Result, sym, refl, ap, ◌∙◌, append_assoc}
+use Rattle.im_types.specs.Types.{Command, Outcome, Line, Refusal, Contents, contents_after, end_of, changes_in}
+use Rattle.im_types.specs.Types.{changes_of, opening, shown_by, Change}
 use Rattle.im_trace.specs.Log.{IsToldOf, plain, receipt_for}
+use mathlib.Core.List.{IsPrefix}
 
 pub changes-append : (m : Contents) (earlier later : List Line) → changes_of m (earlier ++ later)
     ≡ changes_of m earlier ++ changes_of (end_of m earlier) later

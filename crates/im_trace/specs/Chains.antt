@@ -1,13 +1,10 @@
 -- The book of the lines. A pen writes one entry and is used up, and the entry names the pen of the next one. (Own.)
-use Rattle.std.specs.Prelude.{◌≡◌, ◌==◌, ◌<◌, ℕ, true, false, List, [], ◌∷◌, ◌++◌, length, if◌then◌else◌}
+use Rattle.std.specs.Prelude.{◌≡◌, ℕ, ◌<◌, true, false, List, [], ◌∷◌, ◌++◌, length, if◌then◌else◌, ◌==◌}
+use Rattle.logbook.specs.Pages.{Book, Cell, cell, may_make, Named, Step, View}
 use Rattle.std.specs.List.{AllByRecursion}
+use Rattle.im_types.specs.Types.{Line, Contents, IsMemory}
+use Rattle.im_trace.specs.{Books.LinesBook, declared.rule.Link.Link}
 use mathlib.Core.List.{IsPrefix}
-use Rattle.logbook.specs.Pages.{Cell, cell, Step, View, Book, Named, may_make}
-use Rattle.im_types.specs.declared.commands.Line.{Line}
-use Rattle.im_types.specs.Contents.{Contents}
-use Rattle.im_types.specs.Memory.{IsMemory}
-use Rattle.im_trace.specs.declared.rule.Link.{Link}
-use Rattle.im_trace.specs.Books.{LinesBook}
 
 -- these contents are a memory's, as an engine has them when its trace begins
 abbrev pub IsOpened : Contents → Type 0

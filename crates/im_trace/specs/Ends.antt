@@ -1,8 +1,7 @@
 -- A log before it has a name, and at its end; the record of its trace. (Own.)
 use Rattle.std.specs.Prelude.{◌≡◌, ℕ, ◌+◌, ◌<◌, Bool, true, false, List, [], length, count_by}
-use Rattle.im_types.specs.declared.commands.Line.{Line}
-use Rattle.im_trace.specs.Books.{LinesBook}
-use Rattle.im_trace.specs.Lines.{LineCounts}
+use Rattle.im_types.specs.Types.{Line}
+use Rattle.im_trace.specs.{Books.LinesBook, Lines.LineCounts}
 
 -- room for a log: how many lines it may have, whether they are recorded, how many ports there are, which ledgers count
 -- the lines and the marked lines, and the book of the lines

@@ -1,16 +1,9 @@
 -- The lines that calls leave in a trace, and how many of them a port was told. (Own.)
-use Rattle.std.specs.Prelude.{ℕ, ◌≡◌, ◌+◌, ◌++◌, ◌≤◌, List, [], ◌∷◌, Bool, true, false, Result, Ok, Err, length}
-use Rattle.std.specs.Prelude.{count_by}
-use Rattle.std.specs.Prelude.{map, slice_index, nat_lt, if◌then◌else◌, ◌⊎◌}
+use Rattle.std.specs.Prelude.{◌≡◌, ℕ, ◌+◌, ◌≤◌, Bool, true, false, ◌⊎◌, List, [], ◌∷◌, ◌++◌, map, length, if◌then◌else◌}
+use Rattle.std.specs.Prelude.{nat_lt, slice_index, Ok, Err, count_by, Result}
+use Rattle.im_types.specs.Types.{Outcome, Call, Line, Commands, Collect, Refusal, is_of_numbers, Contents}
+use Rattle.im_types.specs.Types.{contents_after}
 use mathlib.Core.List.{IsPrefix}
-use Rattle.im_types.specs.declared.commands.Outcome.{Outcome}
-use Rattle.im_types.specs.declared.commands.Call.{Call}
-use Rattle.im_types.specs.declared.commands.Call.TheVariants.{Command as Commands, Collect}
-use Rattle.im_types.specs.declared.commands.Line.{Line}
-use Rattle.im_types.specs.declared.refusals.Refusal.{Refusal}
-use Rattle.im_types.specs.Refusals.{is_of_numbers}
-use Rattle.im_types.specs.Contents.{Contents}
-use Rattle.im_types.specs.Trace.{contents_after}
 
 -- whether an answer leaves a line: an outcome does, and a refusal of numbers
 abbrev pub leaves_line : Result Outcome Refusal → Bool

@@ -1,21 +1,11 @@
 -- The log: a trace with the answers that wait for their ports, and the receipts that are taken from it. (Own.)
-use Rattle.std.specs.Prelude.{◌≡◌, ℕ, ◌+◌, ◌≤◌, ◌++◌, List, [], Bool, Option, None, Some, Result, Ok, Err, length}
-use Rattle.std.specs.Prelude.{slice_get, slice_set, count_by, sum_by}
+use Rattle.std.specs.Prelude.{◌≡◌, ℕ, ◌+◌, ◌≤◌, Bool, List, [], ◌++◌, length, slice_get, slice_set, Some, None, Ok, Err}
+use Rattle.std.specs.Prelude.{sum_by, count_by, Option, Result}
 use Rattle.std.specs.List.{AllByRecursion}
+use Rattle.im_types.specs.Types.{Entry, Command, Outcome, Call, Line, Asks, Confirm, Commands, Refusal, Contents}
+use Rattle.im_types.specs.Types.{IsLegal, shown_by, Change}
+use Rattle.im_trace.specs.Lines.{counts_after, EndsIn, GoesOnTo, left_lines, line_of, LineCounts, time_at, times_of}
 use mathlib.Core.List.{IsPrefix}
-use Rattle.im_types.specs.declared.operations.Entry.{Entry}
-use Rattle.im_types.specs.declared.commands.Command.{Command}
-use Rattle.im_types.specs.declared.commands.Command.TheVariants.{Request as Asks, Confirm}
-use Rattle.im_types.specs.declared.commands.Outcome.{Outcome}
-use Rattle.im_types.specs.declared.commands.Call.{Call}
-use Rattle.im_types.specs.declared.commands.Call.TheVariants.{Command as Commands}
-use Rattle.im_types.specs.declared.commands.Line.{Line}
-use Rattle.im_types.specs.declared.refusals.Refusal.{Refusal}
-use Rattle.im_types.specs.Contents.{Contents}
-use Rattle.im_types.specs.Trace.{IsLegal}
-use Rattle.im_types.specs.declared.changes.Change.{Change}
-use Rattle.im_types.specs.Changes.{shown_by}
-use Rattle.im_trace.specs.Lines.{EndsIn, LineCounts, GoesOnTo, line_of, left_lines, counts_after, time_at, times_of}
 
 -- a command, its outcome, the trace that ends in its line, that line's time, and what was shown when its port was told
 pub record ReceiptState : Type 0 where

@@ -1,11 +1,7 @@
 -- Where a controller begins, which all its parts agree on. (Own.)
 use Rattle.std.specs.Prelude.{ℕ, Bool, List, Option}
-use Rattle.im_types.specs.declared.commands.Command.{Command}
-use Rattle.im_types.specs.declared.commands.Request.{Request}
-use Rattle.im_types.specs.declared.commands.Line.{Line}
-use Rattle.im_types.specs.Contents.{Contents}
-use Rattle.im_trace.specs.Books.{BookNames}
-use Rattle.im_trace.specs.Begun.{Begun}
+use Rattle.im_types.specs.Types.{Request, Command, Line, Contents}
+use Rattle.im_trace.specs.{Begun.Begun, Books.BookNames}
 
 -- where a controller begins, which its ports, its receipts and what lies under its lock agree on
 pub record Origin : Type 1 where

@@ -1,18 +1,11 @@
 -- A line of the trace by the parts that are kept of it. (Own.)
-use Rattle.std.specs.Prelude.{ℕ, Result, Ok, Err}
-use Rattle.im_types.specs.declared.operations.Op.{Op}
-use Rattle.im_types.specs.declared.operations.Reply.{Reply}
-use Rattle.im_types.specs.declared.operations.Entry.TheVariants.{Waiting as Waits, Answered as Replies}
-use Rattle.im_types.specs.declared.commands.Command.TheVariants.{Request as Asks, Confirm as Confirms}
-use Rattle.im_types.specs.declared.commands.Outcome.{Outcome}
-use Rattle.im_types.specs.declared.commands.Outcome.TheVariants.{Entry as Tells, Confirmed as Forgotten}
-use Rattle.im_types.specs.declared.commands.Call.{Call}
-use Rattle.im_types.specs.declared.commands.Call.TheVariants.{Command as Commands, Collect as Collects}
-use Rattle.im_types.specs.declared.refusals.Refusal.{Refusal}
-use Rattle.im_trace.specs.declared.traced.TracedCall.{TracedCall}
-use Rattle.im_trace.specs.declared.traced.TracedCall.TheVariants.{Request, Confirm, Collect}
-use Rattle.im_trace.specs.declared.traced.TracedAnswer.{TracedAnswer}
-use Rattle.im_trace.specs.declared.traced.TracedAnswer.TheVariants.{Answered, Waiting, Confirmed, Refused}
+use Rattle.std.specs.Prelude.{ℕ, Ok, Err, Result}
+use Rattle.im_types.specs.Types.{Op, Reply, Waiting as Waits, Answered as Replies, Outcome, Call, Asks}
+use Rattle.im_types.specs.Types.{Confirm as Confirms, Tells, Confirmed as Forgotten, Commands, Collect as Collects}
+use Rattle.im_types.specs.Types.{Refusal}
+use Rattle.im_trace.specs.declared.traced.TracedAnswer.TheVariants.{Answered, Confirmed, Refused, Waiting}
+use Rattle.im_trace.specs.declared.traced.{TracedAnswer.TracedAnswer, TracedCall.TracedCall}
+use Rattle.im_trace.specs.declared.traced.TracedCall.TheVariants.{Collect, Confirm, Request}
 
 -- the call that asks this of an element
 abbrev pub call_with : TracedCall → ℕ → ℕ → Op → Call

@@ -1,5 +1,5 @@
 //! The books that count the lines of a trace, and the shares that ports have in them.
-ghost use Rattle.std.specs.Prelude.{◌≡◌, ◌+◌, ◌<◌, ◌≤◌, [], ◌∷◌, ℕ, count_by};
+ghost use Rattle.std.specs.Prelude.{◌≡◌, ℕ, ◌+◌, ◌<◌, ◌≤◌, [], ◌∷◌, count_by};
 ghost use Rattle.im_trace.specs.Lines.{counts_after, left_lines};
 
 use crate::name::{LineLedger, Marked, Name};
@@ -52,7 +52,7 @@ pub struct Reserve<K: Name> {
 }
 
 impl<K: Name> Model for Reserve<K> {
-    ghost use Rattle.std.specs.Prelude.{◌≡◌, ◌≤◌, ℕ};
+    ghost use Rattle.std.specs.Prelude.{◌≡◌, ℕ, ◌≤◌};
 
     ghost Value = { ℕ };
 

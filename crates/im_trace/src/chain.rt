@@ -1,11 +1,11 @@
 //! The book of the lines: the trace, of which each port and each receipt has a prefix. It is one book of the
 //! toolchain's `logbook`, and contracts alone see its entries. Who has the next pen knows all its lines, and nobody
 //! else adds one.
-ghost use Rattle.std.specs.Prelude.{◌≡◌, ◌<◌, ◌≤◌, ◌++◌, ◌∷◌, [], length, take};
-ghost use mathlib.Core.List.{IsPrefix};
+ghost use Rattle.std.specs.Prelude.{◌≡◌, ◌<◌, ◌≤◌, [], ◌∷◌, ◌++◌, length, take};
 ghost use Rattle.logbook.specs.Pages.{may_write};
+ghost use Rattle.im_trace.specs.Chains.{first_of_book, IsOpened, KnowsAll, lines_from, times_from};
 ghost use Rattle.im_trace.specs.Lines.{AreInOrder, time_at, times_of};
-ghost use Rattle.im_trace.specs.Chains.{IsOpened, KnowsAll, first_of_book, lines_from, times_from};
+ghost use mathlib.Core.List.{IsPrefix};
 
 use crate::name::Name;
 use crate::rule::{Chained, KeepPen, Link, MakePen, NoGain, Signed, UsePen};
@@ -61,8 +61,7 @@ pub struct NewChain {
 impl Model for NewChain {
     ghost use Rattle.std.specs.Prelude.{◌≡◌, []};
     ghost use Rattle.logbook.specs.Pages.{may_write};
-    ghost use Rattle.im_trace.specs.Books.{LinesBook};
-    ghost use Rattle.im_trace.specs.Chains.{first_of_book};
+    ghost use Rattle.im_trace.specs.{Books.LinesBook, Chains.first_of_book};
 
     ghost Value = { LinesBook };
 
@@ -122,7 +121,7 @@ pub struct Chain<K: Name> {
 impl<K: Name> Model for Chain<K> {
     ghost use Rattle.std.specs.Prelude.{◌≡◌};
     ghost use Rattle.logbook.specs.Pages.{may_write};
-    ghost use Rattle.im_trace.specs.Chains.{ChainState, IsOpened, first_of_book, lines_from, times_from, tip_from};
+    ghost use Rattle.im_trace.specs.Chains.{ChainState, first_of_book, IsOpened, lines_from, times_from, tip_from};
 
     ghost Value = { ChainState };
 
@@ -213,7 +212,7 @@ pub struct Prefix<K: Name> {
 
 impl<K: Name> Model for Prefix<K> {
     ghost use Rattle.std.specs.Prelude.{◌≡◌, ◌≤◌, List, length, take};
-    ghost use Rattle.im_types.specs.declared.commands.Line.{Line};
+    ghost use Rattle.im_types.specs.Types.{Line};
     ghost use Rattle.im_trace.specs.Chains.{IsOpened, lines_from};
 
     ghost Value = { List Line };

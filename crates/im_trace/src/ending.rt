@@ -1,8 +1,8 @@
 //! A log at its end: the shares of its ports come back, and its books are audited.
 ghost use Rattle.std.specs.Prelude.{◌≡◌, ◌≤◌};
-ghost use mathlib.Core.List.{IsPrefix};
-ghost use Rattle.im_types.specs.Trace.{IsLegal};
+ghost use Rattle.im_types.specs.Types.{IsLegal};
 ghost use Rattle.im_trace.specs.Ends.{CountsTrace, with_share_back};
+ghost use mathlib.Core.List.{IsPrefix};
 
 use crate::books::{Books, Reserve, Tally};
 use crate::chain::Prefix;
@@ -26,7 +26,7 @@ pub struct Ended<K: Name> {
 
 impl<K: Name> Model for Ended<K> {
     ghost use Rattle.std.specs.Prelude.{◌≡◌, ◌≤◌};
-    ghost use Rattle.im_trace.specs.Ends.{EndedState, CountsTrace};
+    ghost use Rattle.im_trace.specs.Ends.{CountsTrace, EndedState};
 
     ghost Value = { EndedState };
 

@@ -1,13 +1,11 @@
 //! The trace, the books that count its lines, and the answers that wait for their ports.
-ghost use Rattle.std.specs.Prelude.{◌≡◌, ◌<◌, ◌≤◌, ◌-◌, true, Some, None, Ok, length, slice_get, IfSome};
+ghost use Rattle.std.specs.Prelude.{◌≡◌, ◌-◌, ◌<◌, ◌≤◌, true, length, IfSome, slice_get, Some, None, Ok};
+ghost use Rattle.im_types.specs.Types.{Tells, Commands, Collect, answer_to, IsLegal, end_of};
+ghost use Rattle.im_trace.specs.Lines.{counts_after, EndsIn, EndsInAll, leaves_line, left_lines, line_of, memory_after};
+ghost use Rattle.im_trace.specs.Lines.{time_at};
+ghost use Rattle.im_trace.specs.Log.{Claims, GoesOnAt, IsOfTrace, IsProof, IsTimed, IsToldOf, receipt_for, SeesAnswer};
+ghost use Rattle.im_trace.specs.Log.{sender_of, with_line, with_unclaimed};
 ghost use mathlib.Core.List.{IsPrefix};
-ghost use Rattle.im_types.specs.declared.commands.Call.TheVariants.{Command as Commands, Collect};
-ghost use Rattle.im_types.specs.declared.commands.Outcome.TheVariants.{Entry as Tells};
-ghost use Rattle.im_types.specs.Trace.{answer_to, end_of, IsLegal};
-ghost use Rattle.im_trace.specs.Lines.{leaves_line, left_lines, memory_after, counts_after, time_at};
-ghost use Rattle.im_trace.specs.Lines.{EndsIn, EndsInAll, line_of};
-ghost use Rattle.im_trace.specs.Log.{sender_of, with_line, with_unclaimed, Claims, IsProof, IsToldOf};
-ghost use Rattle.im_trace.specs.Log.{receipt_for, GoesOnAt, IsOfTrace, IsTimed, SeesAnswer};
 
 use crate::books::{Books, Tally, count_line};
 use crate::chain::Prefix;
@@ -34,9 +32,8 @@ pub(crate) struct Unclaimed {
 
 impl Model for Unclaimed {
     ghost use Rattle.std.specs.Prelude.{◌≡◌, ◌+◌, length};
-    ghost use Rattle.im_types.specs.declared.commands.Call.TheVariants.{Command as Commands};
-    ghost use Rattle.im_trace.specs.Lines.{left_lines};
-    ghost use Rattle.im_trace.specs.Log.{UnclaimedState};
+    ghost use Rattle.im_types.specs.Types.{Commands};
+    ghost use Rattle.im_trace.specs.{Lines.left_lines, Log.UnclaimedState};
 
     ghost Value = { UnclaimedState };
 
@@ -58,7 +55,7 @@ pub struct Log<K: Name> {
 }
 
 impl<K: Name> Model for Log<K> {
-    ghost use Rattle.im_trace.specs.Log.{TimedLog, IsLog};
+    ghost use Rattle.im_trace.specs.Log.{IsLog, TimedLog};
 
     ghost Value = { TimedLog };
 

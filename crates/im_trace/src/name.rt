@@ -14,7 +14,7 @@ pub trait Name {
 }
 
 impl Name for Brand {
-    ghost use Rattle.std.specs.Prelude.{[], None, false};
+    ghost use Rattle.std.specs.Prelude.{false, [], None};
 
     ghost origin = { record {
       memory = record { cells = []; windows = [] };

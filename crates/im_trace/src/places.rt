@@ -1,7 +1,7 @@
 //! The answers that wait for their ports, each in its element's place.
-ghost use Rattle.std.specs.Prelude.{◌≡◌, ◌<◌, ◌≤◌, true, false, Some, None, length, slice_get, slice_set, sum_by};
-ghost use Rattle.std.specs.Prelude.{IfOk, IfSome, MatchOption, if◌then◌else◌};
-ghost use Rattle.im_trace.specs.Log.{sender_of, Takes, AreVacant, AreClaimed, unclaimed_lines};
+ghost use Rattle.std.specs.Prelude.{◌≡◌, ◌<◌, ◌≤◌, true, false, length, IfSome, IfOk, if◌then◌else◌, slice_get};
+ghost use Rattle.std.specs.Prelude.{slice_set, MatchOption, Some, None, sum_by};
+ghost use Rattle.im_trace.specs.Log.{AreClaimed, AreVacant, sender_of, Takes, unclaimed_lines};
 
 use crate::log::{Unclaimed, element_of};
 use crate::record::leaves_line;

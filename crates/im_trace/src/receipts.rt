@@ -1,10 +1,7 @@
 //! What goes out of the lock: an answer, with the trace that ends in its line.
-ghost use Rattle.std.specs.Prelude.{◌≡◌, Ok, length};
-ghost use Rattle.im_types.specs.declared.commands.Call.TheVariants.{Command as Commands, Collect};
-ghost use Rattle.im_types.specs.declared.commands.Outcome.TheVariants.{Entry as Tells};
-ghost use Rattle.im_types.specs.Trace.{IsLegal};
-ghost use Rattle.im_trace.specs.Lines.{EndsIn, line_of};
-ghost use Rattle.im_trace.specs.Log.{IsProof, IsToldOf, receipt_for};
+ghost use Rattle.std.specs.Prelude.{◌≡◌, length, Ok};
+ghost use Rattle.im_types.specs.Types.{Tells, Commands, Collect, IsLegal};
+ghost use Rattle.im_trace.specs.{Lines.EndsIn, Lines.line_of, Log.IsProof, Log.IsToldOf, Log.receipt_for};
 
 use crate::chain::Prefix;
 use crate::name::{Name, Shown};
@@ -26,9 +23,9 @@ pub struct Receipt<K: Name> {
 }
 
 impl<K: Name> Model for Receipt<K> {
-    ghost use Rattle.std.specs.Prelude.{◌≡◌, Ok, length};
-    ghost use Rattle.im_types.specs.declared.commands.Call.TheVariants.{Command as Commands};
-    ghost use Rattle.im_trace.specs.Log.{ReceiptState, IsProof, IsToldOf};
+    ghost use Rattle.std.specs.Prelude.{◌≡◌, length, Ok};
+    ghost use Rattle.im_types.specs.Types.{Commands};
+    ghost use Rattle.im_trace.specs.Log.{IsProof, IsToldOf, ReceiptState};
 
     ghost Value = { ReceiptState };
 
@@ -94,9 +91,8 @@ pub struct Found<K: Name> {
 }
 
 impl<K: Name> Model for Found<K> {
-    ghost use Rattle.std.specs.Prelude.{◌≡◌, Ok, length};
-    ghost use Rattle.im_types.specs.declared.commands.Call.TheVariants.{Collect};
-    ghost use Rattle.im_types.specs.declared.commands.Outcome.TheVariants.{Entry as Tells};
+    ghost use Rattle.std.specs.Prelude.{◌≡◌, length, Ok};
+    ghost use Rattle.im_types.specs.Types.{Tells, Collect};
     ghost use Rattle.im_trace.specs.Log.{FoundState, IsProof, IsToldOf};
 
     ghost Value = { FoundState };

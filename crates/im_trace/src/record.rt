@@ -1,9 +1,8 @@
 //! The trace: the book of its lines, and the lines themselves if they are recorded.
-ghost use Rattle.std.specs.Prelude.{◌≡◌, ◌<◌, ◌≤◌, ◌-◌, ◌++◌, ◌∷◌, [], true, length, take, vec_len, vec_capacity};
-ghost use Rattle.std.specs.Prelude.{if◌then◌else◌};
+ghost use Rattle.std.specs.Prelude.{◌≡◌, ◌-◌, ◌<◌, ◌≤◌, true, [], ◌∷◌, ◌++◌, length, take, if◌then◌else◌, vec_len};
+ghost use Rattle.std.specs.Prelude.{vec_capacity};
+ghost use Rattle.im_trace.specs.{Chains.IsOpened, Lines.leaves_line, Lines.left_lines, Lines.time_at, Lines.times_of};
 ghost use mathlib.Core.List.{IsPrefix};
-ghost use Rattle.im_trace.specs.Chains.{IsOpened};
-ghost use Rattle.im_trace.specs.Lines.{leaves_line, left_lines, time_at, times_of};
 
 use crate::chain::{Chain, NewChain, Prefix};
 use crate::name::Name;
@@ -25,7 +24,7 @@ pub struct Record<K: Name> {
 }
 
 impl<K: Name> Model for Record<K> {
-    ghost use Rattle.std.specs.Prelude.{◌≡◌, ◌≤◌, [], true, length, vec_capacity, if◌then◌else◌};
+    ghost use Rattle.std.specs.Prelude.{◌≡◌, ◌≤◌, true, [], length, if◌then◌else◌, vec_capacity};
     ghost use Rattle.im_trace.specs.Ends.{RecordState};
 
     ghost Value = { RecordState };

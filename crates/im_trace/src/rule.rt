@@ -21,8 +21,8 @@ pub struct Chained;
 
 impl Rule<Link, u64> for Chained {
     ghost use Rattle.std.specs.Prelude.{[]};
-    ghost use base.Fml.{ftrue};
     ghost use Rattle.im_trace.specs.Chains.{IsChained};
+    ghost use base.Fml.{ftrue};
 
     ghost holds = { λ cells log. IsChained cells log };
 
@@ -66,8 +66,7 @@ impl Play<Link, u64> for KeepPen {
 
 impl Plain<u64, Link, u64> for KeepPen {
     ghost use Rattle.std.specs.Prelude.{None, Err};
-    ghost use Rattle.im_types.specs.declared.commands.Call.TheVariants.{Collect};
-    ghost use Rattle.im_types.specs.declared.refusals.Refusal.TheVariants.{NoElement};
+    ghost use Rattle.im_types.specs.Types.{Collect, NoElement};
 
     ghost ask = { λ n. record {
       from = 0;
@@ -97,7 +96,7 @@ impl Play<Link, u64> for UsePen {
 }
 
 impl<D: Disk> Plain<Signed<D>, Link, u64> for UsePen {
-    ghost use Rattle.std.specs.Prelude.{None, length};
+    ghost use Rattle.std.specs.Prelude.{length, None};
 
     ghost ask = { λ s. record {
       from = 0;

@@ -1,5 +1,5 @@
 //! A log before it has a name.
-ghost use Rattle.std.specs.Prelude.{◌≡◌, ◌≤◌, [], true, false, IfOk, vec_capacity};
+ghost use Rattle.std.specs.Prelude.{◌≡◌, ◌≤◌, true, false, [], IfOk, vec_capacity};
 ghost use Rattle.im_trace.specs.Chains.{IsOpened};
 
 use crate::books::{Books, Reserve};
@@ -28,9 +28,8 @@ pub struct NewLog {
 }
 
 impl Model for NewLog {
-    ghost use Rattle.std.specs.Prelude.{◌≡◌, ◌≤◌, [], true, vec_capacity};
-    ghost use Rattle.im_trace.specs.Log.{AreVacant};
-    ghost use Rattle.im_trace.specs.Ends.{NewLogState};
+    ghost use Rattle.std.specs.Prelude.{◌≡◌, ◌≤◌, true, [], vec_capacity};
+    ghost use Rattle.im_trace.specs.{Ends.NewLogState, Log.AreVacant};
 
     ghost Value = { NewLogState };
 

@@ -1,7 +1,6 @@
 //! A line of the trace, in few bytes.
-ghost use Rattle.std.specs.Prelude.{◌≡◌, ◌&&◌, true};
-ghost use Rattle.im_trace.specs.Lines.{line_of, may_begin};
-ghost use Rattle.im_trace.specs.Traced.{call_with, traced_answer};
+ghost use Rattle.std.specs.Prelude.{◌≡◌, true, ◌&&◌};
+ghost use Rattle.im_trace.specs.{Lines.line_of, Lines.may_begin, Traced.call_with, Traced.traced_answer};
 
 use im_types::{Call, Command, Entry, Line, Op, Outcome, Refusal, Reply, Request};
 use std::marker::Model;
@@ -49,9 +48,8 @@ pub struct Traced {
 
 impl Model for Traced {
     ghost use Rattle.std.specs.Prelude.{◌≡◌, true};
-    ghost use Rattle.im_types.specs.declared.commands.Line.{Line};
-    ghost use Rattle.im_trace.specs.Lines.{may_begin};
-    ghost use Rattle.im_trace.specs.Traced.{call_with, traced_answer};
+    ghost use Rattle.im_types.specs.Types.{Line};
+    ghost use Rattle.im_trace.specs.{Lines.may_begin, Traced.call_with, Traced.traced_answer};
 
     ghost Value = { Line };
 

@@ -1,7 +1,7 @@
 //! The times of lines, which go out of the lock, and the book of the lines at its end.
 ghost use Rattle.std.specs.Prelude.{◌≡◌};
-ghost use mathlib.Core.List.{IsPrefix};
 ghost use Rattle.im_trace.specs.Lines.{time_at};
+ghost use mathlib.Core.List.{IsPrefix};
 
 use crate::chain::{Prefix, look};
 use crate::name::Name;
@@ -21,8 +21,7 @@ pub struct When<K: Name> {
 
 impl<K: Name> Model for When<K> {
     ghost use Rattle.std.specs.Prelude.{◌≡◌, ◌≤◌, length};
-    ghost use Rattle.im_trace.specs.Lines.{WhenState, time_at};
-    ghost use Rattle.im_trace.specs.Chains.{times_from};
+    ghost use Rattle.im_trace.specs.{Chains.times_from, Lines.time_at, Lines.WhenState};
 
     ghost Value = { WhenState };
 
@@ -47,7 +46,7 @@ pub(crate) struct Written {
 impl Model for Written {
     ghost use Rattle.std.specs.Prelude.{◌≡◌};
     ghost use Rattle.logbook.specs.Pages.{may_write};
-    ghost use Rattle.im_trace.specs.Chains.{WrittenState, first_of_book, lines_from, times_from, tip_from};
+    ghost use Rattle.im_trace.specs.Chains.{first_of_book, lines_from, times_from, tip_from, WrittenState};
 
     ghost Value = { WrittenState };
 

@@ -1,28 +1,19 @@
 -- Where turns lead.
-use Rattle.std.proofs.Common.{◌≡◌, ◌⊎◌, inl, inr, ⊎_elim, ℕ, zero, suc, ◌+◌, ◌-◌, ◌*◌, ◌<◌, ◌≤◌, ◌==◌, min}
-use Rattle.std.proofs.Common.{Bool, true, false}
-use Rattle.std.proofs.Common.{◌&&◌, nat_lt, if◌then◌else◌, List, [], ◌∷◌, length, refl, sym, ◌∙◌, ap, subst, arith}
-use Rattle.std.specs.Prelude.{Result, Ok}
+use Rattle.std.proofs.Common.{◌≡◌, ℕ, zero, suc, ◌+◌, ◌-◌, ◌*◌, ◌<◌, ◌≤◌, min, Bool, true, false, ◌&&◌, ◌⊎◌, List, []}
+use Rattle.std.proofs.Common.{◌∷◌, length, if◌then◌else◌, nat_lt, ◌==◌, Ok, Result, sym, refl, ap, ◌∙◌, subst, inl, inr}
+use Rattle.std.proofs.Common.{⊎_elim, arith}
 use Rattle.std.proofs.lemmas.Bool.Decides.{nat_tests}
-use Rattle.im_laws.proofs.Tests.{true_or_false}
-use Rattle.im_types.specs.declared.TheConstants.{LAST}
-use Rattle.im_types.specs.Header.{Header}
-use Rattle.im_types.specs.Layout.{area_pages, layout_in_use}
+use Rattle.im_types.specs.Types.{Refusal, LAST, layout_in_use, area_pages, Header}
+use Rattle.{im_laws.proofs.Tests.true_or_false, im_pages.specs.PageSets.pages_from}
 use Rattle.im_journal.specs.Holding.{IsJournal, JournalState, to_sweep}
-use Rattle.im_pages.specs.PageSets.{pages_from}
-use Rattle.im_checkpoint.specs.declared.checkpoint.TurnDone.{TurnDone}
-use Rattle.im_checkpoint.specs.declared.checkpoint.TurnDone.TheVariants.{Idle}
-use Rattle.im_checkpoint.specs.Step.{Step, NoCheckpoint, PagesLeft, PagesDone, Synced, CheckpointState}
-use Rattle.im_checkpoint.specs.Step.{pages_step, turns_left}
-use Rattle.im_checkpoint.specs.Turns.{is_due, next_header}
 use Rattle.im_checkpoint.proofs.Fitting.{none_or_some, turns_with}
-use Rattle.im_types.specs.declared.refusals.Refusal.{Refusal}
-use Rattle.im_engine.specs.State.{EngineState}
-use Rattle.im_engine.specs.Answered.{TurnAnswered, TurnTaken}
-use Rattle.im_turning.specs.Turning.{Point, point_of, checkpoint_at, point_journal, TurnsInto, TurnsLead, IsAtRest}
-use Rattle.im_turning.specs.Turning.{due_turns}
-use Rattle.im_turning.specs.Turning.{later_turns}
-use Rattle.im_turning.specs.Turning.{checkpoint_turns, enough_turns, HasPageLeft, HasMadeRoom, HasTurned, IsSpent}
+use Rattle.im_checkpoint.specs.{declared.TurnDone.TheVariants.Idle, declared.TurnDone.TurnDone, Step.CheckpointState}
+use Rattle.im_checkpoint.specs.{Step.NoCheckpoint, Step.pages_step, Step.PagesDone, Step.PagesLeft, Step.Step}
+use Rattle.im_checkpoint.specs.{Step.Synced, Step.turns_left, Turns.is_due, Turns.next_header}
+use Rattle.im_engine.specs.{Answered.TurnAnswered, Answered.TurnTaken, State.EngineState}
+use Rattle.im_turning.specs.Turning.{checkpoint_at, checkpoint_turns, due_turns, enough_turns, HasMadeRoom, HasPageLeft}
+use Rattle.im_turning.specs.Turning.{HasTurned, IsAtRest, IsSpent, later_turns, Point, point_journal, point_of}
+use Rattle.im_turning.specs.Turning.{TurnsInto, TurnsLead}
 
 at_most_or_above : (a b : ℕ) → (a ≤ b) ⊎ (b < a)
 at_most_or_above zero b = inl (omega arith)

@@ -1,13 +1,10 @@
 -- Turns of a checkpoint, one after another: where they lead, and how many make room. (Own.)
-use Rattle.std.specs.Prelude.{◌≡◌, ◌⊎◌, ℕ, ◌+◌, ◌-◌, ◌≤◌, false, ◌&&◌, nat_lt, if◌then◌else◌, List, [], ◌∷◌, length}
-use Rattle.im_types.specs.declared.TheConstants.{LAST}
-use Rattle.im_types.specs.Header.{Header}
-use Rattle.im_types.specs.Layout.{layout_in_use, area_pages}
+use Rattle.std.specs.Prelude.{◌≡◌, ℕ, ◌+◌, ◌-◌, ◌≤◌, false, ◌&&◌, ◌⊎◌, List, [], ◌∷◌, length, if◌then◌else◌, nat_lt}
+use Rattle.im_types.specs.Types.{LAST, layout_in_use, area_pages, Header}
 use Rattle.im_journal.specs.Holding.{JournalState, room_after, to_sweep}
-use Rattle.im_checkpoint.specs.declared.checkpoint.TurnDone.{TurnDone}
-use Rattle.im_checkpoint.specs.declared.checkpoint.TurnDone.TheVariants.{Idle}
-use Rattle.im_checkpoint.specs.Step.{Step, NoCheckpoint, PagesLeft, PagesDone, Synced, CheckpointState}
-use Rattle.im_checkpoint.specs.Turns.{Turned, is_due, next_header}
+use Rattle.im_checkpoint.specs.declared.TurnDone.{TheVariants.Idle, TurnDone}
+use Rattle.im_checkpoint.specs.Step.{CheckpointState, NoCheckpoint, PagesDone, PagesLeft, Step, Synced}
+use Rattle.im_checkpoint.specs.Turns.{is_due, next_header, Turned}
 use Rattle.im_engine.specs.State.{EngineState, journal_of}
 use Rattle.im_turning.specs.declared.TheConstants.{MOST_TURNS}
 

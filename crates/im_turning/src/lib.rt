@@ -2,15 +2,12 @@
 //! contract is a law. Programs make room in the journal by turns, and say by these definitions how far they came.
 #![tactic(auto)]
 
-ghost use Rattle.std.specs.Prelude.{◌≡◌, ◌⊎◌, ◌+◌, ◌*◌, ◌<◌, ◌≤◌, ℕ, List, length};
-ghost use Rattle.im_types.specs.declared.TheConstants.{LAST};
-ghost use Rattle.im_types.specs.Layout.{area_pages, layout_in_use};
+ghost use Rattle.std.specs.Prelude.{◌≡◌, ℕ, ◌+◌, ◌*◌, ◌<◌, ◌≤◌, ◌⊎◌, List, length};
+ghost use Rattle.im_types.specs.Types.{LAST, layout_in_use, area_pages};
 ghost use Rattle.im_journal.specs.Holding.{IsJournal};
-ghost use Rattle.im_checkpoint.specs.declared.checkpoint.TurnDone.{TurnDone};
-ghost use Rattle.im_checkpoint.specs.declared.checkpoint.TurnDone.TheVariants.{Idle};
-ghost use Rattle.im_checkpoint.specs.Step.{turns_left};
-ghost use Rattle.im_turning.specs.Turning.{HasPageLeft, IsAtRest, TurnsInto, Point, TurnsLead, enough_turns};
-ghost use Rattle.im_turning.specs.Turning.{point_journal};
+ghost use Rattle.im_checkpoint.specs.{declared.TurnDone.TheVariants.Idle, declared.TurnDone.TurnDone, Step.turns_left};
+ghost use Rattle.im_turning.specs.Turning.{enough_turns, HasPageLeft, IsAtRest, Point, point_journal, TurnsInto};
+ghost use Rattle.im_turning.specs.Turning.{TurnsLead};
 
 use im_types::layout::MOST_AREA_PAGES;
 

@@ -1,22 +1,17 @@
 -- The effects of operations on cells. (I cells: Arvind, Nikhil, Pingali, TOPLAS 11(4), 1989. M cells: Barth, Nikhil,
 -- Arvind, 1991. Own: waiters in order of arrival, and Clashed at a second write.)
-use Rattle.std.specs.Prelude.{ℕ, List, [], ◌∷◌, ◌++◌, map, Bool, true, false, Option, None, Some, slice_set, take}
-use Rattle.std.specs.Prelude.{drop, if◌then◌else◌, ◌==◌}
+use Rattle.std.specs.Prelude.{ℕ, Bool, true, false, List, [], ◌∷◌, ◌++◌, map, take, drop, if◌then◌else◌, ◌==◌}
+use Rattle.std.specs.Prelude.{slice_set, Some, None, Option}
 use Rattle.std.specs.List.{list_any}
-use Rattle.im_types.specs.declared.operations.Op.{Op}
-use Rattle.im_types.specs.declared.operations.Op.TheVariants.{Alloc, Release, Reset, Fetch, Store, Take, Put}
-use Rattle.im_types.specs.declared.operations.Kind.{Kind}
-use Rattle.im_types.specs.declared.operations.Kind.TheVariants.{I, M}
-use Rattle.im_types.specs.declared.operations.Reply.{Reply}
-use Rattle.im_types.specs.declared.operations.Reply.TheVariants.{Base, NoSpace, BadLength, Value, Stored, Clash}
-use Rattle.im_types.specs.declared.operations.Reply.TheVariants.{NoCell, WrongKind, Released, NoBlock, StillWaiting}
-use Rattle.im_types.specs.declared.operations.Reply.TheVariants.{Cleared}
-use Rattle.im_types.specs.declared.operations.Entry.{Entry}
-use Rattle.im_types.specs.declared.operations.Entry.TheVariants.{Waiting, Answered}
-use Rattle.im_types.specs.declared.operations.Waiter.{Waiter}
-use Rattle.im_types.specs.declared.operations.Block.{Block}
-use Rattle.im_types.specs.Contents.{CellState, Empty, Full, Clashed, Held, held_at}
-use Rattle.im_types.specs.Place.{place, fill, change_each}
+use Rattle.im_types.specs.Contents.{CellState, Clashed, Empty, Full, Held, held_at}
+use Rattle.im_types.specs.declared.operations.{Block.Block, Op.Op, Reply.Reply, Waiter.Waiter}
+use Rattle.im_types.specs.declared.operations.Entry.{Entry, TheVariants.Answered, TheVariants.Waiting}
+use Rattle.im_types.specs.declared.operations.Kind.{Kind, TheVariants.I, TheVariants.M}
+use Rattle.im_types.specs.declared.operations.Op.TheVariants.{Alloc, Fetch, Put, Release, Reset, Store, Take}
+use Rattle.im_types.specs.declared.operations.Reply.TheVariants.{BadLength, Base, Clash, Cleared, NoBlock, NoCell}
+use Rattle.im_types.specs.declared.operations.Reply.TheVariants.{NoSpace, Released, StillWaiting, Stored, Value}
+use Rattle.im_types.specs.declared.operations.Reply.TheVariants.{WrongKind}
+use Rattle.im_types.specs.Place.{change_each, fill, place}
 
 -- the state of one cell after an operation, the asker's entry, and the replies to requests that waited
 pub record Served : Type 0 where

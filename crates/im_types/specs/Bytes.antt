@@ -1,18 +1,14 @@
 -- Numbers and codes as bytes. All numbers are little endian. (Own.)
-use Rattle.std.specs.Prelude.{ℕ, List, replicate, Bool, ◌+◌, ◌^◌, ◌<◌, slice_range, nat_eq}
-use Rattle.std.specs.Cmp.Lexicographic.{pointwise}
+use Rattle.std.specs.Prelude.{ℕ, ◌+◌, ◌^◌, ◌<◌, Bool, List, replicate, nat_eq, slice_range}
 use Rattle.byteorder.specs.Endian.{little_number}
-use Rattle.im_types.specs.declared.operations.Op.{Op}
-use Rattle.im_types.specs.declared.operations.Op.TheVariants.{Alloc, Release, Reset, Fetch, Store, Take, Put}
-use Rattle.im_types.specs.declared.operations.Kind.{Kind}
-use Rattle.im_types.specs.declared.operations.Kind.TheVariants.{I, M}
-use Rattle.im_types.specs.declared.operations.Reply.{Reply}
-use Rattle.im_types.specs.declared.operations.Reply.TheVariants.{Base, NoSpace, BadLength, Value, Stored, Clash}
-use Rattle.im_types.specs.declared.operations.Reply.TheVariants.{NoCell, WrongKind, Released, NoBlock, StillWaiting}
-use Rattle.im_types.specs.declared.operations.Reply.TheVariants.{Cleared}
-use Rattle.im_types.specs.declared.operations.Entry.{Entry}
-use Rattle.im_types.specs.declared.operations.Entry.TheVariants.{Waiting, Answered}
+use Rattle.std.specs.Cmp.Lexicographic.{pointwise}
 use Rattle.im_types.specs.Agreement.{address_of}
+use Rattle.im_types.specs.declared.operations.Entry.{Entry, TheVariants.Answered, TheVariants.Waiting}
+use Rattle.im_types.specs.declared.operations.{Kind.Kind, Kind.TheVariants.I, Kind.TheVariants.M, Op.Op, Reply.Reply}
+use Rattle.im_types.specs.declared.operations.Op.TheVariants.{Alloc, Fetch, Put, Release, Reset, Store, Take}
+use Rattle.im_types.specs.declared.operations.Reply.TheVariants.{BadLength, Base, Clash, Cleared, NoBlock, NoCell}
+use Rattle.im_types.specs.declared.operations.Reply.TheVariants.{NoSpace, Released, StillWaiting, Stored, Value}
+use Rattle.im_types.specs.declared.operations.Reply.TheVariants.{WrongKind}
 
 -- the byte of an open gate; a gate with any other byte is closed
 abbrev pub open_gate : ℕ

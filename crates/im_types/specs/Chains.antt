@@ -1,13 +1,11 @@
 -- Lists of waiters, as chains of nodes. (Own.)
-use Rattle.std.specs.Prelude.{◌≡◌, ℕ, ◌+◌, ◌≤◌, List, [], ◌∷◌, length, Bool, true, false, ◌==◌, slice_index_or}
-use Rattle.im_types.specs.declared.TheConstants.{NONE}
-use Rattle.im_types.specs.declared.operations.Waiter.{Waiter}
-use Rattle.im_types.specs.declared.records.PresenceTag.TheVariants.{Empty as TagEmpty, Waiting as TagWaiting}
-use Rattle.im_types.specs.declared.records.PresenceTag.TheVariants.{Full as TagFull, Clashed as TagClashed}
-use Rattle.im_types.specs.declared.records.CellRecord.{CellRecord}
+use Rattle.std.specs.Prelude.{◌≡◌, ℕ, ◌+◌, ◌≤◌, Bool, true, false, List, [], ◌∷◌, length, ◌==◌, slice_index_or}
+use Rattle.im_types.specs.declared.{operations.Waiter.Waiter, TheConstants.NONE}
+use Rattle.im_types.specs.declared.records.{CellRecord.CellRecord, NodeRecord.NodeRecord}
 use Rattle.im_types.specs.declared.records.CellRecord.TheVariants.{Free as FreeCell, Held as BlockCell}
-use Rattle.im_types.specs.declared.records.NodeRecord.{NodeRecord}
 use Rattle.im_types.specs.declared.records.NodeRecord.TheVariants.{Free as FreeNode, Listed as ListNode}
+use Rattle.im_types.specs.declared.records.PresenceTag.TheVariants.{Clashed as TagClashed, Empty as TagEmpty}
+use Rattle.im_types.specs.declared.records.PresenceTag.TheVariants.{Full as TagFull, Waiting as TagWaiting}
 
 -- the first node of a chain
 abbrev pub first_of : List ℕ → ℕ

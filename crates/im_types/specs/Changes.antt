@@ -1,22 +1,16 @@
 -- The change that a command makes to the full I cells, given the memory before it. (Own.)
-use Rattle.std.specs.Prelude.{ℕ, suc, ◌+◌, List, [], ◌∷◌, ◌++◌, Bool, true, false, Option, None, Some, fold, take}
-use Rattle.std.specs.Prelude.{drop, nat_lt, ◌==◌, if◌then◌else◌}
+use Rattle.std.specs.Prelude.{ℕ, suc, ◌+◌, Bool, true, false, List, [], ◌∷◌, ◌++◌, take, drop, if◌then◌else◌, nat_lt}
+use Rattle.std.specs.Prelude.{◌==◌, Some, None, fold, Option}
 use Rattle.std.specs.List.{list_any}
-use Rattle.im_types.specs.declared.operations.Op.{Op}
-use Rattle.im_types.specs.declared.operations.Op.TheVariants.{Alloc, Release, Reset, Fetch, Store, Take, Put}
-use Rattle.im_types.specs.declared.operations.Kind.TheVariants.{I}
-use Rattle.im_types.specs.declared.operations.Block.{Block}
-use Rattle.im_types.specs.declared.commands.Command.{Command}
-use Rattle.im_types.specs.declared.commands.Command.TheVariants.{Request as Asks, Confirm}
-use Rattle.im_types.specs.declared.commands.Call.{Call}
-use Rattle.im_types.specs.declared.commands.Call.TheVariants.{Command as Commands, Collect}
-use Rattle.im_types.specs.declared.commands.Line.{Line}
-use Rattle.im_types.specs.declared.changes.Change.{Change}
-use Rattle.im_types.specs.declared.changes.Change.TheVariants.{Same, Full as Fills, Gone}
-use Rattle.im_types.specs.Contents.{CellState, Empty, Full, Clashed, Held, Contents, held_at, full_in}
-use Rattle.im_types.specs.Act.{same_kind, block_with_base, is_waiting_cell}
-use Rattle.im_types.specs.Step.{is_accepted}
-use Rattle.im_types.specs.Trace.{contents_after}
+use Rattle.im_types.specs.Act.{block_with_base, is_waiting_cell, same_kind}
+use Rattle.im_types.specs.Contents.{CellState, Clashed, Contents, Empty, Full, full_in, Held, held_at}
+use Rattle.im_types.specs.declared.{changes.Change.Change, commands.Line.Line}
+use Rattle.im_types.specs.declared.changes.Change.TheVariants.{Full as Fills, Gone, Same}
+use Rattle.im_types.specs.declared.commands.Call.{Call, TheVariants.Collect, TheVariants.Command as Commands}
+use Rattle.im_types.specs.declared.commands.Command.{Command, TheVariants.Confirm, TheVariants.Request as Asks}
+use Rattle.im_types.specs.declared.operations.{Block.Block, Kind.TheVariants.I, Op.Op}
+use Rattle.im_types.specs.declared.operations.Op.TheVariants.{Alloc, Fetch, Put, Release, Reset, Store, Take}
+use Rattle.im_types.specs.{Step.is_accepted, Trace.contents_after}
 
 -- whether an address is one of n from base on
 abbrev pub is_among : ℕ → ℕ → ℕ → Bool

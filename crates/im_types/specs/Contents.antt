@@ -1,12 +1,9 @@
 -- The contents of a memory: cells with presence states, and a window of kept replies for each element. (Presence states
 -- and deferred requests: Arvind, Nikhil, Pingali, TOPLAS 11(4), 1989. Windows: own.)
-use Rattle.std.specs.Prelude.{ℕ, List, [], Option, None, Some, slice_get, slice_index_or, option_and_then, ◌-◌}
-use Rattle.std.specs.Prelude.{nat_lt, if◌then◌else◌, replicate, ◌≡◌, ◌+◌, ◌<◌, ◌≤◌, length, option_map}
-use Rattle.im_types.specs.declared.operations.Kind.{Kind}
-use Rattle.im_types.specs.declared.operations.Kind.TheVariants.{I, M}
-use Rattle.im_types.specs.declared.operations.Waiter.{Waiter}
-use Rattle.im_types.specs.declared.operations.Block.{Block}
-use Rattle.im_types.specs.declared.operations.Kept.{Kept}
+use Rattle.std.specs.Prelude.{◌≡◌, ℕ, ◌+◌, ◌-◌, ◌<◌, ◌≤◌, List, [], length, replicate, if◌then◌else◌, nat_lt, slice_get}
+use Rattle.std.specs.Prelude.{slice_index_or, Some, None, Option, option_map, option_and_then}
+use Rattle.im_types.specs.declared.operations.{Block.Block, Kept.Kept, Waiter.Waiter}
+use Rattle.im_types.specs.declared.operations.Kind.{Kind, TheVariants.I, TheVariants.M}
 
 -- the state of a cell: empty, with its deferred requests in their order; full; or full and then written again. An empty
 -- cell with deferred requests is a waiting cell.

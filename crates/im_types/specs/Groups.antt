@@ -1,18 +1,12 @@
 -- A group of requests: the answers to its members, and the memory that they reach, each after the one before. (Own.)
-use Rattle.std.specs.Prelude.{◌≢◌, ℕ, ◌+◌, ◌-◌, ◌==◌, Bool, ◌&&◌, nat_lt, List, [], ◌∷◌, ◌++◌, Result, Ok, Err}
-use Rattle.std.specs.Prelude.{if◌then◌else◌}
-use Rattle.im_types.specs.declared.TheConstants.{LAST}
-use Rattle.im_types.specs.declared.operations.Op.TheVariants.{Fetch}
-use Rattle.im_types.specs.declared.commands.Request.{Request}
-use Rattle.im_types.specs.declared.commands.Command.{Command}
-use Rattle.im_types.specs.declared.commands.Command.TheVariants.{Request as Asks}
-use Rattle.im_types.specs.declared.commands.Outcome.{Outcome}
-use Rattle.im_types.specs.declared.groups.Served.{Served}
-use Rattle.im_types.specs.declared.groups.Served.TheVariants.{Done, Refused}
-use Rattle.im_types.specs.declared.refusals.Refusal.{Refusal}
-use Rattle.im_types.specs.declared.refusals.Refusal.TheVariants.{JournalFull}
-use Rattle.im_types.specs.Step.{step, is_accepted}
-use Rattle.im_types.specs.Meaning.{Reached}
+use Rattle.std.specs.Prelude.{ℕ, ◌+◌, ◌-◌, Bool, ◌&&◌, ◌≢◌, List, [], ◌∷◌, ◌++◌, if◌then◌else◌, nat_lt, ◌==◌, Ok, Err}
+use Rattle.std.specs.Prelude.{Result}
+use Rattle.im_types.specs.declared.commands.Command.{Command, TheVariants.Request as Asks}
+use Rattle.im_types.specs.declared.commands.{Outcome.Outcome, Request.Request}
+use Rattle.im_types.specs.declared.groups.Served.{Served, TheVariants.Done, TheVariants.Refused}
+use Rattle.im_types.specs.declared.{operations.Op.TheVariants.Fetch, TheConstants.LAST}
+use Rattle.im_types.specs.declared.refusals.Refusal.{Refusal, TheVariants.JournalFull}
+use Rattle.im_types.specs.{Meaning.Reached, Step.is_accepted, Step.step}
 
 -- a request that no memory accepts
 abbrev pub no_request : Request

@@ -1,12 +1,11 @@
 -- The headers of an image, and the header in force. (Own.)
-use Rattle.std.specs.Prelude.{ℕ, ◌+◌, List, ◌∷◌, ◌++◌, length, Bool, ◌&&◌, ◌||◌, ◌==◌, nat_lt, nat_le, not, Option}
-use Rattle.std.specs.Prelude.{None, Some, is_none, if◌then◌else◌, slice_index, slice_range}
+use Rattle.std.specs.Prelude.{ℕ, ◌+◌, Bool, not, ◌&&◌, ◌||◌, List, ◌∷◌, ◌++◌, length, is_none, if◌then◌else◌, nat_lt}
+use Rattle.std.specs.Prelude.{nat_le, ◌==◌, slice_index, slice_range, Some, None, Option}
 use Rattle.byteorder.specs.Endian.{little_bytes}
-use Rattle.im_types.specs.declared.TheConstants.{LAST}
-use Rattle.im_types.specs.declared.refusals.Refusal.{Refusal}
-use Rattle.im_types.specs.declared.refusals.Refusal.TheVariants.{WrongLength, NoHeader, BadHeader}
-use Rattle.im_types.specs.Bytes.{open_gate, zeros, same_bytes, number_at}
-use Rattle.im_types.specs.Layout.{Layout, layout_named, Sizes, are_sizes, page_bytes, header_at, image_length}
+use Rattle.im_types.specs.Bytes.{number_at, open_gate, same_bytes, zeros}
+use Rattle.im_types.specs.declared.{refusals.Refusal.Refusal, TheConstants.LAST}
+use Rattle.im_types.specs.declared.refusals.Refusal.TheVariants.{BadHeader, NoHeader, WrongLength}
+use Rattle.im_types.specs.Layout.{are_sizes, header_at, image_length, Layout, layout_named, page_bytes, Sizes}
 
 -- the layout's version, the header's area, the generation of that area, the count of the commands that it holds, and
 -- the sizes

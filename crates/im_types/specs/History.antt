@@ -1,25 +1,17 @@
 -- Laws over whole histories of requests. They count requests, and use no states of cells. (Own; what they say of one
 -- cell: Arvind, Nikhil, Pingali, TOPLAS 11(4), 1989, and Barth, Nikhil, Arvind, 1991.)
-use Rattle.std.specs.Prelude.{◌≡◌, ℕ, ◌+◌, ◌<◌, ◌≤◌, List, [], ◌∷◌, ◌++◌, length, Bool, false, ◌||◌, ◌&&◌, Option}
-use Rattle.std.specs.Prelude.{None, Some, slice_get, nat_lt, ◌==◌, if◌then◌else◌, filter_map, count_by, is_some}
-use Rattle.std.specs.Prelude.{option_map, IfSome}
+use Rattle.std.specs.Prelude.{◌≡◌, ℕ, ◌+◌, ◌<◌, ◌≤◌, Bool, false, ◌&&◌, ◌||◌, List, [], ◌∷◌, ◌++◌, length, is_some}
+use Rattle.std.specs.Prelude.{IfSome, if◌then◌else◌, nat_lt, ◌==◌, slice_get, Some, None, count_by, filter_map, Option}
+use Rattle.std.specs.Prelude.{option_map}
 use Rattle.std.specs.List.{AllByRecursion}
-use Rattle.im_types.specs.declared.operations.Op.{Op}
-use Rattle.im_types.specs.declared.operations.Op.TheVariants.{Alloc, Release, Reset, Fetch, Store, Take, Put}
-use Rattle.im_types.specs.declared.operations.Kind.{Kind}
-use Rattle.im_types.specs.declared.operations.Kind.TheVariants.{I, M}
-use Rattle.im_types.specs.declared.operations.Reply.TheVariants.{Base, Value, Stored, Clash, Released, Cleared}
-use Rattle.im_types.specs.declared.operations.Entry.{Entry}
-use Rattle.im_types.specs.declared.operations.Entry.TheVariants.{Waiting, Answered}
-use Rattle.im_types.specs.declared.operations.Waiter.{Waiter}
-use Rattle.im_types.specs.declared.operations.Kept.{Kept}
-use Rattle.im_types.specs.declared.commands.Request.{Request}
-use Rattle.im_types.specs.declared.commands.Command.{Command}
-use Rattle.im_types.specs.declared.commands.Command.TheVariants.{Request as Asks, Confirm}
-use Rattle.im_types.specs.Contents.{Contents, kept_for}
-use Rattle.im_types.specs.Window.{judge}
-use Rattle.im_types.specs.Act.{act}
-use Rattle.im_types.specs.Step.{step, asker, is_fresh}
+use Rattle.im_types.specs.{Act.act, Contents.Contents, Contents.kept_for, declared.commands.Request.Request, Step.asker}
+use Rattle.im_types.specs.{Step.is_fresh, Step.step, Window.judge}
+use Rattle.im_types.specs.declared.commands.Command.{Command, TheVariants.Confirm, TheVariants.Request as Asks}
+use Rattle.im_types.specs.declared.operations.Entry.{Entry, TheVariants.Answered, TheVariants.Waiting}
+use Rattle.im_types.specs.declared.operations.{Kept.Kept, Op.Op, Waiter.Waiter}
+use Rattle.im_types.specs.declared.operations.Kind.{Kind, TheVariants.I, TheVariants.M}
+use Rattle.im_types.specs.declared.operations.Op.TheVariants.{Alloc, Fetch, Put, Release, Reset, Store, Take}
+use Rattle.im_types.specs.declared.operations.Reply.TheVariants.{Base, Clash, Cleared, Released, Stored, Value}
 
 -- an accepted request, with the entry that it was given at once
 pub record Event : Type 0 where

@@ -1,10 +1,9 @@
 -- The journal: a ring of slots, the run of commands in it, and the room after the run. (Own.)
-use Rattle.std.specs.Prelude.{◌≡◌, ℕ, zero, suc, ◌+◌, ◌*◌, ◌-◌, ◌%◌, List, [], ◌∷◌, take, drop, length, Bool, true}
-use Rattle.std.specs.Prelude.{false, ◌&&◌, ◌==◌, nat_lt, nat_le, Option, None, Some, option_map, option_and_then}
-use Rattle.std.specs.Prelude.{if◌then◌else◌}
-use Rattle.im_types.specs.declared.TheConstants.{LAST, MAX_GROUP}
-use Rattle.im_types.specs.declared.commands.Command.{Command}
-use Rattle.im_types.specs.Slot.{is_open, sequence_of, group_of, read_in}
+use Rattle.std.specs.Prelude.{◌≡◌, ℕ, zero, suc, ◌+◌, ◌-◌, ◌*◌, ◌%◌, Bool, true, false, ◌&&◌, List, [], ◌∷◌, length}
+use Rattle.std.specs.Prelude.{take, drop, if◌then◌else◌, nat_lt, nat_le, ◌==◌, Some, None, Option, option_map}
+use Rattle.std.specs.Prelude.{option_and_then}
+use Rattle.im_types.specs.declared.{commands.Command.Command, TheConstants.LAST, TheConstants.MAX_GROUP}
+use Rattle.im_types.specs.Slot.{group_of, is_open, read_in, sequence_of}
 
 -- where the ring begins in the file, and the number of its slots
 pub record Ring : Type 0 where

@@ -1,11 +1,9 @@
 -- The places in an image. (Own.)
-use Rattle.std.specs.Prelude.{ℕ, ◌+◌, ◌*◌, ◌/◌, ◌-◌, List, take, drop, Bool, true, false, ◌&&◌, nat_le, ◌==◌}
-use Rattle.std.specs.Prelude.{if◌then◌else◌, slice_range}
-use Rattle.im_types.specs.declared.TheConstants.{MAX_ELEMENTS, MIN_SLOTS, MAX_SLOTS}
-use Rattle.im_types.specs.declared.layout.Version.{Version}
-use Rattle.im_types.specs.declared.layout.Version.TheVariants.{One, Two}
-use Rattle.im_types.specs.declared.sizes.Limits.{Limits}
-use Rattle.im_types.specs.Journal.{Ring}
+use Rattle.std.specs.Prelude.{ℕ, ◌+◌, ◌-◌, ◌*◌, ◌/◌, Bool, true, false, ◌&&◌, List, take, drop, if◌then◌else◌, nat_le}
+use Rattle.std.specs.Prelude.{◌==◌, slice_range}
+use Rattle.im_types.specs.declared.layout.Version.{TheVariants.One, TheVariants.Two, Version}
+use Rattle.im_types.specs.{declared.sizes.Limits.Limits, Journal.Ring}
+use Rattle.im_types.specs.declared.TheConstants.{MAX_ELEMENTS, MAX_SLOTS, MIN_SLOTS}
 
 -- a version of the layout: the most entries that a window keeps, the most cells, and whether it has resets
 pub record Layout : Type 0 where

@@ -23,3 +23,4 @@ pub mod Chains
 pub mod Pages
 pub mod Meaning
 pub mod Groups
+pub mod Types

@@ -1,17 +1,13 @@
 -- The meaning of an image: the memory of the area in force, after the run of commands in the journal. (Own.)
-use Rattle.std.specs.Prelude.{◌≡◌, ℕ, ◌+◌, ◌≤◌, ◌⊎◌, List, [], ◌∷◌, length, Bool, true, false, Option, None, Some}
-use Rattle.std.specs.Prelude.{Result, Ok, Err, MatchOption, if◌then◌else◌, ◌||◌, ◌&&◌}
+use Rattle.std.specs.Prelude.{◌≡◌, ℕ, ◌+◌, ◌≤◌, Bool, true, false, ◌&&◌, ◌||◌, ◌⊎◌, List, [], ◌∷◌, length}
+use Rattle.std.specs.Prelude.{if◌then◌else◌, MatchOption, Some, None, Ok, Err, Option, Result}
 use Rattle.std.specs.List.{list_all}
-use Rattle.im_types.specs.declared.commands.Command.{Command}
-use Rattle.im_types.specs.declared.refusals.Refusal.{Refusal}
+use Rattle.im_types.specs.{Contents.Contents, Journal.Tail, Journal.tail, Pages.Shows, Records.has_room_for}
+use Rattle.im_types.specs.declared.{commands.Command.Command, refusals.Refusal.Refusal}
 use Rattle.im_types.specs.declared.refusals.Refusal.TheVariants.{BadPage, BadRecord, OldVersion}
-use Rattle.im_types.specs.Contents.{Contents}
-use Rattle.im_types.specs.Step.{step, is_accepted}
-use Rattle.im_types.specs.Layout.{Layout, layout_in_use, area_of, ring_of}
-use Rattle.im_types.specs.Header.{header_of, header_fault, layout_in, is_old}
-use Rattle.im_types.specs.Journal.{Tail, tail}
-use Rattle.im_types.specs.Records.{has_room_for}
-use Rattle.im_types.specs.Pages.{Shows}
+use Rattle.im_types.specs.Header.{header_fault, header_of, is_old, layout_in}
+use Rattle.im_types.specs.Layout.{area_of, Layout, layout_in_use, ring_of}
+use Rattle.im_types.specs.Step.{is_accepted, step}
 
 -- the state that an image reaches: the memory, the count of all its commands, and the room for more
 pub record Reached : Type 0 where

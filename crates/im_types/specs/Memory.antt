@@ -1,9 +1,7 @@
 -- What makes contents those of a memory. (Own.)
-use Rattle.std.specs.Prelude.{◌≡◌, ℕ, ◌+◌, ◌≤◌, length, Some, slice_get}
-use Rattle.im_types.specs.declared.TheConstants.{WINDOW, LAST}
-use Rattle.im_types.specs.Contents.{Window, Contents, HasBlocks}
-use Rattle.im_types.specs.Window.{next_number}
-use Rattle.im_types.specs.Agreement.{WaitingAgrees}
+use Rattle.std.specs.Prelude.{◌≡◌, ℕ, ◌+◌, ◌≤◌, length, slice_get, Some}
+use Rattle.im_types.specs.{Agreement.WaitingAgrees, Contents.Contents, Contents.HasBlocks, Contents.Window}
+use Rattle.im_types.specs.{declared.TheConstants.LAST, declared.TheConstants.WINDOW, Window.next_number}
 
 -- a window is numbered from 1 on, keeps at most WINDOW entries, and numbers none past the last number of all
 pub record IsWindow (w : Window) : Type 0 where

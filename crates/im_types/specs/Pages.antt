@@ -1,21 +1,16 @@
 -- When the pages of an area show a memory: they spell records, and the records show it. (Own.)
-use Rattle.std.specs.Prelude.{◌≡◌, ℕ, ◌*◌, ◌<◌, List, [], ◌∷◌, length, drop, Option, None, Some, slice_index_or}
-use Rattle.im_types.specs.declared.TheConstants.{NONE}
-use Rattle.im_types.specs.declared.operations.Waiter.{Waiter}
-use Rattle.im_types.specs.Contents.{CellState, Empty, Full, Clashed, Held, Window, Contents, new_window}
-use Rattle.im_types.specs.Memory.{IsMemory}
-use Rattle.im_types.specs.Bytes.{zeros}
-use Rattle.im_types.specs.Layout.{Layout, Sizes, node_count, cell_record_bytes, node_record_bytes}
-use Rattle.im_types.specs.Layout.{session_record_bytes, cell_part, node_part, session_part, record_at}
-use Rattle.im_types.specs.declared.records.PresenceTag.{PresenceTag}
-use Rattle.im_types.specs.declared.records.PresenceTag.TheVariants.{Empty as TagEmpty, Waiting as TagWaiting}
-use Rattle.im_types.specs.declared.records.PresenceTag.TheVariants.{Full as TagFull, Clashed as TagClashed}
-use Rattle.im_types.specs.declared.records.CellRecord.{CellRecord}
+use Rattle.std.specs.Prelude.{◌≡◌, ℕ, ◌*◌, ◌<◌, List, [], ◌∷◌, length, drop, slice_index_or, Some, None, Option}
+use Rattle.im_types.specs.{Bytes.zeros, Chains.ShowLists, Memory.IsMemory}
+use Rattle.im_types.specs.Contents.{CellState, Clashed, Contents, Empty, Full, Held, new_window, Window}
+use Rattle.im_types.specs.declared.{operations.Waiter.Waiter, TheConstants.NONE}
+use Rattle.im_types.specs.declared.records.{CellRecord.CellRecord, PresenceTag.PresenceTag}
 use Rattle.im_types.specs.declared.records.CellRecord.TheVariants.{Free as FreeCell, Held as BlockCell}
-use Rattle.im_types.specs.declared.records.NodeRecord.{NodeRecord}
-use Rattle.im_types.specs.declared.records.NodeRecord.TheVariants.{Free as FreeNode}
-use Rattle.im_types.specs.Records.{cell_bytes, node_bytes, session_bytes, FitsCell, FitsNode, FitsWindow}
-use Rattle.im_types.specs.Chains.{ShowLists}
+use Rattle.im_types.specs.declared.records.NodeRecord.{NodeRecord, TheVariants.Free as FreeNode}
+use Rattle.im_types.specs.declared.records.PresenceTag.TheVariants.{Clashed as TagClashed, Empty as TagEmpty}
+use Rattle.im_types.specs.declared.records.PresenceTag.TheVariants.{Full as TagFull, Waiting as TagWaiting}
+use Rattle.im_types.specs.Layout.{cell_part, cell_record_bytes, Layout, node_count, node_part, node_record_bytes}
+use Rattle.im_types.specs.Layout.{record_at, session_part, session_record_bytes, Sizes}
+use Rattle.im_types.specs.Records.{cell_bytes, FitsCell, FitsNode, FitsWindow, node_bytes, session_bytes}
 
 -- the records of an area
 pub record Records : Type 0 where

@@ -1,18 +1,12 @@
 -- The results of a planned run, whatever its order. (Own.)
-use Rattle.std.specs.Prelude.{◌≡◌, ◌≤◌, ℕ, List, [], ◌∷◌, Bool, true, false, Option, None, Some, slice_get, is_some}
-use Rattle.std.specs.Prelude.{if◌then◌else◌, ◌==◌}
-use Rattle.im_types.specs.declared.TheConstants.{LAST}
-use Rattle.im_types.specs.declared.operations.Op.{Op}
-use Rattle.im_types.specs.declared.operations.Op.TheVariants.{Fetch, Store}
-use Rattle.im_types.specs.declared.operations.Kind.TheVariants.{I}
-use Rattle.im_types.specs.declared.operations.Reply.{Reply}
-use Rattle.im_types.specs.declared.operations.Reply.TheVariants.{Value, Stored, NoCell, WrongKind}
-use Rattle.im_types.specs.declared.commands.Request.{Request}
-use Rattle.im_types.specs.Contents.{Empty, Held, Window, Contents, held_at}
-use Rattle.im_types.specs.Window.{next_number}
-use Rattle.im_types.specs.Step.{asker}
-use Rattle.im_types.specs.Agreement.{address_of}
-use Rattle.im_types.specs.Act.{same_kind}
+use Rattle.std.specs.Prelude.{◌≡◌, ℕ, ◌≤◌, Bool, true, false, List, [], ◌∷◌, is_some, if◌then◌else◌, ◌==◌, slice_get}
+use Rattle.std.specs.Prelude.{Some, None, Option}
+use Rattle.im_types.specs.{Act.same_kind, Agreement.address_of, Step.asker, Window.next_number}
+use Rattle.im_types.specs.Contents.{Contents, Empty, Held, held_at, Window}
+use Rattle.im_types.specs.declared.{commands.Request.Request, TheConstants.LAST}
+use Rattle.im_types.specs.declared.operations.{Kind.TheVariants.I, Reply.Reply}
+use Rattle.im_types.specs.declared.operations.Op.{Op, TheVariants.Fetch, TheVariants.Store}
+use Rattle.im_types.specs.declared.operations.Reply.TheVariants.{NoCell, Stored, Value, WrongKind}
 
 -- the value that an operation stores at an address
 abbrev pub stored_by : ℕ → Op → Option ℕ

@@ -1,9 +1,8 @@
 -- A cell as its presence tag shows it. (Presence tags: Arvind, Nikhil, Pingali, TOPLAS 11(4), 1989. Clashed: own.)
 use Rattle.std.specs.Prelude.{[], ◌∷◌, Option, option_map}
-use Rattle.im_types.specs.Contents.{CellState, Empty, Full, Clashed, Held}
-use Rattle.im_types.specs.declared.cells.Cell.{Cell}
-use Rattle.im_types.specs.declared.cells.Cell.TheVariants.{Empty as IsEmpty, Waiting as IsWaiting, Full as IsFull}
-use Rattle.im_types.specs.declared.cells.Cell.TheVariants.{Clashed as IsClashed}
+use Rattle.im_types.specs.Contents.{CellState, Clashed, Empty, Full, Held}
+use Rattle.im_types.specs.declared.cells.Cell.{Cell, TheVariants.Clashed as IsClashed, TheVariants.Empty as IsEmpty}
+use Rattle.im_types.specs.declared.cells.Cell.{TheVariants.Full as IsFull, TheVariants.Waiting as IsWaiting}
 
 -- the presence tag of a state
 abbrev pub presence_of : CellState → Cell

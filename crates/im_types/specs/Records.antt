@@ -1,27 +1,18 @@
 -- The records of an area, which are cells, waiter nodes and sessions, and their spelling. (Own.)
-use Rattle.std.specs.Prelude.{◌≡◌, ℕ, ◌+◌, ◌*◌, ◌%◌, ◌-◌, ◌^◌, ◌<◌, ◌≤◌, ◌⊎◌, List, [], ◌∷◌, ◌++◌, length, replicate}
-use Rattle.std.specs.Prelude.{Option, None, Some, slice_get, Bool, true, false, ◌&&◌, ◌||◌, not, nat_le}
-use Rattle.std.specs.List.{list_any}
+use Rattle.std.specs.Prelude.{◌≡◌, ℕ, ◌+◌, ◌-◌, ◌*◌, ◌%◌, ◌^◌, ◌<◌, ◌≤◌, Bool, true, false, not, ◌&&◌, ◌||◌, ◌⊎◌, List}
+use Rattle.std.specs.Prelude.{[], ◌∷◌, ◌++◌, length, replicate, nat_le, slice_get, Some, None, Option}
 use Rattle.byteorder.specs.Endian.{little_bytes}
-use Rattle.im_types.specs.declared.TheConstants.{LAST, NONE}
-use Rattle.im_types.specs.declared.operations.Op.{Op}
-use Rattle.im_types.specs.declared.operations.Op.TheVariants.{Reset}
-use Rattle.im_types.specs.declared.operations.Reply.TheVariants.{Cleared}
-use Rattle.im_types.specs.declared.operations.Entry.{Entry}
-use Rattle.im_types.specs.declared.operations.Entry.TheVariants.{Answered}
-use Rattle.im_types.specs.declared.operations.Kept.{Kept}
-use Rattle.im_types.specs.declared.records.PresenceTag.{PresenceTag}
-use Rattle.im_types.specs.declared.records.PresenceTag.TheVariants.{Empty as TagEmpty, Waiting as TagWaiting}
-use Rattle.im_types.specs.declared.records.PresenceTag.TheVariants.{Full as TagFull, Clashed as TagClashed}
-use Rattle.im_types.specs.declared.records.CellRecord.{CellRecord}
+use Rattle.std.specs.List.{list_any}
+use Rattle.im_types.specs.{Agreement.address_of, Contents.Window, declared.TheConstants.LAST}
+use Rattle.im_types.specs.{declared.TheConstants.NONE, Layout.Layout, Window.next_number}
+use Rattle.im_types.specs.Bytes.{entry_code, entry_number, FitsEntry, FitsOp, kind_code, op_code, op_value, zeros}
+use Rattle.im_types.specs.declared.operations.Entry.{Entry, TheVariants.Answered}
+use Rattle.im_types.specs.declared.operations.{Kept.Kept, Op.Op, Op.TheVariants.Reset, Reply.TheVariants.Cleared}
+use Rattle.im_types.specs.declared.records.{CellRecord.CellRecord, NodeRecord.NodeRecord, PresenceTag.PresenceTag}
 use Rattle.im_types.specs.declared.records.CellRecord.TheVariants.{Free as FreeCell, Held as BlockCell}
-use Rattle.im_types.specs.declared.records.NodeRecord.{NodeRecord}
 use Rattle.im_types.specs.declared.records.NodeRecord.TheVariants.{Free as FreeNode, Listed as ListNode}
-use Rattle.im_types.specs.Contents.{Window}
-use Rattle.im_types.specs.Window.{next_number}
-use Rattle.im_types.specs.Agreement.{address_of}
-use Rattle.im_types.specs.Bytes.{zeros, op_code, op_value, entry_code, entry_number, kind_code, FitsOp, FitsEntry}
-use Rattle.im_types.specs.Layout.{Layout}
+use Rattle.im_types.specs.declared.records.PresenceTag.TheVariants.{Clashed as TagClashed, Empty as TagEmpty}
+use Rattle.im_types.specs.declared.records.PresenceTag.TheVariants.{Full as TagFull, Waiting as TagWaiting}
 
 -- the code of a tag
 abbrev pub tag_code : PresenceTag → ℕ

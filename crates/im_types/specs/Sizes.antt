@@ -1,6 +1,6 @@
 -- The numbers of cells, elements and journal slots. (Own.)
 use Rattle.std.specs.Prelude.{ℕ, ◌≤◌}
-use Rattle.im_types.specs.declared.TheConstants.{MAX_CELLS, MAX_ELEMENTS, MIN_SLOTS, MAX_SLOTS}
+use Rattle.im_types.specs.declared.TheConstants.{MAX_CELLS, MAX_ELEMENTS, MAX_SLOTS, MIN_SLOTS}
 
 -- each number is in its range
 pub record AreLimits (cells elements slots : ℕ) : Type 0 where

@@ -1,14 +1,12 @@
 -- A command in a journal slot of 64 bytes: a gate, and then the command's fields. (Own.)
-use Rattle.std.specs.Prelude.{ℕ, ◌<◌, ◌^◌, List, ◌∷◌, ◌++◌, drop, Bool, ◌==◌, Option, None, Some, if◌then◌else◌}
-use Rattle.std.specs.Prelude.{slice_index, option_and_then}
+use Rattle.std.specs.Prelude.{ℕ, ◌^◌, ◌<◌, Bool, List, ◌∷◌, ◌++◌, drop, if◌then◌else◌, ◌==◌, slice_index, Some, None}
+use Rattle.std.specs.Prelude.{Option, option_and_then}
 use Rattle.byteorder.specs.Endian.{little_bytes}
-use Rattle.im_types.specs.declared.operations.Op.{Op}
-use Rattle.im_types.specs.declared.operations.Op.TheVariants.{Alloc, Release, Reset, Fetch, Store, Take, Put}
-use Rattle.im_types.specs.declared.operations.Kind.TheVariants.{I, M}
-use Rattle.im_types.specs.declared.commands.Command.{Command}
-use Rattle.im_types.specs.declared.commands.Command.TheVariants.{Request as Asks, Confirm}
 use Rattle.im_types.specs.Agreement.{address_of}
-use Rattle.im_types.specs.Bytes.{open_gate, zeros, same_bytes, number_at, op_code, op_value, FitsOp}
+use Rattle.im_types.specs.Bytes.{FitsOp, number_at, op_code, op_value, open_gate, same_bytes, zeros}
+use Rattle.im_types.specs.declared.commands.Command.{Command, TheVariants.Confirm, TheVariants.Request as Asks}
+use Rattle.im_types.specs.declared.operations.{Kind.TheVariants.I, Kind.TheVariants.M, Op.Op}
+use Rattle.im_types.specs.declared.operations.Op.TheVariants.{Alloc, Fetch, Put, Release, Reset, Store, Take}
 
 -- the 63 bytes after a slot's gate
 abbrev pub slot_fields : ℕ → ℕ → ℕ → ℕ → ℕ → ℕ → ℕ → List ℕ

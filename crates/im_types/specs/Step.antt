@@ -1,17 +1,11 @@
 -- One command on a memory: its answer, and the memory after it. (Own.)
-use Rattle.std.specs.Prelude.{ℕ, Bool, true, false, Result, Ok, Err, slice_get, slice_set, slice_index_or, nat_lt}
-use Rattle.im_types.specs.declared.operations.Waiter.{Waiter}
-use Rattle.im_types.specs.declared.commands.Request.{Request}
-use Rattle.im_types.specs.declared.commands.Command.{Command}
-use Rattle.im_types.specs.declared.commands.Command.TheVariants.{Request as Asks, Confirm}
-use Rattle.im_types.specs.declared.commands.Outcome.{Outcome}
-use Rattle.im_types.specs.declared.commands.Outcome.TheVariants.{Entry as Tells, Confirmed}
-use Rattle.im_types.specs.declared.commands.Judged.{Judged}
-use Rattle.im_types.specs.declared.commands.Judged.TheVariants.{Fresh, Repeat}
-use Rattle.im_types.specs.declared.refusals.Refusal.{Refusal}
-use Rattle.im_types.specs.Contents.{Window, Contents, new_window}
-use Rattle.im_types.specs.Act.{Acted, act}
-use Rattle.im_types.specs.Window.{judge, note, answer_each, confirm_window}
+use Rattle.std.specs.Prelude.{ℕ, Bool, true, false, nat_lt, slice_get, slice_index_or, slice_set, Ok, Err, Result}
+use Rattle.im_types.specs.{Act.act, Act.Acted, Contents.Contents, Contents.new_window, Contents.Window}
+use Rattle.im_types.specs.declared.commands.Command.{Command, TheVariants.Confirm, TheVariants.Request as Asks}
+use Rattle.im_types.specs.declared.commands.Judged.{Judged, TheVariants.Fresh, TheVariants.Repeat}
+use Rattle.im_types.specs.declared.commands.Outcome.{Outcome, TheVariants.Confirmed, TheVariants.Entry as Tells}
+use Rattle.im_types.specs.declared.{commands.Request.Request, operations.Waiter.Waiter, refusals.Refusal.Refusal}
+use Rattle.im_types.specs.Window.{answer_each, confirm_window, judge, note}
 
 -- the answer to a command, and the memory after it
 pub record Stepped : Type 0 where

@@ -1,15 +1,9 @@
 -- Lists of calls with answers that one memory could have given in this order. (Own.)
-use Rattle.std.specs.Prelude.{◌≡◌, List, [], ◌∷◌, Result, Ok, Err}
-use Rattle.im_types.specs.declared.operations.Entry.{Entry}
-use Rattle.im_types.specs.declared.commands.Outcome.{Outcome}
-use Rattle.im_types.specs.declared.commands.Outcome.TheVariants.{Entry as Tells}
-use Rattle.im_types.specs.declared.commands.Call.{Call}
-use Rattle.im_types.specs.declared.commands.Call.TheVariants.{Command as Commands, Collect}
-use Rattle.im_types.specs.declared.commands.Line.{Line}
-use Rattle.im_types.specs.declared.refusals.Refusal.{Refusal}
-use Rattle.im_types.specs.Contents.{Contents}
-use Rattle.im_types.specs.Window.{ask}
-use Rattle.im_types.specs.Step.{step}
+use Rattle.std.specs.Prelude.{◌≡◌, List, [], ◌∷◌, Ok, Err, Result}
+use Rattle.im_types.specs.{Contents.Contents, Step.step, Window.ask}
+use Rattle.im_types.specs.declared.commands.Call.{Call, TheVariants.Collect, TheVariants.Command as Commands}
+use Rattle.im_types.specs.declared.commands.{Line.Line, Outcome.Outcome, Outcome.TheVariants.Entry as Tells}
+use Rattle.im_types.specs.declared.{operations.Entry.Entry, refusals.Refusal.Refusal}
 
 -- an entry that was asked for, as an outcome
 abbrev pub told : Result Entry Refusal → Result Outcome Refusal

@@ -1,24 +1,17 @@
 -- Windows: whether a request is new, a repeat or refused, and the entries that are kept. (Own.)
-use Rattle.std.specs.Prelude.{ℕ, ◌+◌, ◌-◌, max, zero, suc, List, [], ◌∷◌, ◌++◌, drop, take, length, Bool, true, false}
-use Rattle.std.specs.Prelude.{◌&&◌, ◌||◌, Option, None, Some, Result, Ok, Err, slice_get, slice_set, slice_index_or}
-use Rattle.std.specs.Prelude.{nat_lt, ◌==◌, if◌then◌else◌}
+use Rattle.std.specs.Prelude.{ℕ, zero, suc, ◌+◌, ◌-◌, max, Bool, true, false, ◌&&◌, ◌||◌, List, [], ◌∷◌, ◌++◌, length}
+use Rattle.std.specs.Prelude.{take, drop, if◌then◌else◌, nat_lt, ◌==◌, slice_get, slice_index_or, slice_set, Some, None}
+use Rattle.std.specs.Prelude.{Ok, Err, Option, Result}
 use Rattle.std.specs.List.{list_any}
-use Rattle.im_types.specs.declared.TheConstants.{WINDOW, LAST}
-use Rattle.im_types.specs.declared.operations.Op.{Op}
-use Rattle.im_types.specs.declared.operations.Op.TheVariants.{Alloc, Release, Reset, Fetch, Store, Take, Put}
-use Rattle.im_types.specs.declared.operations.Reply.{Reply}
-use Rattle.im_types.specs.declared.operations.Entry.{Entry}
-use Rattle.im_types.specs.declared.operations.Entry.TheVariants.{Waiting, Answered}
-use Rattle.im_types.specs.declared.operations.Waiter.{Waiter}
-use Rattle.im_types.specs.declared.operations.Kept.{Kept}
-use Rattle.im_types.specs.declared.commands.Request.{Request}
-use Rattle.im_types.specs.declared.commands.Judged.{Judged}
-use Rattle.im_types.specs.declared.commands.Judged.TheVariants.{Fresh, Repeat}
-use Rattle.im_types.specs.declared.refusals.Refusal.{Refusal}
-use Rattle.im_types.specs.declared.refusals.Refusal.TheVariants.{Gap, Forgotten, WindowFull, Mismatch, NoElement}
-use Rattle.im_types.specs.declared.refusals.Refusal.TheVariants.{NotAnswered}
-use Rattle.im_types.specs.Contents.{Window, new_window}
-use Rattle.im_types.specs.Act.{same_kind}
+use Rattle.im_types.specs.{Act.same_kind, declared.TheConstants.LAST, declared.TheConstants.WINDOW}
+use Rattle.im_types.specs.Contents.{new_window, Window}
+use Rattle.im_types.specs.declared.commands.Judged.{Judged, TheVariants.Fresh, TheVariants.Repeat}
+use Rattle.im_types.specs.declared.{commands.Request.Request, refusals.Refusal.Refusal}
+use Rattle.im_types.specs.declared.operations.Entry.{Entry, TheVariants.Answered, TheVariants.Waiting}
+use Rattle.im_types.specs.declared.operations.{Kept.Kept, Op.Op, Reply.Reply, Waiter.Waiter}
+use Rattle.im_types.specs.declared.operations.Op.TheVariants.{Alloc, Fetch, Put, Release, Reset, Store, Take}
+use Rattle.im_types.specs.declared.refusals.Refusal.TheVariants.{Forgotten, Gap, Mismatch, NoElement, NotAnswered}
+use Rattle.im_types.specs.declared.refusals.Refusal.TheVariants.{WindowFull}
 
 -- the number of the next new request
 abbrev pub next_number : Window → ℕ

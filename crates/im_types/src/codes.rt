@@ -1,8 +1,6 @@
 //! The code and the numbers of an operation, as journal slots and session records spell them, and the way back.
 ghost use Rattle.std.specs.Prelude.{◌≡◌};
-ghost use Rattle.im_types.specs.Agreement.{address_of};
-ghost use Rattle.im_types.specs.Bytes.{op_code, op_value};
-ghost use Rattle.im_types.specs.Slot.{op_of};
+ghost use Rattle.im_types.specs.{Agreement.address_of, Bytes.op_code, Bytes.op_value, Slot.op_of};
 
 use crate::{Kind, Op};
 

@@ -4,8 +4,8 @@
 //! layout before it. No other file computes with their sizes. Each page of an area has records of one kind: cells come
 //! first, then waiter nodes, then sessions. No record crosses a page.
 ghost use Rattle.std.specs.Prelude.{◌≡◌, ◌*◌, ◌≤◌};
-ghost use Rattle.im_types.specs.Layout as layout;
 ghost use Rattle.im_types.specs.Layout.{layout_in_use, layout_of, sizes_of};
+ghost use Rattle.im_types.specs.Layout as layout;
 
 use crate::{Limits, MAX_CELLS, MAX_ELEMENTS, MAX_SLOTS, WINDOW, WINDOW_1};
 

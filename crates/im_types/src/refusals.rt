@@ -81,7 +81,7 @@ pub enum Refusal {
 }
 
 impl Refusal {
-    ghost use Rattle.im_types.specs.Refusals.{number_of, is_of_numbers};
+    ghost use Rattle.im_types.specs.Refusals.{is_of_numbers, number_of};
 
     /// Returns the refusal's number, 1 to 24.
     pub fn number(self) -> u8

@@ -1,5 +1,5 @@
 //! The sizes of a memory and of its journal.
-ghost use Rattle.std.specs.Prelude.{◌≡◌, ◌≤◌, ◌↔◌, IsSome, IfSome};
+ghost use Rattle.std.specs.Prelude.{◌≡◌, ◌≤◌, ◌↔◌, IfSome, IsSome};
 ghost use Rattle.im_types.specs.Sizes.{AreLimits};
 
 use crate::{MAX_CELLS, MAX_ELEMENTS, MAX_SLOTS, MIN_SLOTS};

@@ -1,11 +1,10 @@
 -- The addresses of a text FROM-TO. (Own.)
-use Rattle.std.proofs.Common.{◌≡◌, ◌∙◌, ℕ, List, length, true, false, Bool, Some, None, sym, ap, ap₂, arith, nat_lt, Bor}
-use Rattle.std.specs.Prelude.{Option, if◌then◌else◌}
-use Rattle.std.specs.List.{before_first, after_first, position_or_len}
-use Rattle.std.proofs.lemmas.Bool.Decides.{nat_tests}
-use Rattle.std.proofs.lemmas.Str.Pattern.{split_once_first, IsSplitOnceResult}
-use Rattle.im_report.specs.declared.look.Span.{Span}
-use Rattle.im_words.specs.Words.{is_dash, span_in, span_between}
+use Rattle.std.proofs.Common.{◌≡◌, ℕ, Bool, true, false, List, length, if◌then◌else◌, nat_lt, Some, None, Option, sym}
+use Rattle.std.proofs.Common.{ap, ◌∙◌, ap₂, arith, Bor}
+use Rattle.std.proofs.lemmas.{Bool.Decides.nat_tests, Str.Pattern.IsSplitOnceResult, Str.Pattern.split_once_first}
+use Rattle.std.specs.List.{after_first, before_first, position_or_len}
+use Rattle.im_report.specs.declared.Span.{Span}
+use Rattle.im_words.specs.Words.{is_dash, span_between, span_in}
 
 not_below_itself : (a b : ℕ) → a ≡ b → nat_lt a b ≡ false
 not_below_itself a b same = grind (arith, nat_tests)

@@ -1,36 +1,18 @@
 -- What the words of the command line ask for. (Own.)
-use Rattle.std.specs.Prelude.{ℕ, Bool, List, [], ◌∷◌, Option, Some, None}
-use Rattle.std.specs.Prelude.{◌==◌, ◌&&◌, ◌||◌, if◌then◌else◌, codes, true, false, unwrap_or, length, nat_le, nat_lt}
-use Rattle.std.specs.Option.{option_map, option_and_then, option_map_or}
-use Rattle.std.specs.List.{before_first, after_first, position_or_len}
-use Rattle.std.specs.Str.{bytes_eq}
+use Rattle.std.specs.Prelude.{ℕ, Bool, true, false, ◌&&◌, ◌||◌, List, [], ◌∷◌, length, if◌then◌else◌, nat_lt, nat_le}
+use Rattle.std.specs.Prelude.{◌==◌, Some, None, codes, bytes_eq, Option, unwrap_or, option_map, option_and_then}
 use Rattle.clap.specs.declared.builder.action.ArgAction.TheVariants.{SetTrue}
-use Rattle.clap.specs.Words.{
-  App,
-  Row,
-  Rule,
-  Text,
-  first_of,
-  new_app,
-  new_rule,
-  subcommand_of,
-  with_rule,
-  with_subcommand,
-}
-use Rattle.im_words.specs.declared.words.Work.{Work}
-use Rattle.im_words.specs.declared.words.Work.TheVariants.{Demonstration, Alone, Run, Transfer as Transfers}
-use Rattle.im_words.specs.declared.words.Job.{Job}
-use Rattle.im_words.specs.declared.words.Job.TheVariants.{Format, Serial, Serve, Inspect, Dump, Load}
-use Rattle.im_words.specs.declared.words.Transfer.{Transfer}
-use Rattle.im_words.specs.declared.words.Transfer.TheVariants.{Migrate, Copy}
-use Rattle.im_filters.specs.declared.telling.Telling.{Telling}
-use Rattle.im_filters.specs.declared.telling.Telling.TheVariants.{Plain, Quiet, Json}
-use Rattle.im_migration.specs.declared.asked.Asked.{Asked}
-use Rattle.im_report.specs.declared.look.Filter.{Filter}
-use Rattle.im_report.specs.declared.look.View.{View}
-use Rattle.im_report.specs.declared.look.View.TheVariants.{Report, ReportJson, Stat, StatJson, DumpJson}
-use Rattle.im_report.specs.declared.look.Span.{Span}
-use Rattle.im_script.specs.Grammar.{number_up_to}
+use Rattle.clap.specs.Words.{App, first_of, new_app, new_rule, Row, Rule, subcommand_of, Text, with_rule}
+use Rattle.clap.specs.Words.{with_subcommand}
+use Rattle.std.specs.{List.after_first, List.before_first, List.position_or_len, Option.option_map_or}
+use Rattle.{im_migration.specs.declared.Asked.Asked, im_script.specs.Grammar.number_up_to}
+use Rattle.im_report.specs.declared.{Filter.Filter, Span.Span, View.View}
+use Rattle.im_report.specs.declared.View.TheVariants.{DumpJson, Report, ReportJson, Stat, StatJson}
+use Rattle.im_filters.specs.declared.Telling.{Telling, TheVariants.Json, TheVariants.Plain, TheVariants.Quiet}
+use Rattle.im_words.specs.declared.words.{Job.Job, Work.Work}
+use Rattle.im_words.specs.declared.words.Job.TheVariants.{Dump, Format, Inspect, Load, Serial, Serve}
+use Rattle.im_words.specs.declared.words.Transfer.{TheVariants.Copy, TheVariants.Migrate, Transfer}
+use Rattle.im_words.specs.declared.words.Work.TheVariants.{Alone, Demonstration, Run, Transfer as Transfers}
 
 -- ---- what the parser knows of the command line
 

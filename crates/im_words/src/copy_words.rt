@@ -1,10 +1,9 @@
 //! The words of `copy`, `dump` and `load`.
-ghost use Rattle.std.specs.Prelude.{◌≡◌, false, IfOk, codes};
-ghost use Rattle.std.specs.Option.{option_map};
-ghost use Rattle.clap.specs.Words.{app_of, found_of, rows_of};
+ghost use Rattle.std.specs.Prelude.{◌≡◌, false, IfOk, codes, option_map};
 ghost use Rattle.clap.specs.declared.builder.command.Command.TheViews.{out-Command};
-ghost use Rattle.im_words.specs.Words.{copy_task, dump_app, dump_job, dump_task, given_in, given_number};
-ghost use Rattle.im_words.specs.Words.{load_task, making_app, sized_app, sizes_given, task_of_work, task_of_job};
+ghost use Rattle.clap.specs.Words.{app_of, found_of, rows_of};
+ghost use Rattle.im_words.specs.Words.{copy_task, dump_app, dump_job, dump_task, given_in, given_number, load_task};
+ghost use Rattle.im_words.specs.Words.{making_app, sized_app, sizes_given, task_of_job, task_of_work};
 
 use crate::look_words::json_command;
 use crate::parts::{Help, file_command, is_given, number_option, path_argument, path_of};

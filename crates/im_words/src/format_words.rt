@@ -1,8 +1,7 @@
 //! The words of `format`.
-ghost use Rattle.std.specs.Prelude.{◌≡◌, false, IfOk, codes};
-ghost use Rattle.std.specs.Option.{option_map};
-ghost use Rattle.clap.specs.Words.{app_of, found_of, rows_of};
+ghost use Rattle.std.specs.Prelude.{◌≡◌, false, IfOk, codes, option_map};
 ghost use Rattle.clap.specs.declared.builder.command.Command.TheViews.{out-Command};
+ghost use Rattle.clap.specs.Words.{app_of, found_of, rows_of};
 ghost use Rattle.im_words.specs.Words.{format_app, format_task, number_in, task_of_work};
 
 use crate::parts::{Help, file_command, flag_option, is_given, number_option, path_of};

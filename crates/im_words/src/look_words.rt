@@ -1,8 +1,7 @@
 //! The words of `inspect` and `stat`.
-ghost use Rattle.std.specs.Prelude.{◌≡◌, false, IfOk, codes};
-ghost use Rattle.std.specs.Option.{option_map};
-ghost use Rattle.clap.specs.Words.{app_of, found_of, rows_of};
+ghost use Rattle.std.specs.Prelude.{◌≡◌, false, IfOk, codes, option_map};
 ghost use Rattle.clap.specs.declared.builder.command.Command.TheViews.{out-Command};
+ghost use Rattle.clap.specs.Words.{app_of, found_of, rows_of};
 ghost use Rattle.im_words.specs.Words.{filter_in, given_cells, inspect_app, inspect_look, inspect_task, json_app};
 ghost use Rattle.im_words.specs.Words.{span_between, span_given, span_in, stat_app, stat_look, stat_task, task_of_work};
 

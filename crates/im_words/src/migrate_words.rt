@@ -1,7 +1,7 @@
 //! The words of `migrate`.
 ghost use Rattle.std.specs.Prelude.{◌≡◌, false, IfOk, codes};
-ghost use Rattle.clap.specs.Words.{app_of, found_of, rows_of};
 ghost use Rattle.clap.specs.declared.builder.command.Command.TheViews.{out-Command};
+ghost use Rattle.clap.specs.Words.{app_of, found_of, rows_of};
 ghost use Rattle.im_words.specs.Words.{migrate_app, migrate_task, task_of_work};
 
 use crate::parts::{Help, file_command, path_argument, path_of};

@@ -1,6 +1,5 @@
 //! What the words that clap found ask for.
-ghost use Rattle.std.specs.Prelude.{◌≡◌, ◌⊎◌, IfNone, IfSome, None, Some, codes};
-ghost use Rattle.std.specs.Option.{option_map};
+ghost use Rattle.std.specs.Prelude.{◌≡◌, ◌⊎◌, IfSome, IfNone, Some, None, codes, option_map};
 ghost use Rattle.clap.specs.Words.{subcommand_rows_of};
 ghost use Rattle.im_words.specs.Words.{has_statuses, is_of_script, task_in, task_of_work, telling_in, wait_in};
 

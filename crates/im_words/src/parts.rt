@@ -1,8 +1,7 @@
 //! The parts of subcommands: options, paths, and what is given for them.
-ghost use Rattle.std.specs.Prelude.{◌≡◌, false, IfOk, codes};
-ghost use Rattle.std.specs.Option.{option_map};
-ghost use Rattle.clap.specs.Words.{app_of, first_of, found_of, rows_of, rule_of};
+ghost use Rattle.std.specs.Prelude.{◌≡◌, false, IfOk, codes, option_map};
 ghost use Rattle.clap.specs.declared.builder.command.Command.TheViews.{out-Command};
+ghost use Rattle.clap.specs.Words.{app_of, first_of, found_of, rows_of, rule_of};
 ghost use Rattle.im_words.specs.Words.{file_app, flag_rule, is_given, option_rule, path_in, path_rule, seconds_in};
 ghost use Rattle.im_words.specs.Words.{seconds_of, wait_rule};
 

@@ -1,9 +1,9 @@
 //! Reads the words of the command line.
-ghost use Rattle.std.specs.Prelude.{◌≡◌, [], true, Some, IfOk, IfErr, IsOk, IsSome};
+ghost use Rattle.std.specs.Prelude.{◌≡◌, true, [], IfOk, IfErr, IsSome, IsOk, Some};
 ghost use Rattle.clap.specs.Words.{app_of, fault_of, kind_of, takes};
 ghost use Rattle.im_script.specs.Grammar.{texts};
-ghost use Rattle.im_words.specs.Words.{asks_statuses, asks_task, asks_telling, asks_wait, imem_app};
-ghost use Rattle.im_words.specs.Words.{task_of_work, top_app};
+ghost use Rattle.im_words.specs.Words.{asks_statuses, asks_task, asks_telling, asks_wait, imem_app, task_of_work};
+ghost use Rattle.im_words.specs.Words.{top_app};
 
 use crate::copy_words::{COPY_HELP, LOAD_HELP, dump_command, making_command};
 use crate::format_words::{bad_option, format_command};

@@ -1,8 +1,7 @@
 //! The words of `serial` and `run`.
-ghost use Rattle.std.specs.Prelude.{◌≡◌, false, IfOk, codes};
-ghost use Rattle.std.specs.Option.{option_map};
-ghost use Rattle.clap.specs.Words.{app_of, found_of, rows_of};
+ghost use Rattle.std.specs.Prelude.{◌≡◌, false, IfOk, codes, option_map};
 ghost use Rattle.clap.specs.declared.builder.command.Command.TheViews.{out-Command};
+ghost use Rattle.clap.specs.Words.{app_of, found_of, rows_of};
 ghost use Rattle.im_words.specs.Words.{path_in, run_app, run_task, script_app, serial_app, serial_task, task_of_work};
 ghost use Rattle.im_words.specs.Words.{telling_given, telling_with};
 

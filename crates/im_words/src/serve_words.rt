@@ -1,7 +1,7 @@
 //! The words of `serve`.
 ghost use Rattle.std.specs.Prelude.{◌≡◌, false, IfOk, codes};
-ghost use Rattle.clap.specs.Words.{app_of, found_of, rows_of};
 ghost use Rattle.clap.specs.declared.builder.command.Command.TheViews.{out-Command};
+ghost use Rattle.clap.specs.Words.{app_of, found_of, rows_of};
 ghost use Rattle.im_words.specs.Words.{serve_app, serve_task, task_of_work};
 
 use crate::parts::{flag_option, image_command, is_given, path_if, path_of, value_option};

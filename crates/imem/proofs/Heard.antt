@@ -1,11 +1,8 @@
 -- A buffer that was just made over a prompter has the bytes of the reader below.
-use Rattle.std.proofs.Common.{◌≡◌, ◌∙◌, ◌==◌, ℕ, List, [], if◌then◌else◌, refl, ap}
-use Rattle.std.specs.Prelude.{Option, None, Some}
+use Rattle.std.proofs.Common.{◌≡◌, ℕ, List, [], if◌then◌else◌, ◌==◌, Some, None, Option, refl, ap, ◌∙◌}
+use Rattle.std.specs.{declared.io.buffered.BufReader.BufReader, Io.KnownBytes.prepend_known}
 use Rattle.std.specs.Io.Buffered.{reader_buffer, reader_capacity, reader_inner, reader_remaining}
-use Rattle.std.specs.Io.KnownBytes.{prepend_known}
-use Rattle.std.specs.declared.io.buffered.BufReader.{BufReader}
-use Rattle.im_program.specs.declared.prompting.Prompter.{Prompter}
-use Rattle.im_program.specs.Prompting.{prompted}
+use Rattle.im_program.specs.{declared.Prompter.Prompter, Prompting.prompted}
 
 prepended : (bytes : Option (List ℕ)) → prepend_known [] bytes ≡ bytes
 prepended None = refl

@@ -1,7 +1,7 @@
 //! The program `imem`: it reads its command line and does what that asks for.
 #![tactic(auto)]
 
-ghost use Rattle.std.specs.Prelude.{◌≡◌, ◌⊎◌, ◌≤◌, map, string_bytes, IfOk};
+ghost use Rattle.std.specs.Prelude.{◌≡◌, ◌≤◌, ◌⊎◌, map, IfOk, string_bytes};
 ghost use Rattle.std.specs.Process.{exit_status};
 ghost use Rattle.im_program.specs.Ending.{EndedBy};
 

@@ -1,7 +1,6 @@
 //! Does the work of a command line on standard input.
 ghost use Rattle.std.specs.Prelude.{◌≡◌, ◌≤◌};
-ghost use Rattle.im_listening.specs.Lending.{HasBytes};
-ghost use Rattle.im_listening.specs.Listening.{still_in};
+ghost use Rattle.im_listening.specs.{Lending.HasBytes, Listening.still_in};
 ghost use Rattle.im_program.specs.Ending.{EndedOn};
 
 use im_disk::{Disk, FileDisk, Start};

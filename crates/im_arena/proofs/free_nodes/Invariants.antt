@@ -1,9 +1,8 @@
-use Rattle.std.proofs.Common.{◌≡◌, ◌+◌, ◌<◌, ℕ, length, false}
-use Rattle.im_types.specs.declared.TheConstants.{NONE}
+use Rattle.std.proofs.Common.{◌≡◌, ℕ, ◌+◌, ◌<◌, false, length}
+use Rattle.im_types.specs.Types.{NONE}
 use Rattle.im_arena.specs.Table.{next_of, used_of}
-use Rattle.im_arena.proofs.free_nodes.Given as goal
 
-abbrev pub invariant-loop-node : goal.invariant-loop-node
+abbrev pub invariant-loop-node : Rattle.im_arena.proofs.free_nodes.Given.invariant-loop-node
 invariant-loop-node l = record {
   size : length l.nodes.items ≡ l.node;
   unused : (n : ℕ) → n < length l.nodes.items → used_of l.nodes.items n ≡ false;

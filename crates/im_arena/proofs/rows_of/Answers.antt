@@ -1,8 +1,7 @@
-use Rattle.std.proofs.Common.{◌≡◌, ◌+◌, refl, replicate}
+use Rattle.std.proofs.Common.{◌≡◌, ◌+◌, replicate, refl}
 use Rattle.im_arena.specs.Table.{empty_row}
-use Rattle.im_arena.proofs.rows_of.Goals as goal
 
-pub returns : goal.returns
+pub returns : Rattle.im_arena.proofs.rows_of.Goals.returns
 returns c =
     let items : c.in_ok-rows.rows.items
     ≡ replicate (c.args.lists + 1) empty_row = rw c.empty.ensures at

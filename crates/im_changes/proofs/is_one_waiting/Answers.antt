@@ -1,8 +1,6 @@
-use Rattle.std.proofs.Common.{◌≡◌, ℕ, ◌+◌, ◌-◌, true, false, sym, ap, ◌∙◌, arith}
-use Rattle.std.specs.Prelude.{◌||◌}
-use Rattle.im_types.specs.Contents.{held_at}
-use Rattle.im_types.specs.Act.{is_waiting_cell}
-use Rattle.im_changes.proofs.CellLemmas.{waits_in, waits-step}
+use Rattle.std.proofs.Common.{◌≡◌, ℕ, ◌+◌, ◌-◌, true, false, ◌||◌, sym, ap, ◌∙◌, arith}
+use Rattle.im_types.specs.Types.{held_at, is_waiting_cell}
+use Rattle.im_changes.proofs.CellLemmas.{waits-step, waits_in}
 use Rattle.im_changes.proofs.is_one_waiting.Goals as goal
 
 pub returns-then-is_waiting : goal.returns-then-is_waiting

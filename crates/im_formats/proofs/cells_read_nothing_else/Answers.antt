@@ -1,5 +1,4 @@
 use Rattle.im_formats.proofs.Records.{read_cell-only}
-use Rattle.im_formats.proofs.cells_read_nothing_else.Goals as goal
 
-pub returns : goal.returns
+pub returns : Rattle.im_formats.proofs.cells_read_nothing_else.Goals.returns
 returns c = λ bytes cell read. read_cell-only bytes cell read

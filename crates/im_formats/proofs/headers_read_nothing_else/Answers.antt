@@ -1,5 +1,4 @@
 use Rattle.im_formats.proofs.Headers.{spells_header-only}
-use Rattle.im_formats.proofs.headers_read_nothing_else.Goals as goal
 
-pub returns : goal.returns
+pub returns : Rattle.im_formats.proofs.headers_read_nothing_else.Goals.returns
 returns c = λ l area bytes spelled. (spells_header-only l area bytes spelled).0

@@ -1,5 +1,4 @@
 use Rattle.im_formats.proofs.Records.{read_node-spelled}
-use Rattle.im_formats.proofs.nodes_read_back.Goals as goal
 
-pub returns : goal.returns
+pub returns : Rattle.im_formats.proofs.nodes_read_back.Goals.returns
 returns c = λ nodes node few fits. read_node-spelled nodes node few fits

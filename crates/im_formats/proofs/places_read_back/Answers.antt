@@ -1,5 +1,4 @@
 use Rattle.im_formats.proofs.Places.{read_place-spelled}
-use Rattle.im_formats.proofs.places_read_back.Goals as goal
 
-pub returns : goal.returns
+pub returns : Rattle.im_formats.proofs.places_read_back.Goals.returns
 returns c = λ place fits. read_place-spelled place fits

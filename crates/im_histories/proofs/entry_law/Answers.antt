@@ -1,5 +1,4 @@
 use Rattle.im_histories.proofs.AllEntries.{every_entry_law}
-use Rattle.im_histories.proofs.entry_law.Goals as goal
 
-pub returns : goal.returns
+pub returns : Rattle.im_histories.proofs.entry_law.Goals.returns
 returns c = every_entry_law

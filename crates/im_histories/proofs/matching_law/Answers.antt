@@ -1,5 +1,4 @@
 use Rattle.im_histories.proofs.Laws.{every_matching_law}
-use Rattle.im_histories.proofs.matching_law.Goals as goal
 
-pub returns : goal.returns
+pub returns : Rattle.im_histories.proofs.matching_law.Goals.returns
 returns c = every_matching_law

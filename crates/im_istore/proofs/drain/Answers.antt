@@ -1,7 +1,6 @@
-use Rattle.std.proofs.Common.{◌++◌, [], length, ap, ◌∙◌, arith}
-use Rattle.im_arena.specs.Lists.{Shown, list_at}
-use Rattle.im_istore.proofs.Cells.{cells-list}
-use Rattle.im_istore.proofs.Draining.{off, moved, emptied, no_front}
+use Rattle.std.proofs.Common.{[], ◌++◌, length, ap, ◌∙◌, arith}
+use Rattle.im_arena.specs.Lists.{list_at, Shown}
+use Rattle.im_istore.proofs.{Cells.cells-list, Draining.emptied, Draining.moved, Draining.no_front, Draining.off}
 use Rattle.im_istore.proofs.drain.Goals as goal
 
 pub loop-reader-preserved : goal.loop-reader-preserved

@@ -1,8 +1,6 @@
-use Rattle.std.proofs.Common.{Option, None, Some, List, [], ◌∷◌, ◌≡◌, refl, sym, ap, ◌∙◌}
-use Rattle.std.specs.Prelude.{slice_get, IfNone}
-use Rattle.im_types.specs.declared.operations.Waiter.{Waiter}
-use Rattle.im_arena.specs.Lists.{Shown, list_at}
-use Rattle.im_istore.proofs.Cells.{cells-list, AgreeBut-list, Agree-drained}
+use Rattle.std.proofs.Common.{◌≡◌, List, [], ◌∷◌, IfNone, slice_get, Some, None, Option, sym, refl, ap, ◌∙◌}
+use Rattle.{im_types.specs.Types.Waiter, im_arena.specs.Lists.list_at, im_arena.specs.Lists.Shown}
+use Rattle.im_istore.proofs.Cells.{Agree-drained, AgreeBut-list, cells-list}
 use Rattle.im_istore.proofs.next_reader.Goals as goal
 
 pub returns-clause-cells : goal.returns-clause-cells

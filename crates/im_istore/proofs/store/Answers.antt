@@ -1,12 +1,8 @@
-use Rattle.std.proofs.Common.{refl, sym}
-use Rattle.im_types.specs.declared.operations.Kind.TheVariants.{I}
-use Rattle.im_types.specs.declared.cells.Cell.TheVariants.{Full}
-use Rattle.im_cell.specs.Slots.{slot_at}
-use Rattle.im_istore.proofs.Accesses.{found}
-use Rattle.im_istore.proofs.Cells.{slot_at-within, AgreeBut-filled}
-use Rattle.im_istore.proofs.store.Goals as goal
+use Rattle.std.proofs.Common.{sym, refl}
+use Rattle.{im_types.specs.Types.I, im_types.specs.Types.CellFull as Full, im_cell.specs.Slots.slot_at}
+use Rattle.im_istore.proofs.{Accesses.found, Cells.AgreeBut-filled, Cells.slot_at-within}
 
-pub returns-in_default-clause-draining : goal.returns-in_default-clause-draining
+pub returns-in_default-clause-draining : Rattle.im_istore.proofs.store.Goals.returns-in_default-clause-draining
 returns-in_default-clause-draining c =
     let f = found I (slot_at c.args.table.now c.args.a) _ (sym c.in-Ok.ensures.cell) in
     λ _. rw (c.set-in_default.ensures, c.in-Ok.ensures.same, f.there)

@@ -1,4 +1,4 @@
-use Rattle.im_journal.proofs.Sweeps.{tail_swept, boundaries_swept, no_less}
+use Rattle.im_journal.proofs.Sweeps.{boundaries_swept, no_less, tail_swept}
 use Rattle.im_meaning.proofs.stale_gates_may_be_closed.Goals as goal
 
 pub returns-clause-tail : goal.returns-clause-tail

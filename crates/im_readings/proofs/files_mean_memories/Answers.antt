@@ -1,6 +1,5 @@
 use Rattle.std.proofs.Common.{ℕ, length, sym, subst}
-use Rattle.im_types.specs.Header.{header_of}
-use Rattle.im_types.specs.Memory.{IsMemory}
+use Rattle.im_types.specs.Types.{IsMemory, header_of}
 use Rattle.im_readings.proofs.MeaningLemmas.{means_memory}
 use Rattle.im_readings.proofs.files_mean_memories.Goals as goal
 

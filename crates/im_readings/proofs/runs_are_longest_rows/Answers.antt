@@ -1,6 +1,5 @@
 use Rattle.std.proofs.Common.{refl}
-use Rattle.im_readings.proofs.RowLemmas.{longest_of, spelled_by, nth_slot}
-use Rattle.im_readings.proofs.TailLemmas.{run_count}
+use Rattle.im_readings.proofs.{RowLemmas.longest_of, RowLemmas.nth_slot, RowLemmas.spelled_by, TailLemmas.run_count}
 use Rattle.im_readings.proofs.runs_are_longest_rows.Goals as goal
 
 pub returns-clause-found : goal.returns-clause-found

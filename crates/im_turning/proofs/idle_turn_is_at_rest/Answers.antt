@@ -1,5 +1,4 @@
 use Rattle.im_turning.proofs.TurningLemmas.{at_rest}
-use Rattle.im_turning.proofs.idle_turn_is_at_rest.Goals as goal
 
-pub returns : goal.returns
+pub returns : Rattle.im_turning.proofs.idle_turn_is_at_rest.Goals.returns
 returns c = at_rest

@@ -1,5 +1,4 @@
 use Rattle.im_turning.proofs.TurningLemmas.{all_room}
-use Rattle.im_turning.proofs.rest_leaves_all_room.Goals as goal
 
-pub returns : goal.returns
+pub returns : Rattle.im_turning.proofs.rest_leaves_all_room.Goals.returns
 returns c = record { room = all_room }

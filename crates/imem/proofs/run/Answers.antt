@@ -1,4 +1,4 @@
-use Rattle.std.specs.Prelude.{map}
+use Rattle.std.proofs.Common.{map}
 use Rattle.im_program.proofs.EndingLemmas.{ended_by, refused_by}
 use Rattle.imem.proofs.run.Goals as goal
 

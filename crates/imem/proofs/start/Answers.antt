@@ -1,6 +1,4 @@
-use Rattle.std.proofs.Common.{List, ℕ, ◌∙◌, ap, string_bytes}
-use Rattle.std.specs.Prelude.{map}
-use Rattle.std.specs.Borrow.{Bor}
+use Rattle.std.proofs.Common.{ℕ, List, map, string_bytes, ap, ◌∙◌, Bor}
 use Rattle.im_program.proofs.EndingLemmas.{ended_as, refused_by}
 use Rattle.imem.proofs.start.Goals as goal
 

@@ -1,8 +1,7 @@
-use Rattle.std.proofs.Common.{◌≡◌, arith, sym, ap, ◌∙◌, Some}
-use Rattle.im_arena.specs.Chain.{place_from}
-use Rattle.im_arena.specs.Table.{next_of, waiter_of}
-use Rattle.im_arena.proofs.Views.{inside-held, list_at-read, at_end, not_end, place-read, step-read, past-read}
-use Rattle.im_arena.proofs.Views.{slice_get-along, waiter-read}
+use Rattle.std.proofs.Common.{◌≡◌, Some, sym, ap, ◌∙◌, arith}
+use Rattle.im_arena.proofs.Views.{at_end, inside-held, list_at-read, not_end, past-read, place-read, slice_get-along}
+use Rattle.im_arena.proofs.Views.{step-read, waiter-read}
+use Rattle.im_arena.specs.{Chain.place_from, Table.next_of, Table.waiter_of}
 use Rattle.im_arena.proofs.Arena.at.Goals as goal
 
 pub returns-then-node : goal.returns-then-node

@@ -1,5 +1,4 @@
-use Rattle.im_arena.proofs.Views.{inside-held, ends-read}
-use Rattle.im_arena.proofs.Threads.{IsThreaded-shown}
+use Rattle.im_arena.proofs.{Threads.IsThreaded-shown, Views.ends-read, Views.inside-held}
 use Rattle.im_arena.proofs.Arena.ends.Goals as goal
 
 pub returns-clause-ends : goal.returns-clause-ends

@@ -1,10 +1,7 @@
-use Rattle.std.proofs.Common.{arith}
-use Rattle.std.proofs.lemmas.Bool.{eq-eqb}
-use Rattle.std.proofs.lemmas.Bool.Decides.{nat_tests}
-use Rattle.im_arena.proofs.Views.{inside-held, none-first, first-none}
-use Rattle.im_arena.proofs.Arena.is_empty.Goals as goal
+use Rattle.std.proofs.{Common.arith, Common.eq-eqb, lemmas.Bool.Decides.nat_tests}
+use Rattle.im_arena.proofs.Views.{first-none, inside-held, none-first}
 
-pub returns : goal.returns
+pub returns : Rattle.im_arena.proofs.Arena.is_empty.Goals.returns
 returns c =
     let inside = inside-held _ _ _ _ c.self.invariant _ (rw (← c.self.view_is) at c.requires) in
     rw (← c.self.view_is) (

@@ -1,8 +1,6 @@
-use Rattle.std.proofs.Common.{None, map, take, sym, ap, ◌∙◌, arith}
+use Rattle.std.proofs.Common.{map, take, None, sym, ap, ◌∙◌, arith}
 use Rattle.std.proofs.lemmas.Option.{get_or_from_slice_get}
-use Rattle.im_arena.specs.Lists.{last_in}
-use Rattle.im_arena.specs.Table.{ends_of}
-use Rattle.im_arena.proofs.Views.{ends-read}
+use Rattle.im_arena.{proofs.Views.ends-read, specs.Lists.last_in, specs.Table.ends_of}
 use Rattle.im_arena.proofs.Arena.last.Goals as goal
 
 pub returns-in-Some : goal.returns-in-Some

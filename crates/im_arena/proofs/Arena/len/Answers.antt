@@ -1,5 +1,5 @@
-use Rattle.std.proofs.Common.{arith, sym, ◌∙◌}
-use Rattle.im_arena.proofs.Views.{inside-held, few_steps, list-steps, at_end, not_end, place-read, step-read}
+use Rattle.std.proofs.Common.{sym, ◌∙◌, arith}
+use Rattle.im_arena.proofs.Views.{at_end, few_steps, inside-held, list-steps, not_end, place-read, step-read}
 use Rattle.im_arena.proofs.Arena.len.Goals as goal
 
 pub returns-then-node : goal.returns-then-node

@@ -1,5 +1,5 @@
 use Rattle.std.proofs.Common.{arith}
-use Rattle.im_arena.proofs.Start.{IsArena-start, held-start}
+use Rattle.im_arena.proofs.Start.{held-start, IsArena-start}
 use Rattle.im_arena.proofs.Arena.make.Goals as goal
 
 pub invariant_of-result : goal.invariant_of-result

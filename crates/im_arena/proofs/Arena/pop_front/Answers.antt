@@ -1,9 +1,7 @@
-use Rattle.std.proofs.Common.{arith, ap, sym, subst, ◌∙◌, ◌<◌}
-use Rattle.std.specs.Prelude.{slice_get}
+use Rattle.std.proofs.Common.{◌<◌, slice_get, sym, ap, ◌∙◌, subst, arith}
 use Rattle.std.proofs.lemmas.List.{with_items_is}
-use Rattle.im_arena.specs.Table.{count_of, spans_of}
-use Rattle.im_arena.proofs.Views.{inside-held, held-popped, none-first, held-none, some-first, free-less, count-popped}
-use Rattle.im_arena.proofs.Frames.{IsPopped-transferred}
+use Rattle.im_arena.{proofs.Frames.IsPopped-transferred, specs.Table.count_of, specs.Table.spans_of}
+use Rattle.im_arena.proofs.Views.{count-popped, free-less, held-none, held-popped, inside-held, none-first, some-first}
 use Rattle.im_arena.proofs.Arena.pop_front.Goals as goal
 
 pub returns-then-index-clause-first : goal.returns-then-index-clause-first

@@ -1,9 +1,7 @@
-use Rattle.std.proofs.Common.{◌≢◌, ◌<◌, arith, sym, subst, ◌∙◌, true≢false}
+use Rattle.std.proofs.Common.{◌<◌, ◌≢◌, sym, ◌∙◌, subst, true≢false, arith}
 use Rattle.std.proofs.lemmas.List.{with_items_is}
-use Rattle.im_arena.specs.Lists.{free}
-use Rattle.im_arena.specs.Table.{count_of, spans_of}
-use Rattle.im_arena.proofs.Views.{inside-held, some-free, held-pushed, count-pushed}
-use Rattle.im_arena.proofs.Frames.{IsPushed-transferred}
+use Rattle.im_arena.{proofs.Frames.IsPushed-transferred, specs.Lists.free, specs.Table.count_of, specs.Table.spans_of}
+use Rattle.im_arena.proofs.Views.{count-pushed, held-pushed, inside-held, some-free}
 use Rattle.im_arena.proofs.Arena.push_back.Goals as goal
 
 pub transfer-requires-clause-some : goal.transfer-requires-clause-some

@@ -1,7 +1,6 @@
 use Rattle.std.proofs.Common.{sym, ap, ◌∙◌, arith}
-use Rattle.im_arena.proofs.Views.{few_steps, list_at-read, place-read, place-end}
+use Rattle.im_arena.proofs.{Views.few_steps, Views.list_at-read, Views.place-end, Views.place-read, Walks.IsWalk-same}
 use Rattle.im_arena.specs.Table.{waiters_from}
-use Rattle.im_arena.proofs.Walks.{IsWalk-same}
 use Rattle.im_arena.proofs.Arena.waiters.Goals as goal
 
 pub from-requires : goal.from-requires

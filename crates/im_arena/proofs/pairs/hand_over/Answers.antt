@@ -1,10 +1,8 @@
-use Rattle.std.proofs.Common.{◌≡◌, ◌≢◌, ◌<◌, ◌∷◌, ◌++◌, [], length, ap, sym, ◌∙◌, arith, length-set}
-use Rattle.std.proofs.lemmas.List.{get_or-set_same, get_or-set_other}
-use Rattle.im_arena.specs.Lists.{Lists, list_at, free}
-use Rattle.im_arena.proofs.Room.{room_after_pop}
-use Rattle.im_arena.proofs.pairs.hand_over.Goals as goal
+use Rattle.std.proofs.Common.{◌≡◌, ◌<◌, ◌≢◌, [], ◌∷◌, ◌++◌, length, sym, ap, ◌∙◌, arith, length-set, get_or-set_other}
+use Rattle.std.proofs.Common.{get_or-set_same}
+use Rattle.im_arena.{proofs.Room.room_after_pop, specs.Lists.free, specs.Lists.list_at, specs.Lists.Lists}
 
-pub returns-clause-lists : goal.returns-clause-lists
+pub returns-clause-lists : Rattle.im_arena.proofs.pairs.hand_over.Goals.returns-clause-lists
 returns-clause-lists c =
     let old = c.args.arena.now.held in
     let mid = c.pop_front.new.self.held in

@@ -1,5 +1,5 @@
 use Rattle.std.proofs.Common.{arith, length-set}
-use Rattle.im_arena.proofs.Tables.{first_inside, last_inside, Detached-same, Transferred-attached}
+use Rattle.im_arena.proofs.Tables.{Detached-same, first_inside, last_inside, Transferred-attached}
 use Rattle.im_arena.proofs.table.transfer.Goals as goal
 
 pub overflow_cast-held : goal.overflow_cast-held

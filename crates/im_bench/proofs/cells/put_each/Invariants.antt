@@ -1,5 +1,4 @@
 use Rattle.im_istore.specs.Agreement.{Agree}
-use Rattle.im_bench.proofs.cells.put_each.Given as goal
 
-abbrev pub invariant-loop-a : goal.invariant-loop-a
+abbrev pub invariant-loop-a : Rattle.im_bench.proofs.cells.put_each.Given.invariant-loop-a
 invariant-loop-a l = Agree l.table l.arena

@@ -2,7 +2,6 @@ use denote.Param.{param}
 use denote.Param.Send.{sendable}
 use Rattle.std.proofs.Crossing.{crosses}
 use Rattle.im_serving.proofs.Crosses.{Controller-row-sync}
-use Rattle.im_bench_threads.proofs.ports.keep.Goals as goal
 
-pub spawn-requires-send-F : goal.spawn-requires-send-F
+pub spawn-requires-send-F : Rattle.im_bench_threads.proofs.ports.keep.Goals.spawn-requires-send-F
 spawn-requires-send-F g c κs within = let controller = Controller-row-sync (param 1 g.row.D) (param 2 g.row.K) g.D.Disk g.K.Name c.type_bounds.send-D in let r = c.type_bounds.sync-R in search (sendable, crosses) depth 40

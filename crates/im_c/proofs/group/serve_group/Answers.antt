@@ -1,10 +1,8 @@
-use Rattle.std.proofs.Common.{rules, arith, ◌≡◌, false, List, length, ap}
-use Rattle.im_types.specs.declared.commands.Command.{Command}
-use Rattle.im_types.specs.declared.groups.Served.{Served}
-use Rattle.im_c.specs.Group.{IsGroup, all_meant}
-use Rattle.im_c.proofs.group.serve_group.Goals as goal
+use Rattle.std.proofs.Common.{◌≡◌, false, List, length, ap, arith, rules}
+use Rattle.im_types.specs.Types.{Command, Served}
+use Rattle.im_c.specs.Group.{all_meant, IsGroup}
 
-pub tell_all-requires-clause-few : goal.tell_all-requires-clause-few
+pub tell_all-requires-clause-few : Rattle.im_c.proofs.group.serve_group.Goals.tell_all-requires-clause-few
 tell_all-requires-clause-few c =
     let lives : c.args.image.now.lost ≡ false = search rules in
     let is : IsGroup c.args.commands.now (length c.args.outcomes.now) = search rules in

@@ -1,6 +1,5 @@
-use Rattle.im_disk.specs.Since.{LeavesNow}
-use Rattle.im_engine.specs.State.{MeansState, IsFound}
-use Rattle.im_listed.specs.Image.{ImageState}
+use Rattle.{im_disk.specs.Since.LeavesNow, im_listed.specs.Image.ImageState}
+use Rattle.im_engine.specs.State.{IsFound, MeansState}
 use Rattle.im_c.proofs.Boxes.{in_some}
 use Rattle.im_c.proofs.image.lt_open.Goals as goal
 

@@ -1,6 +1,5 @@
-use Rattle.std.proofs.Common.{rules, ◌≡◌, ℕ, List, subst}
-use Rattle.im_disk.specs.Since.{LeavesNow}
-use Rattle.im_engine.specs.State.{MeansState, IsFound}
+use Rattle.std.proofs.Common.{◌≡◌, ℕ, List, subst, rules}
+use Rattle.{im_disk.specs.Since.LeavesNow, im_engine.specs.State.IsFound, im_engine.specs.State.MeansState}
 use Rattle.im_listed.specs.Image.{ImageState, IsFaultOf}
 use Rattle.im_c.proofs.Boxes.{in_box}
 use Rattle.im_c.proofs.image.opened.Goals as goal

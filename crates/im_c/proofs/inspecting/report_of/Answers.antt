@@ -1,10 +1,8 @@
-use Rattle.std.proofs.Common.{rules, ◌≡◌, ℕ, List, ap, subst, ◌∙◌}
-use Rattle.im_disk.specs.Moment.{Moment}
-use Rattle.im_listed.specs.Listing.{Listing}
+use Rattle.std.proofs.Common.{◌≡◌, ℕ, List, ap, ◌∙◌, subst, rules}
+use Rattle.{im_disk.specs.Moment.Moment, im_listed.specs.Listing.Listing}
 use Rattle.im_c.specs.Telling.{IsFlawOf}
-use Rattle.im_c.proofs.inspecting.report_of.Goals as goal
 
-pub returns-clause-fault : goal.returns-clause-fault
+pub returns-clause-fault : Rattle.im_c.proofs.inspecting.report_of.Goals.returns-clause-fault
 returns-clause-fault c =
     let copied : c.in-Ok.copy.items ≡ c.args.bytes.now = search rules in
     let same = ap (λ (m : Moment). m.bytes) (c.inspect_on-status.ensures.reads tt).now

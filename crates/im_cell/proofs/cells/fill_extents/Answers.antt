@@ -1,6 +1,6 @@
 use Rattle.std.proofs.Common.{arith}
+use Rattle.im_cell.proofs.Filled.{IsFilled-more, IsFilled-none, IsFilled-upto}
 use Rattle.im_cell.specs.declared.state.TheConstants.{NOWHERE}
-use Rattle.im_cell.proofs.Filled.{IsFilled-none, IsFilled-more, IsFilled-upto}
 use Rattle.im_cell.proofs.cells.fill_extents.Goals as goal
 
 pub loop-k-init : goal.loop-k-init

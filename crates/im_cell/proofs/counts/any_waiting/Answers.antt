@@ -1,6 +1,6 @@
-use Rattle.std.proofs.Common.{inl, inr, ◌∙◌, sym, arith}
+use Rattle.std.proofs.Common.{sym, ◌∙◌, inl, inr, arith}
 use Rattle.im_laws.proofs.Tests.{zero_or_more}
-use Rattle.im_cell.proofs.Changed.{held-block, quiet-number, loud-number}
+use Rattle.im_cell.proofs.Changed.{held-block, loud-number, quiet-number}
 use Rattle.im_cell.proofs.counts.any_waiting.Goals as goal
 
 pub number-requires : goal.number-requires

@@ -1,7 +1,7 @@
-use Rattle.std.proofs.Common.{◌≡◌, ℕ, Some, true, set, ◌∙◌, sym, subst}
+use Rattle.std.proofs.Common.{◌≡◌, ℕ, true, set, Some, sym, ◌∙◌, subst}
 use Rattle.im_holes.specs.Holes.{holder_at}
-use Rattle.im_cell.specs.Table.{moved, CanMove}
-use Rattle.im_cell.proofs.Begun.{count-held, count-slot, held-step, counts-step, counts-passed}
+use Rattle.im_cell.proofs.Begun.{count-held, count-slot, counts-passed, counts-step, held-step}
+use Rattle.im_cell.specs.Table.{CanMove, moved}
 use Rattle.im_cell.proofs.counts.count_cell.Goals as goal
 
 pub base-requires : goal.base-requires

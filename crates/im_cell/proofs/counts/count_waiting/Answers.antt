@@ -1,5 +1,5 @@
 use Rattle.std.proofs.Common.{length, arith}
-use Rattle.im_cell.proofs.Begun.{held-begun, counts-begun, counts-all}
+use Rattle.im_cell.proofs.Begun.{counts-all, counts-begun, held-begun}
 use Rattle.im_cell.proofs.counts.count_waiting.Goals as goal
 
 pub loop-a-init : goal.loop-a-init

@@ -1,9 +1,7 @@
-use Rattle.std.proofs.Common.{◌≡◌, ℕ, Some, set, ◌∙◌, sym, subst}
+use Rattle.std.proofs.Common.{◌≡◌, ℕ, set, Some, sym, ◌∙◌, subst}
 use Rattle.im_holes.specs.Holes.{holder_at}
-use Rattle.im_cell.specs.Slots.{slot_at}
-use Rattle.im_cell.specs.Table.{base_in, moved, CanMove, IsTable}
-use Rattle.im_cell.proofs.Counted.{differ-yes, differ-no}
-use Rattle.im_cell.proofs.Tables.{set-kept, number-set, set-moved}
+use Rattle.im_cell.proofs.{Counted.differ-no, Counted.differ-yes, Tables.number-set, Tables.set-kept, Tables.set-moved}
+use Rattle.im_cell.specs.{Slots.slot_at, Table.base_in, Table.CanMove, Table.IsTable, Table.moved}
 use Rattle.im_cell.proofs.counts.set_cell.Goals as goal
 
 pub recount-requires : goal.recount-requires

@@ -1,7 +1,6 @@
 use Rattle.std.proofs.Common.{◌-◌, length, ap, arith}
 use Rattle.im_laws.proofs.BlockLemmas.{length-fill}
-use Rattle.im_cell.specs.Units.{common_slot}
-use Rattle.im_cell.proofs.Seen.{shown-filled}
+use Rattle.im_cell.{proofs.Seen.shown-filled, specs.Units.common_slot}
 use Rattle.im_cell.proofs.filling.fill_uncut.Goals as goal
 
 pub fill-requires-2-clause-inside : goal.fill-requires-2-clause-inside

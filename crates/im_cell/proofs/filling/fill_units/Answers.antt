@@ -1,6 +1,6 @@
 use Rattle.std.proofs.Common.{arith}
+use Rattle.im_cell.proofs.Filled.{IsFilled-more, IsFilled-none, IsFilled-upto}
 use Rattle.im_cell.specs.declared.unit.Unit.TheVariants.{Each}
-use Rattle.im_cell.proofs.Filled.{IsFilled-none, IsFilled-more, IsFilled-upto}
 use Rattle.im_cell.proofs.filling.fill_units.Goals as goal
 
 pub loop-k-init : goal.loop-k-init

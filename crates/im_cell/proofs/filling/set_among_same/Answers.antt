@@ -1,8 +1,6 @@
-use Rattle.std.proofs.Common.{◌∙◌, set, ap, sym, subst}
-use Rattle.std.specs.Prelude.{IsSome}
-use Rattle.im_cell.specs.Slots.{slot_at, with_cell, is_waiting_slot}
-use Rattle.im_cell.specs.Units.{shown_units}
+use Rattle.std.proofs.Common.{set, IsSome, sym, ap, ◌∙◌, subst}
 use Rattle.im_cell.proofs.Seen.{own-there, shown-set}
+use Rattle.im_cell.specs.{Slots.is_waiting_slot, Slots.slot_at, Slots.with_cell, Units.shown_units}
 use Rattle.im_cell.proofs.filling.set_among_same.Goals as goal
 
 pub set-requires : goal.set-requires

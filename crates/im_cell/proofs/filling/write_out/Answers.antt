@@ -1,12 +1,9 @@
-use Rattle.std.proofs.Common.{◌∙◌, ◌-◌, set, length, ap, sym, arith}
-use Rattle.std.proofs.lemmas.List.{get_or-set_same, get_or-set_other}
-use Rattle.im_types.specs.Place.{fill}
-use Rattle.im_cell.specs.declared.unit.Unit.TheVariants.{Each}
-use Rattle.im_cell.specs.Units.{is_own, common_slot}
-use Rattle.im_cell.proofs.Seen.{shown-written, unit-bounds, unit-beside}
-use Rattle.im_cell.proofs.filling.write_out.Goals as goal
+use Rattle.std.proofs.Common.{◌-◌, length, set, sym, ap, ◌∙◌, arith, get_or-set_other, get_or-set_same}
+use Rattle.im_types.specs.Types.{fill}
+use Rattle.im_cell.proofs.Seen.{shown-written, unit-beside, unit-bounds}
+use Rattle.im_cell.specs.{declared.unit.Unit.TheVariants.Each, Units.common_slot, Units.is_own}
 
-pub returns-clause-same : goal.returns-clause-same
+pub returns-clause-same : Rattle.im_cell.proofs.filling.write_out.Goals.returns-clause-same
 returns-clause-same c = shown-written c.args.units.now (set c.args.units.now c.args.at Each) c.args.cells.now
     c.fill.new.self c.args.at c.min-from.result c.min-to.result
     (ap is_own (sym c.unit_of-unit.ensures) ∙ sym c.is_own.ensures ∙ c.if-is_own.false)

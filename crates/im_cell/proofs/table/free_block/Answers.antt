@@ -1,7 +1,6 @@
 use Rattle.std.proofs.Common.{None, sym, subst, arith}
-use Rattle.im_types.specs.Place.{fill}
-use Rattle.im_cell.specs.Table.{IsTable}
-use Rattle.im_cell.proofs.Changed.{held-block, IsTable-left}
+use Rattle.im_types.specs.Types.{fill}
+use Rattle.im_cell.{proofs.Changed.held-block, proofs.Changed.IsTable-left, specs.Table.IsTable}
 use Rattle.im_cell.proofs.table.free_block.Goals as goal
 
 pub fill-requires-clause-inside : goal.fill-requires-clause-inside

@@ -1,7 +1,5 @@
-use Rattle.std.proofs.Common.{◌∙◌, map, ap}
-use Rattle.im_cell.specs.Slots.{shown_slot}
-use Rattle.im_cell.proofs.Blocks.{HasBlocks-free}
-use Rattle.im_cell.proofs.Rows.{slots-free}
+use Rattle.std.proofs.Common.{map, ap, ◌∙◌}
+use Rattle.im_cell.{proofs.Blocks.HasBlocks-free, proofs.Rows.slots-free, specs.Slots.shown_slot}
 use Rattle.im_cell.proofs.table.free_table.Goals as goal
 
 pub in_room-requires-clause-blocks : goal.in_room-requires-clause-blocks

@@ -1,8 +1,6 @@
-use Rattle.std.proofs.Common.{◌∙◌, ap, sym, subst}
-use Rattle.im_types.specs.Place.{fill}
-use Rattle.im_laws.proofs.BlockLemmas.{place-fits}
-use Rattle.im_cell.specs.Table.{IsTable}
-use Rattle.im_cell.proofs.Changed.{place-table, IsTable-made}
+use Rattle.std.proofs.Common.{sym, ap, ◌∙◌, subst}
+use Rattle.{im_types.specs.Types.fill, im_laws.proofs.BlockLemmas.place-fits}
+use Rattle.im_cell.{proofs.Changed.IsTable-made, proofs.Changed.place-table, specs.Table.IsTable}
 use Rattle.im_cell.proofs.table.place_block.Goals as goal
 
 pub returns-in-None-clause-place : goal.returns-in-None-clause-place

@@ -1,9 +1,8 @@
-use Rattle.std.proofs.Common.{Result, Ok, Err, OnOk, ◌-◌, refl}
+use Rattle.std.proofs.Common.{◌-◌, OnOk, Ok, Err, Result, refl}
 use Rattle.im_image.specs.Headers.{seen}
-use Rattle.im_checkpoint.specs.Step.{PagesDone}
-use Rattle.im_checkpoint.proofs.Moments.{read_now, read_leaves, closed_now, closed_leaves, closed_done, shut_now}
-use Rattle.im_checkpoint.proofs.Moments.{shut_leaves, shut_sync_now, shut_sync_leaves, shut_done}
-use Rattle.im_checkpoint.proofs.Turning.{opened_by, closed_by}
+use Rattle.im_checkpoint.proofs.Moments.{closed_done, closed_leaves, closed_now, read_leaves, read_now, shut_done}
+use Rattle.im_checkpoint.proofs.Moments.{shut_leaves, shut_now, shut_sync_leaves, shut_sync_now}
+use Rattle.im_checkpoint.{proofs.Turning.closed_by, proofs.Turning.opened_by, specs.Step.PagesDone}
 use Rattle.im_checkpoint.proofs.header.close_other.Goals as goal
 
 on_ok : {T E P Q : Type 0} (r : Result T E) → OnOk r P → (P → Q) → OnOk r Q

@@ -1,9 +1,6 @@
-use Rattle.std.proofs.Common.{rules, ◌≡◌, ◌*◌, Result, Ok, Err, OnOk, length}
-use Rattle.im_disk.specs.Gate.{MayWrite}
-use Rattle.im_disk.proofs.SinceLemmas.{only_weaker}
-use Rattle.im_image.specs.Headers.{seen}
-use Rattle.im_checkpoint.specs.Keeping.{MeansWith}
-use Rattle.im_checkpoint.proofs.Turning.{opening_means, opening_done}
+use Rattle.std.proofs.Common.{◌≡◌, ◌*◌, length, OnOk, Ok, Err, Result, rules}
+use Rattle.{im_disk.proofs.SinceLemmas.only_weaker, im_disk.specs.Gate.MayWrite, im_image.specs.Headers.seen}
+use Rattle.im_checkpoint.{proofs.Turning.opening_done, proofs.Turning.opening_means, specs.Keeping.MeansWith}
 use Rattle.im_checkpoint.proofs.header.open_next.Goals as goal
 
 on_ok : {T E P Q : Type 0} (r : Result T E) → OnOk r P → (P → Q) → OnOk r Q

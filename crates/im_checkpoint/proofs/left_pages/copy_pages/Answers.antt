@@ -1,5 +1,5 @@
-use Rattle.im_types.specs.Layout.{sizes_of}
-use Rattle.im_checkpoint.proofs.Copying.{copied_more, copied_all}
+use Rattle.im_types.specs.Types.{sizes_of}
+use Rattle.im_checkpoint.proofs.Copying.{copied_all, copied_more}
 use Rattle.im_checkpoint.proofs.left_pages.copy_pages.Goals as goal
 
 pub loop-page-preserved : goal.loop-page-preserved

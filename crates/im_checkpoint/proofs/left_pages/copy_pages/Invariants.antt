@@ -1,5 +1,5 @@
 use Rattle.std.proofs.Common.{◌-◌, length}
-use Rattle.im_types.specs.Layout.{sizes_of}
+use Rattle.im_types.specs.Types.{sizes_of}
 use Rattle.im_checkpoint.proofs.Copying.{HasCopied}
 use Rattle.im_checkpoint.proofs.left_pages.copy_pages.Given as goal
 

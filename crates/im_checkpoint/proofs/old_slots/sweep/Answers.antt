@@ -1,7 +1,5 @@
-use Rattle.im_disk.proofs.SinceLemmas.{only_weaker}
-use Rattle.im_journal.specs.Holding.{MaySweep}
-use Rattle.im_checkpoint.specs.Keeping.{MeansWith}
-use Rattle.im_checkpoint.proofs.Sweeping.{sweep_means, sweep_done}
+use Rattle.{im_disk.proofs.SinceLemmas.only_weaker, im_journal.specs.Holding.MaySweep}
+use Rattle.im_checkpoint.{proofs.Sweeping.sweep_done, proofs.Sweeping.sweep_means, specs.Keeping.MeansWith}
 use Rattle.im_checkpoint.proofs.old_slots.sweep.Goals as goal
 
 pub returns-in-Ok-clause-keeps : goal.returns-in-Ok-clause-keeps

@@ -1,7 +1,6 @@
-use Rattle.im_disk.proofs.SinceLemmas.{only_weaker}
-use Rattle.im_journal.specs.Holding.{MaySweep}
+use Rattle.{im_disk.proofs.SinceLemmas.only_weaker, im_journal.specs.Holding.MaySweep}
+use Rattle.im_checkpoint.proofs.Sweeping.{kept_still, sweep_means, swept_kept}
 use Rattle.im_checkpoint.specs.Keeping.{MeansWith}
-use Rattle.im_checkpoint.proofs.Sweeping.{sweep_means, swept_kept, kept_still}
 use Rattle.im_checkpoint.proofs.old_slots.sweep_more.Goals as goal
 
 pub returns-then-to_sweep-eq0-clause-keeps : goal.returns-then-to_sweep-eq0-clause-keeps

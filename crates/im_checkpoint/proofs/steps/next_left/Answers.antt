@@ -1,6 +1,6 @@
-use Rattle.std.proofs.Common.{◌∙◌, ap, sym}
+use Rattle.std.proofs.Common.{sym, ap, ◌∙◌}
 use Rattle.im_pages.proofs.SetLemmas.{from-next, from-none, step_in}
-use Rattle.im_checkpoint.specs.Step.{PagesLeft, pages_step}
+use Rattle.im_checkpoint.specs.Step.{pages_step, PagesLeft}
 use Rattle.im_checkpoint.proofs.steps.next_left.Goals as goal
 
 pub returns-in-Some-clause-step : goal.returns-in-Some-clause-step

@@ -1,6 +1,5 @@
-use Rattle.std.proofs.Common.{refl, sym, ◌∙◌, arith}
-use Rattle.std.proofs.lemmas.Bool.{true≢false}
-use Rattle.im_contents.proofs.BlockLemmas.{free_below, begins_block, blocks_of_all}
+use Rattle.std.proofs.Common.{sym, refl, ◌∙◌, true≢false, arith}
+use Rattle.im_contents.proofs.BlockLemmas.{begins_block, blocks_of_all, free_below}
 use Rattle.im_contents.proofs.blocks.are_blocks.Goals as goal
 
 pub returns-then-not-is_block_at : goal.returns-then-not-is_block_at

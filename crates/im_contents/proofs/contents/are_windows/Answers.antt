@@ -1,6 +1,5 @@
-use Rattle.std.proofs.Common.{refl, arith}
-use Rattle.std.proofs.lemmas.Option.{slice_get_within}
-use Rattle.im_types.specs.Memory.{IsWindow}
+use Rattle.std.proofs.{Common.refl, Common.arith, lemmas.Option.slice_get_within}
+use Rattle.im_types.specs.Types.{IsWindow}
 use Rattle.im_contents.proofs.ContentsLemmas.{one_more}
 use Rattle.im_contents.proofs.contents.are_windows.Goals as goal
 

@@ -1,7 +1,6 @@
-use Rattle.std.proofs.Common.{[], arith, refl}
-use Rattle.im_contents.proofs.contents.have_parts.Goals as goal
+use Rattle.std.proofs.Common.{[], refl, arith}
 
-pub returns-then-are_windows : goal.returns-then-are_windows
+pub returns-then-are_windows : Rattle.im_contents.proofs.contents.have_parts.Goals.returns-then-are_windows
 returns-then-are_windows c = (
   λ yes. record {
     cell_count = omega arith;

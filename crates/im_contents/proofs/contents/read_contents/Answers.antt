@@ -1,7 +1,6 @@
-use Rattle.std.proofs.Common.{sym, refl}
-use Rattle.std.proofs.lemmas.Bool.{true≢false}
-use Rattle.im_types.specs.Layout.{sizes_of}
-use Rattle.im_contents.proofs.ContentsLemmas.{parts_of, shown_of, agrees_of}
+use Rattle.std.proofs.Common.{sym, refl, true≢false}
+use Rattle.im_types.specs.Types.{sizes_of}
+use Rattle.im_contents.proofs.ContentsLemmas.{agrees_of, parts_of, shown_of}
 use Rattle.im_contents.proofs.contents.read_contents.Goals as goal
 
 pub returns-then-not-have_parts-clause-bad : goal.returns-then-not-have_parts-clause-bad

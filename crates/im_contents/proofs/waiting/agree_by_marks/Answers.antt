@@ -1,6 +1,5 @@
-use Rattle.std.proofs.Common.{◌∙◌, sym}
-use Rattle.std.proofs.lemmas.Bool.{true≢false}
-use Rattle.im_types.specs.Pages.{cells_shown}
+use Rattle.std.proofs.Common.{sym, ◌∙◌, true≢false}
+use Rattle.im_types.specs.Types.{cells_shown}
 use Rattle.im_contents.proofs.PlaceLemmas.{agrees_where_marked, disagrees}
 use Rattle.im_contents.proofs.waiting.agree_by_marks.Goals as goal
 

@@ -1,15 +1,9 @@
-use Rattle.std.proofs.Common.{length, get_or, [], sym, List, Option, Some, None, ap, ◌∙◌, arith}
-use Rattle.std.specs.List.{sum_by}
-use Rattle.std.proofs.lemmas.Bool.{eqb-true}
+use Rattle.std.proofs.Common.{List, [], length, get_or, Some, None, sum_by, Option, sym, ap, ◌∙◌, arith, eqb-true}
 use Rattle.std.proofs.lemmas.List.{drop_all}
-use Rattle.im_types.specs.Contents.{Held, kept_for}
-use Rattle.im_types.specs.declared.TheConstants.{NONE}
-use Rattle.im_types.specs.declared.records.CellRecord.{CellRecord}
-use Rattle.im_types.specs.declared.records.CellRecord.TheVariants.{Free}
-use Rattle.im_types.specs.Pages.{cell_shown, cells_shown}
-use Rattle.im_contents.specs.Marking.{place_of_mark, mark_held, mark_all}
+use Rattle.im_types.specs.Types.{NONE, Held, kept_for, CellRecord, FreeCell as Free, cell_shown, cells_shown}
 use Rattle.im_contents.proofs.BlockLemmas.{length-cells_shown}
-use Rattle.im_contents.proofs.PlaceLemmas.{held_at-shown, mark_all-step, mark_all-nobody}
+use Rattle.im_contents.proofs.PlaceLemmas.{held_at-shown, mark_all-nobody, mark_all-step}
+use Rattle.im_contents.specs.Marking.{mark_all, mark_held, place_of_mark}
 use Rattle.im_contents.proofs.waiting.mark_all.Goals as goal
 
 pub returns-then-has_nobody : goal.returns-then-has_nobody

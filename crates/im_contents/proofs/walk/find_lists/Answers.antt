@@ -1,13 +1,9 @@
-use Rattle.std.proofs.Common.{◌≡◌, List, Bool, None, Some, length, sym, ap, ◌∙◌, ℕ, if◌then◌else◌}
-use Rattle.std.proofs.Common.{subst, arith}
+use Rattle.std.proofs.Common.{◌≡◌, ℕ, Bool, List, length, if◌then◌else◌, Some, None, sym, ap, ◌∙◌, subst, arith}
 use Rattle.std.proofs.lemmas.List.{at_drop_more}
-use Rattle.im_types.specs.declared.TheConstants.{NONE}
-use Rattle.im_types.specs.declared.records.CellRecord.{CellRecord}
-use Rattle.im_types.specs.declared.records.CellRecord.TheVariants.{Free}
-use Rattle.im_contents.specs.Row.{spread}
-use Rattle.im_contents.specs.Walk.{met_after, walk_cell, walk_all, after_lists}
-use Rattle.im_contents.proofs.StepLemmas.{none_in, cell_lost, cell_found, all_walked}
+use Rattle.im_types.specs.Types.{NONE, CellRecord, FreeCell as Free}
 use Rattle.im_contents.proofs.RowLemmas.{IsEndKept}
+use Rattle.im_contents.proofs.StepLemmas.{all_walked, cell_found, cell_lost, none_in}
+use Rattle.im_contents.specs.{Row.spread, Walk.after_lists, Walk.met_after, Walk.walk_all, Walk.walk_cell}
 use Rattle.im_contents.proofs.walk.find_lists.Goals as goal
 
 pub returns-then-not-branch : goal.returns-then-not-branch

@@ -1,9 +1,7 @@
-use Rattle.std.proofs.Common.{◌≡◌, ◌≤◌, length, drop, replicate, false}
-use Rattle.im_contents.specs.Row.{spread, Rise}
-use Rattle.im_contents.specs.Walk.{walk_all, after_lists}
-use Rattle.im_contents.proofs.walk.find_lists.Given as goal
+use Rattle.std.proofs.Common.{◌≡◌, ◌≤◌, false, length, drop, replicate}
+use Rattle.im_contents.specs.{Row.Rise, Row.spread, Walk.after_lists, Walk.walk_all}
 
-abbrev pub invariant-loop-cell : goal.invariant-loop-cell
+abbrev pub invariant-loop-cell : Rattle.im_contents.proofs.walk.find_lists.Given.invariant-loop-cell
 invariant-loop-cell l = record {
   size : length l.marks ≡ length l.nodes;
   rise : Rise 0 l.ends.items (length l.waiters.items);

@@ -1,5 +1,5 @@
 use Rattle.std.proofs.Common.{sym}
-use Rattle.im_contents.proofs.ListLemmas.{lists_in_sound, no_lists, length-lists}
+use Rattle.im_contents.proofs.ListLemmas.{length-lists, lists_in_sound, no_lists}
 use Rattle.im_contents.proofs.walk.read_lists.Goals as goal
 
 pub returns-in-Ok-Some-clause-found : goal.returns-in-Ok-Some-clause-found

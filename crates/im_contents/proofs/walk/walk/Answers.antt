@@ -1,9 +1,8 @@
-use Rattle.std.proofs.Common.{◌-◌, List, None, Some, length, sym, ap, ◌∙◌, true, set, ◌+◌, ◌==◌, if◌then◌else◌}
-use Rattle.std.proofs.lemmas.Bool.{eq-eqb, ne_eqb}
-use Rattle.im_types.specs.declared.TheConstants.{NONE}
-use Rattle.im_types.specs.declared.operations.Waiter.{Waiter}
+use Rattle.std.proofs.Common.{◌+◌, ◌-◌, true, List, length, set, if◌then◌else◌, ◌==◌, Some, None, sym, ap, ◌∙◌, eq-eqb}
+use Rattle.std.proofs.Common.{ne_eqb}
+use Rattle.im_types.specs.Types.{Waiter, NONE}
+use Rattle.im_contents.proofs.StepLemmas.{ended, lost, went}
 use Rattle.im_contents.specs.Walk.{met_after, walk}
-use Rattle.im_contents.proofs.StepLemmas.{lost, ended, went}
 use Rattle.im_contents.proofs.walk.walk.Goals as goal
 
 pub returns-in_default : goal.returns-in_default

@@ -1,15 +1,11 @@
-use Rattle.std.proofs.Common.{◌+◌, arith, drop, get_or, ap, None, Some, Bool, subst, sym, ◌∙◌}
-use Rattle.im_types.specs.declared.operations.Kind.TheVariants.{I}
-use Rattle.im_types.specs.declared.operations.Op.TheVariants.{Alloc}
-use Rattle.im_types.specs.declared.commands.Command.{Command}
-use Rattle.im_types.specs.declared.commands.Command.TheVariants.{Request as Asks}
-use Rattle.im_laws.proofs.Tests.{true_false}
-use Rattle.im_groups.specs.Commands.{takes_place}
-use Rattle.im_controller.specs.Admitted.{IsVerdict, places_with, is_asked}
-use Rattle.im_controller.proofs.AdmitLemmas.{admitting-start, admitting-cons, admitting-lent, admitting-refused}
-use Rattle.im_controller.proofs.AdmitLemmas.{admitting-ahead, admitting-end, verdict-lineless}
+use Rattle.std.proofs.Common.{◌+◌, Bool, get_or, drop, Some, None, sym, ap, ◌∙◌, subst, arith}
+use Rattle.im_types.specs.Types.{I, Alloc, Command, Asks}
+use Rattle.{im_laws.proofs.Tests.true_false, im_groups.specs.Commands.takes_place}
+use Rattle.im_controller.proofs.AdmitLemmas.{admitting-ahead, admitting-cons, admitting-end, admitting-lent}
+use Rattle.im_controller.proofs.AdmitLemmas.{admitting-refused, admitting-start, verdict-lineless}
+use Rattle.im_controller.proofs.admitting.admit.Goals.{in-Err, in-Ok}
+use Rattle.im_controller.specs.Admitted.{is_asked, IsVerdict, places_with}
 use Rattle.im_controller.proofs.admitting.admit.Goals as goal
-use Rattle.im_controller.proofs.admitting.admit.Goals.{in-Ok, in-Err}
 
 pub loop-i-init : goal.loop-i-init
 loop-i-init g c = rw c.new-lent.ensures

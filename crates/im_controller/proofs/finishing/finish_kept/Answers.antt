@@ -1,15 +1,9 @@
-use Rattle.std.proofs.Common.{◌-◌, ◌∙◌, ap, sym, subst, arith, List, length, ℕ}
-use Rattle.std.proofs.lemmas.Bool.{eqb-true, eq-eqb}
+use Rattle.std.proofs.Common.{ℕ, ◌-◌, List, length, count_by, sym, ap, ◌∙◌, subst, arith, eq-eqb, eqb-true}
 use Rattle.std.specs.List.{AllByRecursion}
-use mathlib.Core.List.{IsPrefix}
-use Rattle.im_types.specs.declared.commands.Line.{Line}
-use Rattle.std.specs.Prelude.{count_by}
-use Rattle.im_trace.specs.Ends.{RecordingState}
-use Rattle.im_trace.specs.Lines.{LineCounts}
-use Rattle.im_controller.specs.Planned.{EndsBy}
-use Rattle.im_controller.specs.State.{PortState}
-use Rattle.im_controller.specs.Kept.{IsSessionOf, KeepsSince}
+use Rattle.{im_types.specs.Types.Line, im_trace.specs.Ends.RecordingState, im_trace.specs.Lines.LineCounts}
 use Rattle.im_controller.proofs.PlannedLemmas.{ends-by}
+use Rattle.im_controller.specs.{Kept.IsSessionOf, Kept.KeepsSince, Planned.EndsBy, State.PortState}
+use mathlib.Core.List.{IsPrefix}
 use Rattle.im_controller.proofs.finishing.finish_kept.Goals as goal
 
 pub returns-clause-came : goal.returns-clause-came

@@ -1,9 +1,8 @@
 use Rattle.std.proofs.Common.{◌≡◌, ◌+◌, ◌≤◌, length, sum_by}
 use Rattle.std.specs.List.{AllByRecursion}
 use mathlib.Core.List.{IsPrefix}
-use Rattle.im_controller.proofs.finishing.take_all_back.Given as goal
 
-abbrev pub invariant-loop-port : goal.invariant-loop-port
+abbrev pub invariant-loop-port : Rattle.im_controller.proofs.finishing.take_all_back.Given.invariant-loop-port
 invariant-loop-port g l =
     (l.log.back + length l.port-iterator.rest.items ≡ l.fn.log.back + length l.fn.ports.items)
     × (l.log.told.lines + sum_by (λ p. p.told.lines) l.port-iterator.rest.items

@@ -1,6 +1,5 @@
 use Rattle.std.proofs.Common.{◌∙◌}
-use Rattle.im_controller.proofs.ShownLemmas.{told-all}
-use Rattle.im_controller.proofs.PlannedLemmas.{tells-some}
+use Rattle.im_controller.proofs.{PlannedLemmas.tells-some, ShownLemmas.told-all}
 use Rattle.im_controller.proofs.groups.claim.Goals as goal
 
 pub claim-requires : goal.claim-requires

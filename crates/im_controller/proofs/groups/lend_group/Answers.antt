@@ -1,23 +1,15 @@
-use Rattle.std.proofs.Common.{◌≡◌, ◌++◌, List, ap, refl, sym, subst, ◌∙◌, length, map, ℕ}
-use Rattle.im_types.specs.declared.commands.Line.{Line}
-use Rattle.im_types.specs.Contents.{Contents}
-use Rattle.im_types.specs.Changes.{shown_by}
-use Rattle.im_engine.specs.State.{EngineState}
-use Rattle.im_queue.specs.Members.{AreSureBehind, AreFreeFor}
-use Rattle.im_trace.specs.Log.{LogState}
-use Rattle.im_controller.specs.Admitted.{Admits, free_lines, places_with}
-use Rattle.im_controller.specs.State.{SharedState}
-use Rattle.im_controller.specs.Kept.{IsSessionOf, KeepsSince}
-use Rattle.im_controller.specs.Planned.{KeepsTo}
-use Rattle.im_session.specs.Serving.{served_answer}
-use Rattle.im_controller.specs.Groups.{with_all_unclaimed, memory_after_all, LendsGroup, changes_put_all}
+use Rattle.std.proofs.Common.{◌≡◌, ℕ, List, ◌++◌, map, length, sym, refl, ap, ◌∙◌, subst}
+use Rattle.im_types.specs.Types.{Line, Contents, shown_by}
+use Rattle.{im_engine.specs.State.EngineState, im_session.specs.Serving.served_answer, im_trace.specs.Log.LogState}
+use Rattle.im_queue.specs.Members.{AreFreeFor, AreSureBehind}
 use Rattle.im_controller.proofs.AdmitLemmas.{admit-sure, keeps-members}
-use Rattle.im_controller.proofs.ShownLemmas.{end-cells}
-use Rattle.im_controller.proofs.PlannedLemmas.{keeps-starts}
-use Rattle.im_controller.proofs.PutLemmas.{all-trace}
 use Rattle.im_controller.proofs.KeptLemmas.{session_group, times_at, times_on}
-use Rattle.im_controller.proofs.Lending.{group-is, group-fits, group-trace, group-ends, group-keeps, group-planned}
-use Rattle.im_controller.proofs.Lending.{group-pane, lends-group}
+use Rattle.im_controller.proofs.Lending.{group-ends, group-fits, group-is, group-keeps, group-pane, group-planned}
+use Rattle.im_controller.proofs.Lending.{group-trace, lends-group}
+use Rattle.im_controller.proofs.{PlannedLemmas.keeps-starts, PutLemmas.all-trace, ShownLemmas.end-cells}
+use Rattle.im_controller.specs.Admitted.{Admits, free_lines, places_with}
+use Rattle.im_controller.specs.Groups.{changes_put_all, LendsGroup, memory_after_all, with_all_unclaimed}
+use Rattle.im_controller.specs.{Kept.IsSessionOf, Kept.KeepsSince, Planned.KeepsTo, State.SharedState}
 use Rattle.im_controller.proofs.groups.lend_group.Goals as goal
 
 pub admit-lent-requires : goal.admit-lent-requires

@@ -1,8 +1,6 @@
 use Rattle.std.proofs.Common.{◌≡◌, List, subst}
-use Rattle.im_types.specs.declared.commands.Command.{Command}
-use Rattle.im_engine.specs.Commands.{CommandsAnswered}
-use Rattle.im_session.specs.Keeping.{MakesFewCalls}
-use Rattle.im_session.specs.Serving.{served_together}
+use Rattle.{im_types.specs.Types.Command, im_engine.specs.Commands.CommandsAnswered}
+use Rattle.im_session.specs.{Keeping.MakesFewCalls, Serving.served_together}
 use Rattle.im_controller.proofs.SureLemmas.{all-served}
 use Rattle.im_controller.proofs.groups.serve_each.Goals as goal
 

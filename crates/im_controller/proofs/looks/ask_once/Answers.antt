@@ -1,9 +1,8 @@
-use Rattle.std.proofs.Common.{◌≡◌, rules, Ok, Err}
-use Rattle.im_types.specs.declared.refusals.Refusal.TheVariants.{Stalled}
+use Rattle.std.proofs.Common.{◌≡◌, Ok, Err, rules}
+use Rattle.{im_types.specs.Types.Stalled, im_queue.specs.declared.Ask.TheVariants.Go}
 use Rattle.im_controller.proofs.SeenLemmas.{sees-more}
-use Rattle.im_queue.specs.declared.servers.Ask.TheVariants.{Go}
-use Rattle.im_controller.proofs.WaitLemmas.{finds-told, go-waits, err-waits, go-stalled, other-stalled}
-use Rattle.im_controller.proofs.WaitLemmas.{looks-stalls, stall-waits}
+use Rattle.im_controller.proofs.WaitLemmas.{err-waits, finds-told, go-stalled, go-waits, looks-stalls, other-stalled}
+use Rattle.im_controller.proofs.WaitLemmas.{stall-waits}
 use Rattle.im_controller.proofs.looks.ask_once.Goals as goal
 
 pub returns-in-Ok-Go-clause-told : goal.returns-in-Ok-Go-clause-told

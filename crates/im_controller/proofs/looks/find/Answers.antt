@@ -1,15 +1,10 @@
-use Rattle.std.proofs.Common.{ap, sym, subst, ◌∙◌, Result}
-use Rattle.im_controller.specs.State.{SharedState}
-use Rattle.im_controller.specs.Waits.{IsFoundAt}
-use Rattle.im_types.specs.declared.commands.Call.TheVariants.{Collect}
-use Rattle.im_types.specs.declared.commands.Outcome.TheVariants.{Entry as Tells}
-use Rattle.im_types.specs.declared.refusals.Refusal.{Refusal}
+use Rattle.std.proofs.Common.{Result, sym, ap, ◌∙◌, subst}
+use Rattle.im_types.specs.Types.{Tells, Collect, Refusal}
 use Rattle.im_trace.specs.Log.{FoundState}
-use Rattle.im_controller.specs.Planned.{TellsBy, TellsFound}
-use Rattle.im_controller.proofs.PlannedLemmas.{tells-last}
-use Rattle.im_controller.proofs.ShownLemmas.{told-all}
+use Rattle.im_controller.proofs.looks.find.Goals.{in-Err, in-Ok}
+use Rattle.im_controller.proofs.{PlannedLemmas.tells-last, ShownLemmas.told-all}
+use Rattle.im_controller.specs.{Planned.TellsBy, Planned.TellsFound, State.SharedState, Waits.IsFoundAt}
 use Rattle.im_controller.proofs.looks.find.Goals as goal
-use Rattle.im_controller.proofs.looks.find.Goals.{in-Ok, in-Err}
 
 pub found-requires-clause-told : goal.found-requires-clause-told
 found-requires-clause-told g c =

@@ -1,14 +1,10 @@
-use Rattle.std.proofs.Common.{◌++◌, ◌∙◌, ap, sym, subst, List}
-use Rattle.im_types.specs.declared.commands.Call.TheVariants.{Collect}
-use Rattle.im_types.specs.declared.commands.Line.{Line}
-use Rattle.im_types.specs.Trace.{told}
+use Rattle.std.proofs.Common.{List, ◌++◌, sym, ap, ◌∙◌, subst}
+use Rattle.im_types.specs.Types.{Line, Collect, told}
 use Rattle.im_trace.specs.Lines.{left_lines}
-use Rattle.im_controller.specs.State.{SharedState}
-use Rattle.im_controller.specs.Waits.{IsFoundAt, found_entry}
 use Rattle.im_controller.proofs.SeenLemmas.{goes-on, looks-trace}
-use Rattle.im_controller.proofs.looks.find_seen.Goals as goal
+use Rattle.im_controller.specs.{State.SharedState, Waits.found_entry, Waits.IsFoundAt}
 
-pub returns-clause-order : goal.returns-clause-order
+pub returns-clause-order : Rattle.im_controller.proofs.looks.find_seen.Goals.returns-clause-order
 returns-clause-order g c =
     let last = left_lines (Collect c.args.element c.args.number) (told (found_entry c.find-found.result)) in (
       goes-on c.args.seen.now c.args.shared.now.log.trace last c.seen_all.result c.know.ensures.known

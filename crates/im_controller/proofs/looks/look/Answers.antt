@@ -1,16 +1,10 @@
-use Rattle.std.proofs.Common.{◌≡◌, List, length, sym, ap, subst, ◌∙◌, ◌++◌}
-use Rattle.im_types.specs.declared.commands.Line.{Line}
-use Rattle.im_types.specs.declared.commands.Call.TheVariants.{Collect}
+use Rattle.std.proofs.Common.{◌≡◌, List, ◌++◌, length, sym, ap, ◌∙◌, subst}
+use Rattle.im_types.specs.Types.{Line, Collect, told, end_of, shown_by}
 use Rattle.im_engine.specs.State.{EngineState}
-use Rattle.im_trace.specs.Lines.{left_lines}
-use Rattle.im_trace.specs.Log.{LogState}
-use Rattle.im_types.specs.Trace.{told, end_of}
-use Rattle.im_types.specs.Changes.{shown_by}
-use Rattle.im_controller.specs.Planned.{KeepsTo}
-use Rattle.im_controller.proofs.PlannedLemmas.{keeps-line, question-on}
-use Rattle.im_trace.proofs.LogLemmas.{last-told}
-use Rattle.im_controller.proofs.ShownLemmas.{looked-shown, memory-same}
+use Rattle.im_trace.{proofs.LogLemmas.last-told, specs.Lines.left_lines, specs.Log.LogState}
 use Rattle.im_controller.proofs.KeptLemmas.{looked-same, session_same, times_at}
+use Rattle.im_controller.{proofs.PlannedLemmas.keeps-line, proofs.PlannedLemmas.question-on, specs.Planned.KeepsTo}
+use Rattle.im_controller.proofs.ShownLemmas.{looked-shown, memory-same}
 use Rattle.im_controller.proofs.looks.look.Goals as goal
 
 pub returns-clause-last : goal.returns-clause-last

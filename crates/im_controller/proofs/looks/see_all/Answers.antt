@@ -1,7 +1,7 @@
-use Rattle.std.proofs.Common.{List, ap, subst, sym, ◌∙◌}
-use mathlib.Core.List.{IsPrefix}
-use Rattle.im_types.specs.declared.commands.Line.{Line}
+use Rattle.std.proofs.Common.{List, sym, ap, ◌∙◌, subst}
+use Rattle.im_types.specs.Types.{Line}
 use Rattle.im_controller.specs.State.{SharedState}
+use mathlib.Core.List.{IsPrefix}
 use Rattle.im_controller.proofs.looks.see_all.Goals as goal
 
 pub returns-clause-known : goal.returns-clause-known

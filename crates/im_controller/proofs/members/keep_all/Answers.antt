@@ -1,15 +1,10 @@
-use Rattle.std.proofs.Common.{◌≡◌, ap, arith, subst, sym, ◌∙◌, ◌+◌, map, drop, get_or}
-use Rattle.im_types.specs.declared.operations.Kind.TheVariants.{I}
-use Rattle.im_types.specs.declared.operations.Op.TheVariants.{Alloc}
-use Rattle.im_types.specs.declared.commands.Command.TheVariants.{Request as Asks}
-use Rattle.im_types.specs.declared.groups.Served.TheVariants.{Unserved}
-use Rattle.im_trace.specs.Log.{LogState, with_unclaimed}
-use Rattle.im_trace.proofs.TimeLemmas.{goes-on-at}
+use Rattle.std.proofs.Common.{◌≡◌, ◌+◌, map, get_or, drop, sym, ap, ◌∙◌, subst, arith}
+use Rattle.im_types.specs.Types.{I, Alloc, Asks, Unserved}
 use Rattle.im_session.specs.Serving.{served_answer}
-use Rattle.im_controller.proofs.Keeping.{Keeps, keeps_next, keeps_cons}
-use Rattle.im_controller.proofs.members.keep_all.Goals as goal
+use Rattle.im_trace.{proofs.TimeLemmas.goes-on-at, specs.Log.LogState, specs.Log.with_unclaimed}
+use Rattle.im_controller.proofs.Keeping.{Keeps, keeps_cons, keeps_next}
 
-pub loop-i-preserved : goal.loop-i-preserved
+pub loop-i-preserved : Rattle.im_controller.proofs.members.keep_all.Goals.loop-i-preserved
 loop-i-preserved g c =
     let m = g.K.Name.origin.memory in
     let l0 = c.args.log.now.state in let rs = c.args.members.now in let ss = c.args.served.now in let xs = map served_answer ss in

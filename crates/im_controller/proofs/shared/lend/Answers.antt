@@ -1,28 +1,15 @@
-use Rattle.std.proofs.Common.{◌≡◌, false, List, Option, Result, Err, length, refl, sym, ap, ◌∙◌, subst}
-use Rattle.im_types.specs.declared.commands.Call.TheVariants.{Command as Commands}
-use Rattle.im_types.specs.declared.commands.Line.{Line}
-use Rattle.im_types.specs.declared.commands.Outcome.{Outcome}
-use Rattle.im_types.specs.declared.commands.Request.{Request}
-use Rattle.im_types.specs.declared.refusals.Refusal.{Refusal}
-use Rattle.im_types.specs.declared.refusals.Refusal.TheVariants.{Failed, NoMemory, OffPlan, TraceFull}
-use Rattle.im_types.specs.Contents.{Contents}
-use Rattle.im_types.specs.Step.{step}
-use Rattle.im_engine.specs.State.{EngineState}
-use Rattle.im_session.specs.Keeping.{KeepsPut}
-use Rattle.im_session.specs.Serving.{served_one}
-use Rattle.im_session.proofs.KeepingLemmas.{keeps_none}
-use Rattle.im_session.proofs.ServedLemmas.{refused_same}
-use Rattle.im_trace.specs.Lines.{memory_after, time_at}
-use Rattle.im_trace.proofs.TimeLemmas.{receipt-at}
-use Rattle.im_trace.proofs.ToldLemmas.{plain-receipt}
-use Rattle.im_controller.specs.Lends.{Lends}
-use Rattle.im_trace.specs.Log.{LogState, plain, receipt_for}
-use Rattle.im_controller.specs.State.{SharedState}
-use Rattle.im_controller.specs.Planned.{has_command, KeepsTo}
-use Rattle.im_controller.proofs.PlannedLemmas.{keeps-line, keeps-starts, on-command, tells-of}
-use Rattle.im_controller.proofs.LendLemmas.{answered-so, answered-memory}
-use Rattle.im_controller.proofs.ShownLemmas.{lend-shown, end-cells, told-all, lends-served, some_room}
+use Rattle.std.proofs.Common.{◌≡◌, false, List, length, Err, Option, Result, sym, refl, ap, ◌∙◌, subst}
+use Rattle.im_types.specs.Types.{Request, Outcome, Line, Commands, Refusal, Failed, NoMemory, TraceFull, OffPlan}
+use Rattle.im_types.specs.Types.{Contents, step}
+use Rattle.{im_engine.specs.State.EngineState, im_session.specs.Keeping.KeepsPut, im_session.specs.Serving.served_one}
+use Rattle.im_session.proofs.{KeepingLemmas.keeps_none, ServedLemmas.refused_same}
+use Rattle.im_trace.proofs.{TimeLemmas.receipt-at, ToldLemmas.plain-receipt}
+use Rattle.im_trace.specs.{Lines.memory_after, Lines.time_at, Log.LogState, Log.plain, Log.receipt_for}
 use Rattle.im_controller.proofs.KeptLemmas.{session_lent, times_at, times_on}
+use Rattle.im_controller.proofs.LendLemmas.{answered-memory, answered-so}
+use Rattle.im_controller.proofs.PlannedLemmas.{keeps-line, keeps-starts, on-command, tells-of}
+use Rattle.im_controller.proofs.ShownLemmas.{end-cells, lend-shown, lends-served, some_room, told-all}
+use Rattle.im_controller.specs.{Lends.Lends, Planned.has_command, Planned.KeepsTo, State.SharedState}
 use Rattle.im_controller.proofs.shared.lend.Goals as goal
 
 pub returns-then-failed-clause-put : goal.returns-then-failed-clause-put

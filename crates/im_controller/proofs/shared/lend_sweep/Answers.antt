@@ -1,8 +1,7 @@
-use Rattle.std.proofs.Common.{◌∙◌, sym}
+use Rattle.std.proofs.Common.{sym, ◌∙◌}
 use Rattle.im_controller.proofs.KeptLemmas.{session_rests, times_on, worked_before}
-use Rattle.im_controller.proofs.shared.lend_sweep.Goals as goal
 
-pub invariant_of-shared : goal.invariant_of-shared
+pub invariant_of-shared : Rattle.im_controller.proofs.shared.lend_sweep.Goals.invariant_of-shared
 invariant_of-shared g c =
     let k = g.K.Name.origin in let trace = c.shared.inside.log.state.trace in
     let s = c.shared.inside.session in let t = c.sweep_kept.new.self in let swept = c.sweep_kept.ensures in (

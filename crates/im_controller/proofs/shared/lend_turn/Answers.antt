@@ -1,14 +1,9 @@
-use Rattle.std.proofs.Common.{◌≡◌, ◌⊎◌, ◌∙◌, ap, subst, sym, Result}
-use Rattle.std.specs.Prelude.{IfErr}
-use Rattle.im_engine.specs.State.{EngineState}
-use Rattle.im_session.specs.Keeping.{KeepsPut}
-use Rattle.im_session.specs.Serving.{Rests}
-use Rattle.im_checkpoint.specs.declared.checkpoint.TurnDone.{TurnDone}
-use Rattle.im_types.specs.declared.refusals.Refusal.{Refusal}
-use Rattle.im_types.specs.declared.refusals.Refusal.TheVariants.{JournalFull}
-use Rattle.im_controller.specs.Lends.{IsTurnFault, told_turn}
-use Rattle.im_controller.specs.State.{SharedState}
-use Rattle.im_controller.proofs.KeptLemmas.{session_rests, times_on, worked_before, turn-only, turn-full}
+use Rattle.std.proofs.Common.{◌≡◌, ◌⊎◌, IfErr, Result, sym, ap, ◌∙◌, subst}
+use Rattle.im_types.specs.Types.{Refusal, JournalFull}
+use Rattle.{im_checkpoint.specs.declared.TurnDone.TurnDone, im_engine.specs.State.EngineState}
+use Rattle.im_session.specs.{Keeping.KeepsPut, Serving.Rests}
+use Rattle.im_controller.proofs.KeptLemmas.{session_rests, times_on, turn-full, turn-only, worked_before}
+use Rattle.im_controller.specs.{Lends.IsTurnFault, Lends.told_turn, State.SharedState}
 use Rattle.im_controller.proofs.shared.lend_turn.Goals as goal
 
 pub returns-clause-same : goal.returns-clause-same

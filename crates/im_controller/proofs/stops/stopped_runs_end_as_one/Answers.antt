@@ -1,4 +1,4 @@
-use Rattle.im_controller.proofs.StopLemmas.{left-leads, leads-goes_on, ends-joined}
+use Rattle.im_controller.proofs.StopLemmas.{ends-joined, leads-goes_on, left-leads}
 use Rattle.im_controller.proofs.stops.stopped_runs_end_as_one.Goals as goal
 
 pub returns-clause-left : goal.returns-clause-left

@@ -1,5 +1,4 @@
-use Rattle.std.proofs.Common.{rules, subst}
-use Rattle.std.specs.Io.BufRead.{FillKeeps}
+use Rattle.std.{proofs.Common.subst, proofs.Common.rules, specs.Io.BufRead.FillKeeps}
 use Rattle.im_dialogue.proofs.HearingLemmas.{shows_nothing, stands_none}
 use Rattle.im_dialogue.proofs.buffer.gather.Goals as goal
 

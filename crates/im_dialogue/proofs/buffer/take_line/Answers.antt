@@ -1,9 +1,6 @@
-use Rattle.std.proofs.Common.{◌≡◌, List, rules, subst, sym}
-use Rattle.std.specs.Prelude.{Some}
-use Rattle.im_dialogue.specs.declared.asking.Question.{Question}
-use Rattle.im_dialogue.specs.Asking.{asked_of}
-use Rattle.im_dialogue.specs.Together.{AreAsked}
+use Rattle.std.proofs.Common.{◌≡◌, List, Some, sym, subst, rules}
 use Rattle.im_dialogue.proofs.FitLemmas.{asked_push}
+use Rattle.im_dialogue.specs.{Asking.asked_of, declared.asking.Question.Question, Together.AreAsked}
 use Rattle.im_dialogue.proofs.buffer.take_line.Goals as goal
 
 pub returns-in_ok-add_asked-in-Some-clause-asked : goal.returns-in_ok-add_asked-in-Some-clause-asked

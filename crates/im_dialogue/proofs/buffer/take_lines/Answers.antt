@@ -1,8 +1,6 @@
-use Rattle.std.proofs.Common.{true, false, rules, arith, sym, subst, List}
-use Rattle.im_dialogue.specs.declared.asking.Question.{Question}
-use Rattle.im_dialogue.specs.Hearing.{StandsIn, TakesLine}
-use Rattle.im_dialogue.specs.Together.{AreAsked}
+use Rattle.std.proofs.Common.{true, false, List, sym, subst, arith, rules}
 use Rattle.im_dialogue.proofs.HearingLemmas.{stands_none, stands_with}
+use Rattle.im_dialogue.specs.{declared.asking.Question.Question, Hearing.StandsIn, Hearing.TakesLine, Together.AreAsked}
 use Rattle.im_dialogue.proofs.buffer.take_lines.Goals as goal
 
 pub loop-line-init : goal.loop-line-init

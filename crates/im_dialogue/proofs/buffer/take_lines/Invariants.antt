@@ -1,9 +1,7 @@
 use Rattle.std.proofs.Common.{◌≤◌, length}
-use Rattle.im_dialogue.specs.Hearing.{EndsHere, StandsIn}
-use Rattle.im_dialogue.specs.Together.{AreAsked}
-use Rattle.im_dialogue.proofs.buffer.take_lines.Given as goal
+use Rattle.im_dialogue.specs.{Hearing.EndsHere, Hearing.StandsIn, Together.AreAsked}
 
-abbrev pub invariant-loop-line : goal.invariant-loop-line
+abbrev pub invariant-loop-line : Rattle.im_dialogue.proofs.buffer.take_lines.Given.invariant-loop-line
 invariant-loop-line l = record {
   within : length l.rest ≤ length l.text;
   asked : AreAsked l.standing.asked.items;

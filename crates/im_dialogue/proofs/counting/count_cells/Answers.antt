@@ -1,6 +1,6 @@
-use Rattle.std.proofs.Common.{◌∙◌, ap, ap₂, arith}
-use Rattle.im_dialogue.specs.Counting.{counted_at, is_counted, one_that}
+use Rattle.std.proofs.Common.{ap, ◌∙◌, ap₂, arith}
 use Rattle.im_dialogue.proofs.CountLemmas.{sum_more, sum_none}
+use Rattle.im_dialogue.specs.Counting.{counted_at, is_counted, one_that}
 use Rattle.im_dialogue.proofs.counting.count_cells.Goals as goal
 
 pub loop-a-init : goal.loop-a-init

@@ -1,9 +1,8 @@
 use Rattle.std.proofs.Common.{◌≡◌, ◌≤◌}
 use Rattle.im_report.specs.Figures.{sum_below}
 use Rattle.im_dialogue.specs.Counting.{counted_at}
-use Rattle.im_dialogue.proofs.counting.count_cells.Given as goal
 
-abbrev pub invariant-loop-a : goal.invariant-loop-a
+abbrev pub invariant-loop-a : Rattle.im_dialogue.proofs.counting.count_cells.Given.invariant-loop-a
 invariant-loop-a l = record {
   sum : l.count ≡ sum_below (counted_at l.sort l.memory.contents) l.a;
   few : l.count ≤ l.a;

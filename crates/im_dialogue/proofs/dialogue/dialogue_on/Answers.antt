@@ -1,9 +1,8 @@
-use Rattle.std.proofs.Common.{◌≡◌, ◌⊎◌, false, inr, subst, sym}
+use Rattle.std.proofs.Common.{◌≡◌, false, ◌⊎◌, sym, subst, inr}
 use Rattle.im_session.specs.Kept.{SessionState}
-use Rattle.im_dialogue.specs.declared.serving.Setting.{Setting}
-use Rattle.im_dialogue.specs.Dialogue.{BeginsNow, BeginsTalk, TalkUnopened, Talked}
-use Rattle.im_dialogue.specs.Talk.{outputs, with_input}
 use Rattle.im_dialogue.proofs.DialogueLemmas.{honest_before, talked}
+use Rattle.im_dialogue.specs.{declared.serving.Setting.Setting, Talk.outputs, Talk.with_input}
+use Rattle.im_dialogue.specs.Dialogue.{BeginsNow, BeginsTalk, Talked, TalkUnopened}
 use Rattle.im_dialogue.proofs.dialogue.dialogue_on.Goals as goal
 
 pub returns-in-Ok-clause-talked : goal.returns-in-Ok-clause-talked

@@ -1,5 +1,5 @@
-use Rattle.im_dialogue.specs.Talk.{outputs, with_input}
 use Rattle.im_dialogue.proofs.DialogueLemmas.{closed_by, closed_on}
+use Rattle.im_dialogue.specs.Talk.{outputs, with_input}
 use Rattle.im_dialogue.proofs.dialogue.talk_on.Goals as goal
 
 pub returns-in-Ok-clause-closed : goal.returns-in-Ok-clause-closed

@@ -1,14 +1,8 @@
-use Rattle.std.proofs.Common.{◌≡◌, ◌∙◌, ◌++◌, ap, sym, subst, true, length, string_bytes}
-use Rattle.im_types.specs.Contents.{Contents}
-use Rattle.im_types.specs.Memory.{IsMemory}
-use Rattle.im_types.specs.Act.{act}
-use Rattle.im_types.specs.Step.{asker}
-use Rattle.im_dialogue.specs.Looks.{is_first}
-use Rattle.im_dialogue.specs.Watching.{nows_text}
-use Rattle.im_dialogue.proofs.FitLemmas.{told_first}
-use Rattle.im_dialogue.proofs.grouping.add_answered.Goals as goal
+use Rattle.std.proofs.Common.{◌≡◌, true, ◌++◌, length, string_bytes, sym, ap, ◌∙◌, subst}
+use Rattle.im_types.specs.Types.{Contents, IsMemory, act, asker}
+use Rattle.im_dialogue.{proofs.FitLemmas.told_first, specs.Looks.is_first, specs.Watching.nows_text}
 
-pub returns-in_ok-add_resumed : goal.returns-in_ok-add_resumed
+pub returns-in_ok-add_resumed : Rattle.im_dialogue.proofs.grouping.add_answered.Goals.returns-in_ok-add_resumed
 returns-in_ok-add_resumed c = λ known b same.
     let m = c.args.memory.now.contents in
     let is : IsMemory (length m.cells) (length m.windows) b.memory

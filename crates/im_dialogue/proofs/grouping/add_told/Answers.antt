@@ -1,6 +1,6 @@
-use Rattle.std.proofs.Common.{◌∙◌, sym, string_bytes}
-use Rattle.im_dialogue.specs.Watching.{answers_nobody}
+use Rattle.std.proofs.Common.{string_bytes, sym, ◌∙◌}
 use Rattle.im_dialogue.proofs.FitLemmas.{nobody_told, somebody_told, told_as, told_quiet}
+use Rattle.im_dialogue.specs.Watching.{answers_nobody}
 use Rattle.im_dialogue.proofs.grouping.add_told.Goals as goal
 
 pub returns-then-tells_nobody : goal.returns-then-tells_nobody

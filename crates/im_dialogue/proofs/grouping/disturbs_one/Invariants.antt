@@ -1,8 +1,6 @@
-use Rattle.std.proofs.Common.{◌≡◌, drop}
-use Rattle.std.specs.List.{list_any}
+use Rattle.std.{proofs.Common.◌≡◌, proofs.Common.drop, specs.List.list_any}
 use Rattle.im_dialogue.specs.Together.{disturbs}
-use Rattle.im_dialogue.proofs.grouping.disturbs_one.Given as goal
 
-abbrev pub invariant-loop-part : goal.invariant-loop-part
+abbrev pub invariant-loop-part : Rattle.im_dialogue.proofs.grouping.disturbs_one.Given.invariant-loop-part
 invariant-loop-part l = list_any (disturbs l.memory.contents l.ahead l.command) (drop l.part-index l.shown)
     ≡ list_any (disturbs l.memory.contents l.ahead l.command) l.shown

@@ -1,10 +1,8 @@
-use Rattle.std.proofs.Common.{◌≡◌, ◌∙◌, ◌<◌, List, ap, arith, false, length, subst, sym, string_bytes}
+use Rattle.std.proofs.Common.{◌≡◌, ◌<◌, false, List, length, string_bytes, sym, ap, ◌∙◌, subst, arith}
 use Rattle.std.specs.List.{list_any}
-use Rattle.im_types.specs.declared.commands.Command.{Command}
-use Rattle.im_types.specs.Contents.{Contents}
-use Rattle.im_dialogue.specs.declared.group_line.GroupLine.{GroupLine}
-use Rattle.im_dialogue.specs.Together.{TellsWatchers, disturbs}
+use Rattle.im_types.specs.Types.{Command, Contents}
 use Rattle.im_dialogue.proofs.FitLemmas.{fits_member}
+use Rattle.im_dialogue.specs.{declared.group_line.GroupLine.GroupLine, Together.disturbs, Together.TellsWatchers}
 use Rattle.im_dialogue.proofs.grouping.member.Goals as goal
 
 pub returns-then-is_known-clause-stands : goal.returns-then-is_known-clause-stands

@@ -1,7 +1,6 @@
-use Rattle.std.proofs.Common.{refl, subst, string_bytes}
-use Rattle.im_dialogue.specs.declared.asking.Question.{Question}
-use Rattle.im_dialogue.specs.Together.{LineAsksFor, group_start}
+use Rattle.std.proofs.Common.{string_bytes, refl, subst}
 use Rattle.im_dialogue.proofs.FitLemmas.{known_fits}
+use Rattle.im_dialogue.specs.{declared.asking.Question.Question, Together.group_start, Together.LineAsksFor}
 use Rattle.im_dialogue.proofs.grouping.part_of.Goals as goal
 
 pub returns-in-Look-clause-stands : goal.returns-in-Look-clause-stands

@@ -1,11 +1,7 @@
-use Rattle.std.proofs.Common.{◌∙◌, ◌∷◌, ◌++◌, [], List, ℕ, ap, map, sym, subst, string_bytes}
-use Rattle.std.specs.Prelude.{Option}
-use Rattle.std.proofs.lemmas.List.{append-nil}
-use Rattle.im_dialogue.specs.declared.asking.Question.{Question}
-use Rattle.im_dialogue.specs.declared.group_line.GroupLine.{GroupLine}
-use Rattle.im_dialogue.specs.Together.{MayBeServed, group_start, part_question}
-use Rattle.im_dialogue.proofs.FitLemmas.{some_of}
-use Rattle.im_dialogue.proofs.PartLemmas.{asked_more, group_push}
+use Rattle.std.proofs.Common.{ℕ, List, [], ◌∷◌, ◌++◌, map, string_bytes, Option, sym, ap, ◌∙◌, subst, append-nil}
+use Rattle.im_dialogue.proofs.{FitLemmas.some_of, PartLemmas.asked_more, PartLemmas.group_push}
+use Rattle.im_dialogue.specs.declared.{asking.Question.Question, group_line.GroupLine.GroupLine}
+use Rattle.im_dialogue.specs.Together.{group_start, MayBeServed, part_question}
 use Rattle.im_dialogue.proofs.grouping.take_part.Goals as goal
 
 pub returns-in_ok-add_part-in-Some-clause-group : goal.returns-in_ok-add_part-in-Some-clause-group

@@ -1,7 +1,5 @@
-use Rattle.std.proofs.Common.{◌≡◌, ◌≤◌, ◌-◌, ◌∙◌, length, refl, subst, sym, List}
-use Rattle.im_types.specs.declared.TheConstants.{LAST}
-use Rattle.im_types.specs.declared.commands.Command.{Command}
-use Rattle.im_engine.specs.Commands.{commands_put}
+use Rattle.std.proofs.Common.{◌≡◌, ◌-◌, ◌≤◌, List, length, sym, refl, ◌∙◌, subst}
+use Rattle.{im_types.specs.Types.Command, im_types.specs.Types.LAST, im_engine.specs.Commands.commands_put}
 use Rattle.im_dialogue.proofs.FitLemmas.{put_within}
 use Rattle.im_dialogue.proofs.known.known.Goals as goal
 

@@ -1,4 +1,4 @@
-use Rattle.std.proofs.Common.{◌∙◌, ◌+◌, ◌-◌, ℕ, ap, sym}
+use Rattle.std.proofs.Common.{ℕ, ◌+◌, ◌-◌, sym, ap, ◌∙◌}
 use Rattle.im_turning.specs.Turning.{point_of}
 use Rattle.im_dialogue.proofs.GroupTalk.{room_at_last, room_below_last}
 use Rattle.im_dialogue.proofs.known.room_behind.Goals as goal

@@ -1,11 +1,8 @@
-use Rattle.std.proofs.Common.{◌∙◌, refl, sym, subst, ap}
-use Rattle.im_types.specs.Contents.{Contents}
-use Rattle.im_types.specs.Window.{bounds}
-use Rattle.im_groups.specs.Ahead.{moved_by}
-use Rattle.im_dialogue.specs.declared.asking.Question.{Question}
-use Rattle.im_dialogue.specs.declared.answers.LineAnswer.TheVariants as answer
-use Rattle.im_dialogue.specs.Together.{IsKnownBehind, group_start}
+use Rattle.std.proofs.Common.{sym, refl, ap, ◌∙◌, subst}
+use Rattle.{im_types.specs.Types.Contents, im_types.specs.Types.bounds, im_groups.specs.Ahead.moved_by}
 use Rattle.im_dialogue.proofs.FitLemmas.{about_shown, count_shown, room_shown, window_shown}
+use Rattle.im_dialogue.specs.{declared.asking.Question.Question, Together.group_start, Together.IsKnownBehind}
+use Rattle.im_dialogue.specs.declared.answers.LineAnswer.TheVariants as answer
 use Rattle.im_dialogue.proofs.known.shown.Goals as goal
 
 pub returns-in-Window-clause-answer : goal.returns-in-Window-clause-answer

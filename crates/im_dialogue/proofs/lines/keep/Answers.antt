@@ -1,9 +1,7 @@
-use Rattle.std.proofs.Common.{rules, arith}
-use Rattle.im_dialogue.specs.declared.lines.TheConstants.{KEPT}
-use Rattle.im_dialogue.proofs.LineLemmas.{added, kept_all}
-use Rattle.im_dialogue.proofs.lines.keep.Goals as goal
+use Rattle.std.proofs.Common.{arith, rules}
+use Rattle.im_dialogue.{proofs.LineLemmas.added, proofs.LineLemmas.kept_all, specs.declared.lines.TheConstants.KEPT}
 
-pub returns-then-part-room-clause-kept : goal.returns-then-part-room-clause-kept
+pub returns-then-part-room-clause-kept : Rattle.im_dialogue.proofs.lines.keep.Goals.returns-then-part-room-clause-kept
 returns-then-part-room-clause-kept c =
     added c.extend_from_slice.result c.extend_from_slice.new.self.items c.args.line.now.items c.args.part.now _
     c.extend_from_slice.ensures.items

@@ -1,7 +1,6 @@
 use Rattle.std.proofs.Common.{take}
 use Rattle.im_dialogue.specs.Hearing.{IsLinePart}
-use Rattle.im_dialogue.proofs.lines.line_len.Given as goal
 
 -- no line feed stands before this byte
-abbrev pub invariant-loop-at : goal.invariant-loop-at
+abbrev pub invariant-loop-at : Rattle.im_dialogue.proofs.lines.line_len.Given.invariant-loop-at
 invariant-loop-at l = IsLinePart (take l.at l.text)

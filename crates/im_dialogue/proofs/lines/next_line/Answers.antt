@@ -1,4 +1,4 @@
-use Rattle.std.proofs.Common.{rules, arith}
+use Rattle.std.proofs.Common.{arith, rules}
 use Rattle.im_dialogue.proofs.HearingLemmas.{read_end, read_last, read_more, read_none}
 use Rattle.im_dialogue.proofs.lines.next_line.Goals as goal
 

@@ -1,6 +1,5 @@
-use Rattle.std.proofs.Common.{rules, subst}
+use Rattle.std.proofs.{Common.subst, Common.rules, BufReadLemmas.Consumes_shown}
 use Rattle.std.specs.Io.BufRead.{FillKeeps}
-use Rattle.std.proofs.BufReadLemmas.{Consumes_shown}
 use Rattle.im_dialogue.proofs.HearingLemmas.{part_is, read_nothing}
 use Rattle.im_dialogue.proofs.lines.read_part.Goals as goal
 

@@ -1,9 +1,8 @@
-use Rattle.std.proofs.Common.{arith, ◌∙◌, length, ap}
-use Rattle.im_types.specs.Contents.{Contents}
+use Rattle.std.proofs.Common.{length, ap, ◌∙◌, arith}
+use Rattle.im_types.specs.Types.{Contents}
 use Rattle.im_dialogue.proofs.DialogueLemmas.{same_length}
-use Rattle.im_dialogue.proofs.resting.slots_of.Goals as goal
 
-pub returns-in-Some : goal.returns-in-Some
+pub returns-in-Some : Rattle.im_dialogue.proofs.resting.slots_of.Goals.returns-in-Some
 returns-in-Some g c = λ slots limits is.
     let l = c.in-Some.ensures.limits in
     let memory = c.memory-memory.ensures in

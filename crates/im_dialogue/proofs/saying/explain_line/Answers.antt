@@ -1,11 +1,8 @@
-use Rattle.std.proofs.Common.{◌++◌, true, ap, refl, sym}
-use Rattle.std.specs.Prelude.{None}
-use Rattle.im_dialogue.specs.declared.answers.LineAnswer.{LineAnswer}
-use Rattle.im_dialogue.specs.Hearing.{asking, left_behind}
-use Rattle.im_dialogue.specs.Talk.{backup_by, outputs, with_left}
-use Rattle.im_dialogue.proofs.HearingLemmas.{hears_line}
+use Rattle.std.proofs.Common.{true, ◌++◌, None, sym, refl, ap}
+use Rattle.im_dialogue.proofs.{HearingLemmas.hears_line, WatchLemmas.wrong_line_is}
 use Rattle.im_dialogue.proofs.TalkLemmas.{talk_ends, talk_ends_here, talks_on}
-use Rattle.im_dialogue.proofs.WatchLemmas.{wrong_line_is}
+use Rattle.im_dialogue.specs.{declared.answers.LineAnswer.LineAnswer, Hearing.asking, Hearing.left_behind}
+use Rattle.im_dialogue.specs.Talk.{backup_by, outputs, with_left}
 use Rattle.im_dialogue.proofs.saying.explain_line.Goals as goal
 
 pub returns-in-Ok-say : goal.returns-in-Ok-say

@@ -1,11 +1,8 @@
-use Rattle.std.proofs.Common.{◌++◌, List, ap, refl, sym}
-use Rattle.std.specs.Prelude.{Some}
-use Rattle.im_dialogue.specs.declared.asking.Question.TheVariants.{About, Look}
-use Rattle.im_dialogue.specs.declared.answers.LineAnswer.{LineAnswer}
-use Rattle.im_dialogue.specs.declared.answers.LineAnswer.TheVariants.{Looked}
-use Rattle.im_dialogue.specs.Backups.{Backup}
-use Rattle.im_dialogue.specs.Talk.{backup_by, put_by}
+use Rattle.std.proofs.Common.{List, ◌++◌, Some, sym, refl, ap}
 use Rattle.im_dialogue.proofs.TalkLemmas.{quiet, says_as}
+use Rattle.im_dialogue.specs.{Backups.Backup, declared.asking.Question.TheVariants.About}
+use Rattle.im_dialogue.specs.{declared.asking.Question.TheVariants.Look, Talk.backup_by, Talk.put_by}
+use Rattle.im_dialogue.specs.declared.answers.LineAnswer.{LineAnswer, TheVariants.Looked}
 use Rattle.im_dialogue.proofs.talk.answer.Goals as goal
 
 pub returns-in-Ok-clause-answered : goal.returns-in-Ok-clause-answered

@@ -1,11 +1,8 @@
-use Rattle.std.proofs.Common.{◌∙◌, ◌∷◌, ap, refl}
-use Rattle.std.specs.Prelude.{Err, Ok, Some}
-use Rattle.im_types.specs.Contents.{Contents}
-use Rattle.im_engine.specs.State.{EngineState}
+use Rattle.std.proofs.Common.{◌∷◌, Some, Ok, Err, refl, ap, ◌∙◌}
+use Rattle.{im_types.specs.Types.Contents, im_engine.specs.State.EngineState}
+use Rattle.im_dialogue.{proofs.TalkLemmas.quiet, specs.Backups.Backup, specs.Backups.bytes_of}
 use Rattle.im_dialogue.specs.declared.asking.Question.TheVariants as asks
 use Rattle.im_dialogue.specs.declared.answers.LineAnswer.TheVariants as answer
-use Rattle.im_dialogue.specs.Backups.{Backup, bytes_of}
-use Rattle.im_dialogue.proofs.TalkLemmas.{quiet}
 use Rattle.im_dialogue.proofs.talk.keep.Goals as goal
 
 pub returns-in-Ok-clause-answered : goal.returns-in-Ok-clause-answered

@@ -1,5 +1,4 @@
-use Rattle.std.proofs.Common.{refl}
-use Rattle.std.specs.Prelude.{Ok, Err}
+use Rattle.std.proofs.Common.{Ok, Err, refl}
 use Rattle.im_dialogue.proofs.TalkLemmas.{no_device, ok_no_device, serve_halts, serve_says}
 use Rattle.im_dialogue.proofs.talk.serve.Goals as goal
 

@@ -1,8 +1,7 @@
-use Rattle.std.proofs.Common.{ap, refl}
-use Rattle.std.specs.Prelude.{Some}
+use Rattle.std.proofs.Common.{Some, refl, ap}
+use Rattle.im_dialogue.proofs.TalkLemmas.{quiet}
 use Rattle.im_dialogue.specs.declared.asking.Question.TheVariants as asks
 use Rattle.im_dialogue.specs.declared.answers.LineAnswer.TheVariants as answer
-use Rattle.im_dialogue.proofs.TalkLemmas.{quiet}
 use Rattle.im_dialogue.proofs.talk.window.Goals as goal
 
 pub returns-clause-answered : goal.returns-clause-answered

@@ -1,13 +1,10 @@
-use Rattle.std.proofs.Common.{◌≡◌, ◌∙◌, ◌-◌, [], ◌∷◌, ◌++◌, List, ℕ, ap, length, map, subst, sym, rules, string_bytes}
-use Rattle.std.specs.Prelude.{Option}
-use Rattle.im_dialogue.specs.declared.asking.Question.{Question}
-use Rattle.im_dialogue.specs.declared.group_line.GroupLine.{GroupLine}
-use Rattle.im_dialogue.specs.Answers.{answer_text}
-use Rattle.im_dialogue.specs.Together.{line_answer}
-use Rattle.im_dialogue.specs.Watching.{told_with}
-use Rattle.im_dialogue.proofs.PartLemmas.{Telling, asked_more, before_more, mapped_none, match_none, none_by}
+use Rattle.std.proofs.Common.{◌≡◌, ℕ, ◌-◌, List, [], ◌∷◌, ◌++◌, map, length, string_bytes, Option, sym, ap, ◌∙◌, subst}
+use Rattle.std.proofs.Common.{rules}
+use Rattle.im_dialogue.proofs.PartLemmas.{asked_more, before_more, mapped_none, match_none, none_by, Telling}
 use Rattle.im_dialogue.proofs.PartLemmas.{telling_ends, telling_first, telling_lost, telling_over, telling_step}
 use Rattle.im_dialogue.proofs.PartLemmas.{told_as, told_before}
+use Rattle.im_dialogue.specs.{Answers.answer_text, Together.line_answer, Watching.told_with}
+use Rattle.im_dialogue.specs.declared.{asking.Question.Question, group_line.GroupLine.GroupLine}
 use Rattle.im_dialogue.proofs.together.make_lines.Goals as goal
 
 -- nothing is told yet

@@ -1,9 +1,7 @@
-use Rattle.std.proofs.Common.{◌≡◌, ◌++◌, Bool, List, length, map, string_bytes}
-use Rattle.im_types.specs.declared.commands.Command.{Command}
-use Rattle.im_dialogue.specs.declared.group_line.GroupLine.{GroupLine}
-use Rattle.im_dialogue.specs.Telling.{WasServed}
-use Rattle.im_dialogue.specs.Together.{GroupStart, part_question}
-use Rattle.im_dialogue.proofs.PartLemmas.{Telling}
+use Rattle.std.proofs.Common.{◌≡◌, Bool, List, ◌++◌, map, length, string_bytes}
+use Rattle.im_types.specs.Types.{Command}
+use Rattle.im_dialogue.{proofs.PartLemmas.Telling, specs.Together.GroupStart, specs.Together.part_question}
+use Rattle.im_dialogue.specs.{declared.group_line.GroupLine.GroupLine, Telling.WasServed}
 use Rattle.im_dialogue.proofs.together.make_lines.Given as goal
 
 abbrev pub invariant-loop-part : goal.invariant-loop-part

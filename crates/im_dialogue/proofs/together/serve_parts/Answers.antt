@@ -1,14 +1,10 @@
-use Rattle.std.proofs.Common.{rules, arith, ◌≡◌, ◌∙◌, ◌≤◌, map, subst, false, true, length, take, string_bytes, refl}
-use Rattle.std.proofs.lemmas.List.{length-take}
-use Rattle.im_types.specs.declared.TheConstants.{MAX_GROUP}
-use Rattle.im_types.specs.Contents.{Contents}
-use Rattle.im_types.specs.Memory.{IsMemory}
+use Rattle.std.proofs.Common.{◌≡◌, ◌≤◌, true, false, map, length, take, None, string_bytes, refl, ◌∙◌, subst, arith}
+use Rattle.std.proofs.Common.{length-take, rules}
+use Rattle.im_types.specs.Types.{MAX_GROUP, Contents, IsMemory}
 use Rattle.im_dialogue.proofs.GroupTalk.{done_by, group_cut, group_halts, group_on, none_of, worked}
-use Rattle.std.specs.Prelude.{None}
-use Rattle.im_dialogue.specs.Together.{group_start, part_question}
 use Rattle.im_dialogue.proofs.PartLemmas.{hears_parts, some_text, within_parts}
-use Rattle.im_dialogue.specs.Talk.{outputs, with_left}
 use Rattle.im_dialogue.proofs.TalkLemmas.{halts_talk, nothing_heard}
+use Rattle.im_dialogue.specs.{Talk.outputs, Talk.with_left, Together.group_start, Together.part_question}
 use Rattle.im_dialogue.proofs.together.serve_parts.Goals as goal
 
 pub returns-then-failed-clause-talks : goal.returns-then-failed-clause-talks

@@ -1,4 +1,4 @@
-use Rattle.std.proofs.Common.{Result, Ok, Err, OnOk, rules}
+use Rattle.std.proofs.Common.{OnOk, Ok, Err, Result, rules}
 use Rattle.im_disk.proofs.GateLemmas.{behind_first, write1, write2, written_by}
 use Rattle.im_disk.proofs.gate.write_behind_gate.Goals as goal
 

@@ -1,5 +1,5 @@
-use Rattle.std.proofs.Common.{◌≡◌, length, reverse}
-use Rattle.im_disk.specs.Record.{ranges_of, filled, LieWithin}
+use Rattle.std.proofs.Common.{◌≡◌, reverse, length}
+use Rattle.im_disk.specs.Record.{filled, LieWithin, ranges_of}
 use Rattle.im_disk.proofs.record.fill_all.Given as goal
 
 abbrev pub invariant-loop-call : goal.invariant-loop-call

@@ -1,9 +1,7 @@
-use Rattle.im_image.specs.Headers.{seen}
-use Rattle.im_image.specs.Reading.{reached}
+use Rattle.im_image.specs.{Headers.seen, Reading.reached}
 use Rattle.im_dump.proofs.DumpingLemmas.{dumped}
-use Rattle.im_dump.proofs.dumping.dump.Goals as goal
 
-pub returns-in-Ok-clause-told : goal.returns-in-Ok-clause-told
+pub returns-in-Ok-clause-told : Rattle.im_dump.proofs.dumping.dump.Goals.returns-in-Ok-clause-told
 returns-in-Ok-clause-told g c =
     let image = c.in-Ok.image in
     dumped c.write_dump.result (g.D.Disk.now c.args.disk.now).bytes (seen image.header) (reached image) _ _ _

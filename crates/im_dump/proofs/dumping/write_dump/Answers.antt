@@ -1,8 +1,7 @@
-use Rattle.std.proofs.Common.{◌<◌, ◌^◌, arith}
+use Rattle.std.proofs.Common.{◌^◌, ◌<◌, arith}
 use Rattle.im_dump.proofs.DumpingLemmas.{fits_parts, whatever_ok}
-use Rattle.im_dump.proofs.dumping.write_dump.Goals as goal
 
-pub returns-in-Ok-clause-fits : goal.returns-in-Ok-clause-fits
+pub returns-in-Ok-clause-fits : Rattle.im_dump.proofs.dumping.write_dump.Goals.returns-in-Ok-clause-fits
 returns-in-Ok-clause-fits g c =
     let low : c.args.image.now.journal.count < 2 ^ 64 = omega (arith, c.count-count.ensures.count) in
     whatever_ok c.put_through.result

@@ -1,5 +1,4 @@
 use Rattle.im_dump.proofs.DumpLaw.{one_dump}
-use Rattle.im_dump.proofs.laws.one_memory_has_a_dump.Goals as goal
 
-pub returns : goal.returns
+pub returns : Rattle.im_dump.proofs.laws.one_memory_has_a_dump.Goals.returns
 returns c = one_dump

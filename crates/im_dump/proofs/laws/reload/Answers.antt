@@ -1,11 +1,8 @@
-use Rattle.std.proofs.Common.{◌<◌, ◌^◌, ◌++◌, ◌∙◌, ap, arith}
-use Rattle.im_types.specs.Layout.{sizes_of}
-use Rattle.im_dump.specs.Dump.{dump_text}
-use Rattle.im_dump.specs.Fitting.{FitsDump}
-use Rattle.im_dump.proofs.DumpingLemmas.{reloaded}
-use Rattle.im_dump.proofs.laws.reload.Goals as goal
+use Rattle.std.proofs.Common.{◌^◌, ◌<◌, ◌++◌, ap, ◌∙◌, arith}
+use Rattle.im_types.specs.Types.{sizes_of}
+use Rattle.im_dump.{proofs.DumpingLemmas.reloaded, specs.Dump.dump_text, specs.Fitting.FitsDump}
 
-pub returns-in-Ok : goal.returns-in-Ok
+pub returns-in-Ok : Rattle.im_dump.proofs.laws.reload.Goals.returns-in-Ok
 returns-in-Ok c =
     let s = sizes_of c.args.limits in
     let m = c.args.memory.now.contents in

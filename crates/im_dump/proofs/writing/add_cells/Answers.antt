@@ -1,5 +1,5 @@
 use Rattle.std.proofs.Common.{arith}
-use Rattle.im_text.proofs.TextLemmas.{written_none, written_more}
+use Rattle.im_text.proofs.TextLemmas.{written_more, written_none}
 use Rattle.im_dump.proofs.WritingLemmas.{one_cell_more}
 use Rattle.im_dump.proofs.writing.add_cells.Goals as goal
 

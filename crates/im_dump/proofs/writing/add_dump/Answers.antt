@@ -1,10 +1,8 @@
-use Rattle.std.proofs.Common.{string_bytes}
-use Rattle.std.proofs.lemmas.Result.{on_ok_weaker}
-use Rattle.im_types.specs.Layout.{sizes_of}
+use Rattle.std.proofs.{Common.string_bytes, lemmas.Result.on_ok_weaker}
+use Rattle.im_types.specs.Types.{sizes_of}
 use Rattle.im_dump.proofs.WritingLemmas.{dump_written}
-use Rattle.im_dump.proofs.writing.add_dump.Goals as goal
 
-pub returns-clause-added : goal.returns-clause-added
+pub returns-clause-added : Rattle.im_dump.proofs.writing.add_dump.Goals.returns-clause-added
 returns-clause-added c =
     on_ok_weaker c.add_last.result
     (dump_written (string_bytes c.args.out.now)

@@ -1,6 +1,6 @@
-use Rattle.std.proofs.Common.{◌++◌, ◌-◌, ◌∙◌, ap, arith, string_bytes, subst}
-use Rattle.im_types.specs.Records.{FitsPlace}
-use Rattle.im_text.proofs.TextLemmas.{written_none_at, written_more_at}
+use Rattle.std.proofs.Common.{◌-◌, ◌++◌, string_bytes, ap, ◌∙◌, subst, arith}
+use Rattle.im_types.specs.Types.{FitsPlace}
+use Rattle.im_text.proofs.TextLemmas.{written_more_at, written_none_at}
 use Rattle.im_dump.proofs.WritingLemmas.{entry_at, one_entry_more, place_at}
 use Rattle.im_dump.proofs.writing.add_entries.Goals as goal
 

@@ -1,13 +1,9 @@
-use Rattle.std.proofs.Common.{◌≡◌, ◌++◌, ◌+◌, ◌-◌, ◌<◌, ℕ, Some, string_bytes}
-use Rattle.std.specs.Prelude.{slice_get}
-use Rattle.im_types.specs.Contents.{Window}
-use Rattle.im_types.specs.Records.{FitsPlace}
-use Rattle.im_types.specs.Window.{next_number}
-use Rattle.im_dump.specs.Dump.{kept_entry}
+use Rattle.std.proofs.Common.{◌≡◌, ℕ, ◌+◌, ◌-◌, ◌<◌, ◌++◌, slice_get, Some, string_bytes}
+use Rattle.im_types.specs.Types.{Window, next_number, FitsPlace}
 use Rattle.im_text.specs.Texts.{texts_below}
-use Rattle.im_dump.proofs.writing.add_entries.Given as goal
+use Rattle.im_dump.specs.Dump.{kept_entry}
 
-abbrev pub invariant-loop-number : goal.invariant-loop-number
+abbrev pub invariant-loop-number : Rattle.im_dump.proofs.writing.add_entries.Given.invariant-loop-number
 invariant-loop-number l = record {
   lines : (w : Window) → slice_get l.memory.contents.windows l.element ≡ Some w → l.base ≡ w.base → l.next
       ≡ next_number w

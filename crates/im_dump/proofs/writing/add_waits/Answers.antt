@@ -1,9 +1,8 @@
-use Rattle.std.proofs.Common.{◌++◌, ◌∙◌, ap, string_bytes, subst, List}
+use Rattle.std.proofs.Common.{List, ◌++◌, string_bytes, ap, ◌∙◌, subst}
 use Rattle.std.specs.List.{AllByRecursion}
-use Rattle.im_types.specs.declared.operations.Waiter.{Waiter}
-use Rattle.im_dump.specs.Dump.{waits_lines}
-use Rattle.im_dump.specs.Fitting.{FitsWaiter}
-use Rattle.im_dump.proofs.WritingLemmas.{waits_none, waits_more, fit_none, fit_more}
+use Rattle.im_types.specs.Types.{Waiter}
+use Rattle.im_dump.proofs.WritingLemmas.{fit_more, fit_none, waits_more, waits_none}
+use Rattle.im_dump.specs.{Dump.waits_lines, Fitting.FitsWaiter}
 use Rattle.im_dump.proofs.writing.add_waits.Goals as goal
 
 pub loop-waiter-init : goal.loop-waiter-init

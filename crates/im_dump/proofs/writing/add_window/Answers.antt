@@ -1,5 +1,4 @@
-use Rattle.std.proofs.Common.{◌∙◌, sym, arith, string_bytes}
-use Rattle.std.specs.Prelude.{slice_get}
+use Rattle.std.proofs.Common.{slice_get, string_bytes, sym, ◌∙◌, arith}
 use Rattle.std.proofs.lemmas.Result.{on_ok_weaker}
 use Rattle.im_text.proofs.WindowLemmas.{bounds_found}
 use Rattle.im_dump.proofs.WritingLemmas.{element_told, fit_found}

@@ -1,11 +1,8 @@
-use Rattle.std.proofs.Common.{◌≡◌, ◌++◌, ◌<◌, ℕ, string_bytes}
-use Rattle.std.specs.Prelude.{slice_get}
-use Rattle.im_dump.specs.Dump.{window_lines}
-use Rattle.im_dump.specs.Fitting.{FitsWindowOf}
+use Rattle.std.proofs.Common.{◌≡◌, ℕ, ◌<◌, ◌++◌, slice_get, string_bytes}
 use Rattle.im_text.specs.Texts.{texts_below}
-use Rattle.im_dump.proofs.writing.add_windows.Given as goal
+use Rattle.im_dump.specs.{Dump.window_lines, Fitting.FitsWindowOf}
 
-abbrev pub invariant-loop-element : goal.invariant-loop-element
+abbrev pub invariant-loop-element : Rattle.im_dump.proofs.writing.add_windows.Given.invariant-loop-element
 invariant-loop-element l = record {
   lines : string_bytes l.out ≡ string_bytes l.fn.out ++ texts_below (λ element. window_lines element (slice_get
       l.memory.contents.windows element)) l.element;

@@ -1,7 +1,6 @@
-use Rattle.std.proofs.Common.{rules, ◌≡◌, ◌∷◌, List, ℕ, length, drop, sym, ◌∙◌, ap}
-use Rattle.im_types.specs.Layout.{layout_in_use, image_length}
+use Rattle.std.proofs.Common.{◌≡◌, ℕ, List, ◌∷◌, length, drop, sym, ap, ◌∙◌, rules}
+use Rattle.im_types.specs.Types.{layout_in_use, sizes_of, image_length}
 use Rattle.im_disk.specs.Moment.{Moment}
-use Rattle.im_types.specs.Layout.{sizes_of}
 use Rattle.im_engine.proofs.Making.{length_new_image}
 use Rattle.im_engine.proofs.format.lay_down.Goals as goal
 

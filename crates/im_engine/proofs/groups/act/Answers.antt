@@ -1,5 +1,4 @@
-use Rattle.im_engine.proofs.Keeping.{kept_prepared}
-use Rattle.im_engine.proofs.Members.{sizes_after}
+use Rattle.im_engine.proofs.{Keeping.kept_prepared, Members.sizes_after}
 use Rattle.im_engine.proofs.groups.act.Goals as goal
 
 pub returns-clause-sizes : goal.returns-clause-sizes

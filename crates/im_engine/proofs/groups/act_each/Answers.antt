@@ -1,10 +1,8 @@
-use Rattle.std.proofs.Common.{◌≡◌, Bool, ◌++◌, ◌∷◌, [], List, length, map, rules, ◌+◌, drop, ◌∙◌, ap, arith}
-use Rattle.im_types.specs.declared.groups.Served.{Served}
-use Rattle.im_types.specs.Groups.{as_served}
-use Rattle.im_checkpoint.specs.Step.{changed_in}
+use Rattle.std.proofs.Common.{◌≡◌, ◌+◌, Bool, List, [], ◌∷◌, ◌++◌, map, length, drop, ap, ◌∙◌, arith, rules}
+use Rattle.{im_types.specs.Types.Served, im_types.specs.Types.as_served, im_checkpoint.specs.Step.changed_in}
 use Rattle.im_groups.specs.Commands.{answers_with, most_pages_with}
 use Rattle.im_engine.proofs.Adding.{adds_next}
-use Rattle.im_engine.proofs.Members.{answers_next, contents_next, taken_next, taken_first, length_taken}
+use Rattle.im_engine.proofs.Members.{answers_next, contents_next, length_taken, taken_first, taken_next}
 use Rattle.im_engine.proofs.groups.act_each.Goals as goal
 
 pub loop-i-preserved : goal.loop-i-preserved

@@ -1,16 +1,11 @@
-use Rattle.std.proofs.Common.{◌≡◌, ◌++◌, drop, map, length}
-use Rattle.im_types.specs.Contents.{Contents}
-use Rattle.im_types.specs.Groups.{as_served}
-use Rattle.im_disk.specs.Moment.{Moment}
-use Rattle.im_journal.specs.Holding.{JournalState}
-use Rattle.im_image.specs.Reading.{HasSizes}
-use Rattle.im_checkpoint.specs.Keeping.{paged, IsKept}
-use Rattle.im_checkpoint.specs.Step.{changed_in}
-use Rattle.im_groups.specs.Commands.{answers_with, contents_after_all, takes_at, most_pages_with}
+use Rattle.std.proofs.Common.{◌≡◌, ◌++◌, map, length, drop}
+use Rattle.im_types.specs.Types.{Contents, as_served}
+use Rattle.{im_disk.specs.Moment.Moment, im_journal.specs.Holding.JournalState, im_image.specs.Reading.HasSizes}
+use Rattle.im_groups.specs.Commands.{answers_with, contents_after_all, most_pages_with, takes_at}
+use Rattle.im_checkpoint.specs.{Keeping.IsKept, Keeping.paged, Step.changed_in}
 use Rattle.im_engine.proofs.Adding.{AddsSoFar}
-use Rattle.im_engine.proofs.groups.act_each.Given as goal
 
-abbrev pub invariant-loop-i : goal.invariant-loop-i
+abbrev pub invariant-loop-i : Rattle.im_engine.proofs.groups.act_each.Given.invariant-loop-i
 invariant-loop-i l = record {
   size : length l.served.items ≡ l.i;
   answers : l.served.items ++ map as_served (answers_with l.memory.contents l.left (drop l.i l.members.all.now))

@@ -1,11 +1,8 @@
-use Rattle.std.proofs.Common.{ℕ, refl, sym, ◌∙◌, ap, subst}
-use Rattle.im_image.specs.Reading.{HasSizes}
-use Rattle.im_memory.specs.State.{MemoryState}
-use Rattle.im_checkpoint.specs.Step.{changed_in}
-use Rattle.im_checkpoint.specs.Keeping.{paged, IsKept}
+use Rattle.std.proofs.Common.{ℕ, sym, refl, ap, ◌∙◌, subst}
+use Rattle.{im_memory.specs.State.MemoryState, im_image.specs.Reading.HasSizes}
+use Rattle.im_checkpoint.specs.{Keeping.IsKept, Keeping.paged, Step.changed_in}
+use Rattle.im_engine.proofs.{Adding.none_added, Members.contents_none, Members.left_none, Members.pages_none}
 use Rattle.im_engine.specs.Groups.{StaysBut}
-use Rattle.im_engine.proofs.Adding.{none_added}
-use Rattle.im_engine.proofs.Members.{contents_none, left_none, pages_none}
 use Rattle.im_engine.proofs.groups.act_one.Goals as goal
 
 pub act_taken-requires-clause-taken : goal.act_taken-requires-clause-taken

@@ -1,6 +1,6 @@
 use Rattle.std.proofs.Common.{ℕ, ◌∙◌, subst}
+use Rattle.im_engine.proofs.Members.{answer_taken, contents_taken, left_taken, pages_taken, taken_parts}
 use Rattle.im_engine.specs.Groups.{StaysBut}
-use Rattle.im_engine.proofs.Members.{taken_parts, answer_taken, contents_taken, left_taken, pages_taken}
 use Rattle.im_engine.proofs.groups.act_taken.Goals as goal
 
 pub act-requires-clause-accepted : goal.act-requires-clause-accepted

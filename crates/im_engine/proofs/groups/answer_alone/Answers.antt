@@ -1,7 +1,7 @@
-use Rattle.std.proofs.Common.{◌≡◌, true, false, Ok, sym, ◌∙◌, ap}
-use Rattle.im_types.specs.Step.{is_accepted}
-use Rattle.im_engine.proofs.Serving.{accepts, refused_acceptance, refused_unaccepted}
+use Rattle.std.proofs.Common.{◌≡◌, true, false, Ok, sym, ap, ◌∙◌}
+use Rattle.im_types.specs.Types.{is_accepted}
 use Rattle.im_engine.proofs.Members.{answer_full, answer_unaccepted}
+use Rattle.im_engine.proofs.Serving.{accepts, refused_acceptance, refused_unaccepted}
 use Rattle.im_engine.proofs.groups.answer_alone.Goals as goal
 
 pub returns-in-Ok-true-clause-answer : goal.returns-in-Ok-true-clause-answer

@@ -1,5 +1,5 @@
 use Rattle.std.proofs.Common.{length}
-use Rattle.im_types.specs.Groups.{AreApart}
+use Rattle.im_types.specs.Types.{AreApart}
 use Rattle.im_engine.proofs.groups.are_apart.Given as goal
 
 abbrev pub invariant-loop-first : goal.invariant-loop-first

@@ -1,15 +1,11 @@
-use Rattle.std.proofs.Common.{◌≡◌, inl, ℕ, List, [], length, Some, Result, Ok, Err, OnOk, MatchResult, rules, sym}
-use Rattle.std.proofs.Common.{subst}
+use Rattle.std.proofs.Common.{◌≡◌, ℕ, List, [], length, OnOk, Some, Ok, Err, Result, MatchResult, sym, subst, inl}
+use Rattle.std.proofs.Common.{rules}
 use Rattle.std.proofs.lemmas.List.{nil_from_length}
-use Rattle.im_types.specs.declared.commands.Command.{Command}
-use Rattle.im_types.specs.Contents.{Contents}
-use Rattle.im_types.specs.Meaning.{accept_each}
-use Rattle.im_laws.proofs.Tests.{some_same}
+use Rattle.im_types.specs.Types.{Command, Contents, accept_each}
+use Rattle.{im_laws.proofs.Tests.some_same, im_checkpoint.specs.Keeping.IsKept}
 use Rattle.im_disk.proofs.SinceLemmas.{leaves_start, left_now, only_weaker}
-use Rattle.im_journal.specs.Holding.{JournalState, Holds, MayAppend, longer}
-use Rattle.im_checkpoint.specs.Keeping.{IsKept}
-use Rattle.im_engine.proofs.Keeping.{all_mean, may_append_means, kept_longer}
-use Rattle.im_engine.proofs.Members.{longer_none}
+use Rattle.im_journal.specs.Holding.{Holds, JournalState, longer, MayAppend}
+use Rattle.im_engine.proofs.{Keeping.all_mean, Keeping.kept_longer, Keeping.may_append_means, Members.longer_none}
 use Rattle.im_engine.proofs.groups.put_on.Goals as goal
 
 both_ok : {T E P Q R : Type 0} (N : E → Type 0) (r : Result T E) → OnOk r P → MatchResult r (λ _. Q) N → (P → Q → R)

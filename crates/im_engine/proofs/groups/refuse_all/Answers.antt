@@ -1,11 +1,8 @@
-use Rattle.std.proofs.Common.{refl, ◌∙◌, map, arith}
-use Rattle.im_types.specs.Groups.{no_request}
-use Rattle.im_types.specs.declared.commands.Command.TheVariants.{Request as Asks}
-use Rattle.im_types.specs.declared.groups.Served.TheVariants.{Refused}
+use Rattle.std.proofs.Common.{map, refl, ◌∙◌, arith}
+use Rattle.im_types.specs.Types.{Asks, Refused, no_request}
 use Rattle.im_engine.proofs.Members.{told_next}
-use Rattle.im_engine.proofs.groups.refuse_all.Goals as goal
 
-pub loop-member-preserved : goal.loop-member-preserved
+pub loop-member-preserved : Rattle.im_engine.proofs.groups.refuse_all.Goals.loop-member-preserved
 loop-member-preserved c =
     rw c.push.ensures.items
     (told_next (map (λ _. Refused c.args.refusal)) (λ _. Refused c.args.refusal)

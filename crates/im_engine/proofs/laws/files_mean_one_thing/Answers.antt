@@ -1,7 +1,6 @@
-use Rattle.im_engine.proofs.FilesMean.{reads_one, opens_one, means_one, no_fault_and_meaning}
-use Rattle.im_engine.proofs.laws.files_mean_one_thing.Goals as goal
+use Rattle.im_engine.proofs.FilesMean.{means_one, no_fault_and_meaning, opens_one, reads_one}
 
-pub returns : goal.returns
+pub returns : Rattle.im_engine.proofs.laws.files_mean_one_thing.Goals.returns
 returns c = record {
   reads = reads_one;
   opens = opens_one;

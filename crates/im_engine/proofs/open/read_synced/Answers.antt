@@ -1,10 +1,8 @@
-use Rattle.std.proofs.Common.{Ok, ◌≡◌, inl, inr, ⊎_elim}
-use Rattle.im_types.specs.Layout.{layout_in_use}
-use Rattle.im_types.specs.Header.{header_of}
-use Rattle.im_types.specs.Meaning.{Reads}
+use Rattle.std.proofs.Common.{◌≡◌, Ok, inl, inr, ⊎_elim}
+use Rattle.im_types.specs.Types.{layout_in_use, header_of, Reads}
 use Rattle.im_image.specs.Headers.{seen}
+use Rattle.im_engine.proofs.Opening.{kept_read, opens_leaves, settled}
 use Rattle.im_engine.specs.State.{IsFirstFault}
-use Rattle.im_engine.proofs.Opening.{settled, opens_leaves, kept_read}
 use Rattle.im_engine.proofs.open.read_synced.Goals as goal
 
 pub returns-in-Ok-clause-kept : goal.returns-in-Ok-clause-kept

@@ -1,8 +1,5 @@
-use Rattle.std.proofs.Common.{◌≡◌, ◌++◌, List, length, map, refl, sym, ◌+◌, ◌-◌, drop, ◌∙◌, ap, arith}
-use Rattle.std.proofs.Common.{length-append}
-use Rattle.im_types.specs.declared.groups.Served.{Served}
-use Rattle.im_types.specs.Groups.{as_served}
-use Rattle.im_checkpoint.specs.Step.{changed_in}
+use Rattle.std.proofs.Common.{◌≡◌, ◌+◌, ◌-◌, List, ◌++◌, map, length, drop, sym, refl, ap, ◌∙◌, arith, length-append}
+use Rattle.{im_types.specs.Types.Served, im_types.specs.Types.as_served, im_checkpoint.specs.Step.changed_in}
 use Rattle.im_groups.specs.Commands.{answers_with, most_pages_with}
 use Rattle.im_engine.proofs.Adding.{adds_next}
 use Rattle.im_engine.proofs.Members.{answers_next, contents_next, left_taken, whole_first, whole_next}

@@ -1,12 +1,7 @@
-use Rattle.std.proofs.Common.{◌≡◌, ◌++◌, ◌∷◌, [], Ok, ap, sym, ◌∙◌, subst}
-use Rattle.im_types.specs.declared.commands.Command.{Command}
-use Rattle.im_types.specs.declared.commands.Outcome.TheVariants.{Entry as Tells}
-use Rattle.im_types.specs.declared.groups.Served.{Served}
-use Rattle.im_types.specs.Groups.{as_served}
-use Rattle.im_types.specs.Step.{step}
-use Rattle.im_memory.specs.Touched.{touched, ChangesOnly}
-use Rattle.im_engine.proofs.Keeping.{kept_prepared}
-use Rattle.im_engine.proofs.Members.{sizes_after}
+use Rattle.std.proofs.Common.{◌≡◌, [], ◌∷◌, ◌++◌, Ok, sym, ap, ◌∙◌, subst}
+use Rattle.im_types.specs.Types.{Command, Tells, Served, step, as_served}
+use Rattle.im_memory.specs.Touched.{ChangesOnly, touched}
+use Rattle.im_engine.proofs.{Keeping.kept_prepared, Members.sizes_after}
 use Rattle.im_engine.proofs.whole.tell.Goals as goal
 
 pub returns-in-Request-clause-answer : goal.returns-in-Request-clause-answer

@@ -1,9 +1,7 @@
-use Rattle.std.proofs.Common.{ℕ, ◌++◌, ◌∷◌, [], Result, ap, ◌∙◌, subst}
-use Rattle.im_types.specs.declared.commands.Outcome.{Outcome}
-use Rattle.im_types.specs.declared.refusals.Refusal.{Refusal}
-use Rattle.im_types.specs.Groups.{as_served}
+use Rattle.std.proofs.Common.{ℕ, [], ◌∷◌, ◌++◌, Result, ap, ◌∙◌, subst}
+use Rattle.im_types.specs.Types.{Outcome, Refusal, as_served}
+use Rattle.im_engine.proofs.Members.{answer_taken, contents_taken, left_taken, pages_taken, taken_parts}
 use Rattle.im_engine.specs.Groups.{StaysBut}
-use Rattle.im_engine.proofs.Members.{taken_parts, answer_taken, contents_taken, left_taken, pages_taken}
 use Rattle.im_engine.proofs.whole.tell_taken.Goals as goal
 
 pub tell-requires-clause-accepted : goal.tell-requires-clause-accepted

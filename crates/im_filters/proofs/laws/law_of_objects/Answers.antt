@@ -1,15 +1,11 @@
-use Rattle.std.proofs.Common.{◌++◌, [], refl}
-use Rattle.std.specs.Prelude.{codes, decimal}
-use Rattle.im_types.specs.Refusals.{number_of}
-use Rattle.im_text.specs.Texts.{entry_text}
-use Rattle.im_filters.specs.declared.telling.Telling.TheVariants.{Json}
-use Rattle.im_filters.specs.Objects.{entry_object, glance_object, refusal_object, reply_object}
-use Rattle.im_filters.proofs.CutLemmas.{is_sifted}
+use Rattle.std.proofs.Common.{[], ◌++◌, codes, decimal, refl}
+use Rattle.{im_types.specs.Types.number_of, im_text.specs.Texts.entry_text}
+use Rattle.im_filters.{proofs.CutLemmas.is_sifted, specs.declared.telling.Telling.TheVariants.Json}
 use Rattle.im_filters.proofs.LineLemmas.{asked, done_lacks, done_object, glance_lacks, glance_told, glanced, now_object}
 use Rattle.im_filters.proofs.LineLemmas.{refused_lacks, refused_told, seen_lacks, told_lacks, told_object}
-use Rattle.im_filters.proofs.laws.law_of_objects.Goals as goal
+use Rattle.im_filters.specs.Objects.{entry_object, glance_object, refusal_object, reply_object}
 
-pub returns : goal.returns
+pub returns : Rattle.im_filters.proofs.laws.law_of_objects.Goals.returns
 returns c = record {
   told = λ element number entry. is_sifted Json (asked element number ++ codes " " ++ entry_text entry)
       (entry_object element number (codes "false") entry) refl (told_lacks element number (codes " ") entry refl)

@@ -1,15 +1,10 @@
-use Rattle.std.proofs.Common.{◌++◌, [], refl}
-use Rattle.std.specs.Prelude.{codes, decimal}
-use Rattle.im_types.specs.Refusals.{number_of}
-use Rattle.im_text.specs.Printing.{refused_line}
-use Rattle.im_text.specs.Texts.{entry_text}
-use Rattle.im_filters.specs.declared.telling.Telling.TheVariants.{Quiet}
-use Rattle.im_filters.proofs.CutLemmas.{is_sifted}
+use Rattle.std.proofs.Common.{[], ◌++◌, codes, decimal, refl}
+use Rattle.{im_types.specs.Types.number_of, im_text.specs.Printing.refused_line, im_text.specs.Texts.entry_text}
+use Rattle.im_filters.{proofs.CutLemmas.is_sifted, specs.declared.telling.Telling.TheVariants.Quiet}
 use Rattle.im_filters.proofs.LineLemmas.{asked, done_lacks, glance_lacks, glanced, quiet_done, quiet_glance}
 use Rattle.im_filters.proofs.LineLemmas.{quiet_spaced, refused_lacks, seen_lacks, told_lacks}
-use Rattle.im_filters.proofs.laws.law_of_quiet.Goals as goal
 
-pub returns : goal.returns
+pub returns : Rattle.im_filters.proofs.laws.law_of_quiet.Goals.returns
 returns c = record {
   told = λ element number entry. is_sifted Quiet (asked element number ++ codes " " ++ entry_text entry) [] refl
       (told_lacks element number (codes " ") entry refl) (quiet_spaced element number [] (entry_text entry));

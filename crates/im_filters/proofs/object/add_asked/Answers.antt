@@ -1,9 +1,8 @@
-use Rattle.std.proofs.Common.{◌++◌, ◌∙◌, ap, append_assoc, codes, string_bytes}
+use Rattle.std.proofs.Common.{◌++◌, string_bytes, codes, ap, ◌∙◌, append_assoc}
 use Rattle.std.proofs.lemmas.Result.{on_ok_weaker}
 use Rattle.im_filters.specs.Objects.{number_members}
-use Rattle.im_filters.proofs.object.add_asked.Goals as goal
 
-pub returns : goal.returns
+pub returns : Rattle.im_filters.proofs.object.add_asked.Goals.returns
 returns c =
     let start = string_bytes c.args.out.now in
     let rest = number_members c.args.element.now c.args.number.now in

@@ -1,10 +1,7 @@
-use Rattle.std.proofs.Common.{codes, string_bytes}
-use Rattle.std.proofs.lemmas.Result.{on_ok_weaker}
-use Rattle.im_filters.specs.Objects.{code_members}
-use Rattle.im_filters.proofs.JoinLemmas.{all_three}
-use Rattle.im_filters.proofs.object.add_refusal.Goals as goal
+use Rattle.std.proofs.{Common.string_bytes, Common.codes, lemmas.Result.on_ok_weaker}
+use Rattle.im_filters.{proofs.JoinLemmas.all_three, specs.Objects.code_members}
 
-pub returns : goal.returns
+pub returns : Rattle.im_filters.proofs.object.add_refusal.Goals.returns
 returns c =
     let start = string_bytes c.args.out.now in
     let members = code_members c.args.code.now c.args.name.now in

@@ -1,7 +1,6 @@
 use Rattle.std.proofs.Common.{◌≡◌, true, take}
 use Rattle.im_filters.specs.Tellings.{lacks}
-use Rattle.im_filters.proofs.passing.end_of_line.Given as goal
 
 -- no byte before this one is a line feed
-abbrev pub invariant-loop-at : goal.invariant-loop-at
+abbrev pub invariant-loop-at : Rattle.im_filters.proofs.passing.end_of_line.Given.invariant-loop-at
 invariant-loop-at l = lacks 10 (take l.at l.bytes) ≡ true

@@ -1,8 +1,7 @@
-use Rattle.std.proofs.Common.{◌∙◌, ◌++◌, ◌∷◌, [], ap, refl, List}
+use Rattle.std.proofs.Common.{List, [], ◌∷◌, ◌++◌, refl, ap, ◌∙◌}
 use Rattle.im_glass.specs.declared.copies.Ahead.{Ahead}
-use Rattle.im_glass.proofs.sides.append.Goals as goal
 
-pub returns-in-Ok-clause-one : goal.returns-in-Ok-clause-one
+pub returns-in-Ok-clause-one : Rattle.im_glass.proofs.sides.append.Goals.returns-in-Ok-clause-one
 returns-in-Ok-clause-one g c =
     let one : Ahead = record { change = c.args.change; count = c.len.result; seen = c.seen.result } in
     record {

@@ -1,12 +1,9 @@
-use Rattle.std.proofs.Common.{◌≡◌, ◌∙◌, ap, sym}
-use Rattle.im_types.specs.declared.changes.Change.TheVariants.{Same}
-use Rattle.im_glass.specs.declared.copies.Ahead.{Ahead}
-use Rattle.im_glass.specs.Copies.{CopyState, History, applied_to}
-use Rattle.im_glass.specs.Rule.{copy_state}
-use Rattle.im_glass.proofs.CopyLemmas.{idle-more}
-use Rattle.im_glass.proofs.sides.make_room.Goals as goal
+use Rattle.std.proofs.Common.{◌≡◌, sym, ap, ◌∙◌}
+use Rattle.im_types.specs.Types.{Same}
+use Rattle.im_glass.{proofs.CopyLemmas.idle-more, specs.Copies.applied_to, specs.Copies.CopyState, specs.Copies.History}
+use Rattle.im_glass.specs.{declared.copies.Ahead.Ahead, Rule.copy_state}
 
-pub loop-place-preserved : goal.loop-place-preserved
+pub loop-place-preserved : Rattle.im_glass.proofs.sides.make_room.Goals.loop-place-preserved
 loop-place-preserved c =
     let s : CopyState = copy_state c.args.both.now.desk.shown.value in
     let ahead : Ahead = record { change = Same; count = 0; seen = c.again.result } in

@@ -1,7 +1,5 @@
-use Rattle.std.proofs.Common.{◌∙◌, ap, sym, subst, length}
-use Rattle.im_glass.specs.Copies.{CopyState, IsKeptCopy}
-use Rattle.im_glass.specs.Rule.{copy_state}
-use Rattle.im_glass.proofs.CopyLemmas.{brought}
+use Rattle.std.proofs.Common.{length, sym, ap, ◌∙◌, subst}
+use Rattle.im_glass.{proofs.CopyLemmas.brought, specs.Copies.CopyState, specs.Copies.IsKeptCopy, specs.Rule.copy_state}
 use Rattle.im_glass.proofs.sides.show_all.Goals as goal
 
 pub publish-requires-clause-kept : goal.publish-requires-clause-kept

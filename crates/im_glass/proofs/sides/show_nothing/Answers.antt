@@ -1,7 +1,5 @@
-use Rattle.std.proofs.Common.{◌∙◌, ap, sym, subst}
-use Rattle.im_glass.specs.Copies.{CopyState, IsKeptCopy}
-use Rattle.im_glass.specs.Rule.{copy_state}
-use Rattle.im_glass.proofs.CopyLemmas.{idle-all}
+use Rattle.std.proofs.Common.{sym, ap, ◌∙◌, subst}
+use Rattle.im_glass.{proofs.CopyLemmas.idle-all, specs.Copies.CopyState, specs.Copies.IsKeptCopy, specs.Rule.copy_state}
 use Rattle.im_glass.proofs.sides.show_nothing.Goals as goal
 
 pub publish-requires-clause-kept : goal.publish-requires-clause-kept

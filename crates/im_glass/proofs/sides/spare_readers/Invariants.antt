@@ -1,9 +1,7 @@
-use Rattle.std.proofs.Common.{◌≡◌, length}
-use Rattle.std.specs.List.{AllByRecursion}
+use Rattle.std.{proofs.Common.◌≡◌, proofs.Common.length, specs.List.AllByRecursion}
 use Rattle.left_right.specs.Sides.{view}
-use Rattle.im_glass.proofs.sides.spare_readers.Given as goal
 
-abbrev pub invariant-loop-reader : goal.invariant-loop-reader
+abbrev pub invariant-loop-reader : Rattle.im_glass.proofs.sides.spare_readers.Given.invariant-loop-reader
 invariant-loop-reader l =
     (length l.spare.items ≡ l._reader)
     × AllByRecursion (λ b. b ≡ l.fn.both.desk.shown.value.seen.book) l.spare.items

@@ -1,7 +1,6 @@
-use Rattle.std.proofs.Common.{◌∙◌, ◌++◌, ap, refl, arith, subst, length, drop, List, take_all}
-use Rattle.im_types.specs.declared.changes.Change.{Change}
-use Rattle.im_glass.specs.Copies.{FollowEach}
-use Rattle.im_glass.proofs.CopyLemmas.{staged-none, staged-next}
+use Rattle.std.proofs.Common.{List, ◌++◌, length, drop, refl, ap, ◌∙◌, subst, arith, take_all}
+use Rattle.im_types.specs.Types.{Change}
+use Rattle.im_glass.{proofs.CopyLemmas.staged-next, proofs.CopyLemmas.staged-none, specs.Copies.FollowEach}
 use Rattle.im_glass.proofs.sides.stage.Goals as goal
 
 pub loop-change-init : goal.loop-change-init

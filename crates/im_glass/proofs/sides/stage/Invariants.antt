@@ -1,8 +1,7 @@
-use Rattle.std.proofs.Common.{◌≡◌, ◌+◌, drop, length, take}
+use Rattle.std.proofs.Common.{◌≡◌, ◌+◌, length, take, drop}
 use Rattle.im_glass.proofs.CopyLemmas.{Staged}
-use Rattle.im_glass.proofs.sides.stage.Given as goal
 
-abbrev pub invariant-loop-change : goal.invariant-loop-change
+abbrev pub invariant-loop-change : Rattle.im_glass.proofs.sides.stage.Given.invariant-loop-change
 invariant-loop-change g l =
     (l.both.desk ≡ l.fn.both.desk)
     × (length l.all ≡ length l.fn.all + l.change-index)

@@ -1,4 +1,2 @@
-use Rattle.im_glass.proofs.unnamed.open.Given as goal
-
-abbrev pub ghosts-opened : goal.ghosts-opened
+abbrev pub ghosts-opened : Rattle.im_glass.proofs.unnamed.open.Given.ghosts-opened
 ghosts-opened g a = record { book = a.book }

@@ -1,7 +1,6 @@
 use Rattle.std.proofs.Common.{◌≡◌, [], take}
-use Rattle.im_glass.proofs.unnamed.opened.Given as goal
 
-abbrev pub invariant-loop-change : goal.invariant-loop-change
+abbrev pub invariant-loop-change : Rattle.im_glass.proofs.unnamed.opened.Given.invariant-loop-change
 invariant-loop-change g l =
     (l.pane.shown ≡ take l.change-index l.fn.changes)
     × (l.pane.ahead ≡ [])

@@ -1,10 +1,8 @@
-use Rattle.std.proofs.Common.{◌≡◌, ◌+◌, ◌≤◌, Ok, drop}
-use Rattle.im_types.specs.declared.TheConstants.{LAST}
-use Rattle.im_types.specs.Window.{bounds}
+use Rattle.std.proofs.Common.{◌≡◌, ◌+◌, ◌≤◌, drop, Ok}
+use Rattle.im_types.specs.Types.{LAST, bounds}
 use Rattle.im_groups.specs.Ahead.{moved_by}
-use Rattle.im_groups.proofs.ahead.bounds_behind_all.Given as goal
 
-abbrev pub invariant-loop-command : goal.invariant-loop-command
+abbrev pub invariant-loop-command : Rattle.im_groups.proofs.ahead.bounds_behind_all.Given.invariant-loop-command
 invariant-loop-command l = record {
   bounds : moved_by l.element (drop l.command-index l.ahead) (Ok l.bounds)
       ≡ moved_by l.element l.ahead (bounds l.memory.contents.windows l.element);

@@ -1,4 +1,4 @@
-use Rattle.std.proofs.Common.{arith, sym, ◌∙◌}
+use Rattle.std.proofs.Common.{sym, ◌∙◌, arith}
 use Rattle.im_groups.proofs.AheadLemmas.{bounds-low, request-judged, request-nowhere}
 use Rattle.im_groups.proofs.ahead.judge_alone.Goals as goal
 

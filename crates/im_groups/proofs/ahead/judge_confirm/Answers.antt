@@ -1,8 +1,8 @@
-use Rattle.std.proofs.Common.{◌⊎◌, inl, inr, ◌<◌, ◌≤◌, arith, sym, ◌∙◌}
-use Rattle.im_groups.proofs.AheadLemmas.{bounds-moved, confirm-lost, confirm-out, confirm-in}
-use Rattle.im_groups.proofs.ahead.judge_confirm.Goals as goal
-use Rattle.im_groups.proofs.ahead.judge_confirm.Goals.{then-upto-base-via-then-upto-base}
+use Rattle.std.proofs.Common.{◌<◌, ◌≤◌, ◌⊎◌, sym, ◌∙◌, inl, inr, arith}
 use Rattle.im_groups.proofs.ahead.judge_confirm.Goals.{then-upto-base-via-else-upto-base+then-upto-next}
+use Rattle.im_groups.proofs.ahead.judge_confirm.Goals.{then-upto-base-via-then-upto-base}
+use Rattle.im_groups.proofs.AheadLemmas.{bounds-moved, confirm-in, confirm-lost, confirm-out}
+use Rattle.im_groups.proofs.ahead.judge_confirm.Goals as goal
 
 pub returns-in-Err-clause-found : goal.returns-in-Err-clause-found
 returns-in-Err-clause-found c = confirm-lost c.args.memory.now.contents c.args.ahead.now c.args.element c.args.upto

@@ -1,4 +1,4 @@
-use Rattle.std.proofs.Common.{arith, sym, ◌∙◌}
+use Rattle.std.proofs.Common.{sym, ◌∙◌, arith}
 use Rattle.im_groups.proofs.AheadLemmas.{moved-low, request-behind, request-lost}
 use Rattle.im_groups.proofs.ahead.judge_request.Goals as goal
 

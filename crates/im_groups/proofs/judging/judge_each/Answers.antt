@@ -1,11 +1,8 @@
-use Rattle.std.proofs.Common.{List, refl, sym, subst, take, ◌∙◌, rules}
-use Rattle.std.specs.Prelude.{◌&&◌, nat_lt, replicate, false}
-use Rattle.im_types.specs.declared.commands.Command.{Command}
-use Rattle.im_groups.specs.Ahead.{AreAccepted}
-use Rattle.im_groups.specs.Marks.{HaveMarks}
-use Rattle.im_groups.proofs.CommandLemmas.{at-accepted}
-use Rattle.im_groups.proofs.JudgedLemmas.{judged-next, taken-next, stops-begins, all-begins}
-use Rattle.im_groups.proofs.MarkLemmas.{none_marked, marked-next}
+use Rattle.std.proofs.Common.{false, ◌&&◌, List, take, replicate, nat_lt, sym, refl, ◌∙◌, subst, rules}
+use Rattle.im_types.specs.Types.{Command}
+use Rattle.im_groups.proofs.{CommandLemmas.at-accepted, MarkLemmas.marked-next, MarkLemmas.none_marked}
+use Rattle.im_groups.proofs.JudgedLemmas.{all-begins, judged-next, stops-begins, taken-next}
+use Rattle.im_groups.specs.{Ahead.AreAccepted, Marks.HaveMarks}
 use Rattle.im_groups.proofs.judging.judge_each.Goals as goal
 
 pub loop-i-init : goal.loop-i-init

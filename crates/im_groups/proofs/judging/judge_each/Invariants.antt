@@ -1,9 +1,7 @@
 use Rattle.std.proofs.Common.{◌≡◌, ◌≤◌, length, take}
-use Rattle.im_groups.specs.Commands.{commands_at, left_after, takes_at}
-use Rattle.im_groups.specs.Marks.{HaveMarks}
-use Rattle.im_groups.proofs.judging.judge_each.Given as goal
+use Rattle.im_groups.specs.{Commands.commands_at, Commands.left_after, Commands.takes_at, Marks.HaveMarks}
 
-abbrev pub invariant-loop-i : goal.invariant-loop-i
+abbrev pub invariant-loop-i : Rattle.im_groups.proofs.judging.judge_each.Given.invariant-loop-i
 invariant-loop-i l = record {
   few : length l.commands.items ≤ l.i;
   size : length l.taken.items ≡ l.i;

@@ -1,7 +1,6 @@
-use Rattle.std.proofs.Common.{inr, refl, take, true, arith, length-take}
+use Rattle.std.proofs.Common.{true, take, refl, inr, arith, length-take}
 use Rattle.std.proofs.lemmas.List.{take_more}
-use Rattle.im_groups.proofs.JudgedLemmas.{stops-begins, all-begins}
-use Rattle.im_groups.proofs.MarkLemmas.{marked-next}
+use Rattle.im_groups.proofs.{JudgedLemmas.all-begins, JudgedLemmas.stops-begins, MarkLemmas.marked-next}
 use Rattle.im_groups.proofs.WholeLemmas.{accepted-next, refused-next}
 use Rattle.im_groups.proofs.judging.judge_whole.Goals as goal
 

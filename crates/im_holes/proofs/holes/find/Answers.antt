@@ -1,5 +1,5 @@
 use Rattle.std.proofs.Common.{sym, arith}
-use Rattle.im_holes.proofs.Kept.{root-inside, place-no_hole, place-hole}
+use Rattle.im_holes.proofs.Kept.{place-hole, place-no_hole, root-inside}
 use Rattle.im_holes.proofs.holes.find.Goals as goal
 
 pub node-requires : goal.node-requires

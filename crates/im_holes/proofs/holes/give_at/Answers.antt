@@ -1,5 +1,5 @@
 use Rattle.std.proofs.Common.{length, arith}
-use Rattle.im_holes.proofs.Giving.{held-inside, upto, given-cells, given-holes}
+use Rattle.im_holes.proofs.Giving.{given-cells, given-holes, held-inside, upto}
 use Rattle.im_holes.proofs.holes.give_at.Goals as goal
 
 pub front_of-from-requires-clause-inside : goal.front_of-from-requires-clause-inside

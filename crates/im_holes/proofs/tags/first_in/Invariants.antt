@@ -1,6 +1,5 @@
 use Rattle.std.proofs.Common.{◌-◌, length}
-use Rattle.im_holes.specs.Holes.{begin_at}
-use Rattle.im_holes.proofs.Cuts.{IsLeastFrom}
+use Rattle.im_holes.{proofs.Cuts.IsLeastFrom, specs.Holes.begin_at}
 use Rattle.im_holes.proofs.tags.first_in.Given as goal
 
 abbrev pub invariant-loop-at : goal.invariant-loop-at

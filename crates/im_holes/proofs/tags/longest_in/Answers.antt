@@ -1,9 +1,7 @@
-use Rattle.std.proofs.Common.{max, ◌+◌, ap, sym, ◌∙◌, subst, arith}
-use Rattle.im_holes.specs.Holes.{begin_at}
-use Rattle.im_holes.proofs.Cuts.{IsLargestTo, IsLargestTo-more}
-use Rattle.im_holes.proofs.tags.longest_in.Goals as goal
+use Rattle.std.proofs.Common.{◌+◌, max, sym, ap, ◌∙◌, subst, arith}
+use Rattle.im_holes.{proofs.Cuts.IsLargestTo, proofs.Cuts.IsLargestTo-more, specs.Holes.begin_at}
 
-pub loop-at-preserved : goal.loop-at-preserved
+pub loop-at-preserved : Rattle.im_holes.proofs.tags.longest_in.Goals.loop-at-preserved
 loop-at-preserved c =
     subst (IsLargestTo (begin_at c.args.begins.now c.args.tags.now) c.args.leaf (c.loop-at.at + 1))
     (sym (c.max-longest.ensures ∙ ap (λ n. max n c.loop-at.longest) c.begin.ensures))

@@ -1,10 +1,8 @@
-use Rattle.std.proofs.Common.{◌≡◌, max, ◌+◌, ◌*◌, ap, sym, ◌∙◌, subst, arith}
-use Rattle.im_holes.specs.declared.tags.TheConstants.{PART}
-use Rattle.im_holes.specs.Holes.{begin_at}
+use Rattle.std.proofs.Common.{◌≡◌, ◌+◌, ◌*◌, max, sym, ap, ◌∙◌, subst, arith}
 use Rattle.im_holes.proofs.Cuts.{IsLargestTo, IsLargestTo-more}
-use Rattle.im_holes.proofs.tags.longest_in_whole.Goals as goal
+use Rattle.im_holes.specs.{declared.tags.TheConstants.PART, Holes.begin_at}
 
-pub loop-past-preserved : goal.loop-past-preserved
+pub loop-past-preserved : Rattle.im_holes.proofs.tags.longest_in_whole.Goals.loop-past-preserved
 loop-past-preserved c =
     let next : c.args.leaf * PART + c.loop-past.past + 1 ≡ c.args.leaf * PART + (c.loop-past.past + 1) = omega arith in
     subst (λ at. IsLargestTo (begin_at c.args.begins.now c.args.tags.now) c.args.leaf at c.max-longest.result) next

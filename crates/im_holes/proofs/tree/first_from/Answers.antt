@@ -1,5 +1,5 @@
 use Rattle.std.proofs.Common.{arith}
-use Rattle.im_holes.proofs.Nodes.{Reaches-start, Reaches-left, Reaches-right, Reaches-leaf}
+use Rattle.im_holes.proofs.Nodes.{Reaches-leaf, Reaches-left, Reaches-right, Reaches-start}
 use Rattle.im_holes.proofs.tree.first_from.Goals as goal
 
 pub loop-k-init : goal.loop-k-init

@@ -1,5 +1,4 @@
 use Rattle.im_image.proofs.Restored.{one-memory}
-use Rattle.im_image.proofs.area.areas_show_one_memory.Goals as goal
 
-pub returns : goal.returns
+pub returns : Rattle.im_image.proofs.area.areas_show_one_memory.Goals.returns
 returns c = one-memory

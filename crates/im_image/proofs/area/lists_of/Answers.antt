@@ -1,10 +1,8 @@
 use Rattle.std.proofs.Common.{subst}
-use Rattle.im_types.specs.Layout.{sizes_of}
-use Rattle.im_types.specs.Pages.{Records, ShowsRecords}
+use Rattle.im_types.specs.Types.{sizes_of, Records, ShowsRecords}
 use Rattle.im_image.proofs.Restored.{records-same}
-use Rattle.im_image.proofs.area.lists_of.Goals as goal
 
-pub returns-clause-bad : goal.returns-clause-bad
+pub returns-clause-bad : Rattle.im_image.proofs.area.lists_of.Goals.returns-clause-bad
 returns-clause-bad c = λ e m shown.
     c.read_contents.ensures.bad e m
     (subst (λ (r : Records). ShowsRecords (sizes_of c.args.limits) r m)

@@ -1,10 +1,7 @@
-use Rattle.std.proofs.Common.{◌≡◌, ◌+◌, ℕ, List, [], length, replicate, set, get_or, sym, ap, ◌∙◌, subst, arith}
-use Rattle.std.specs.List.{sum_by}
-use Rattle.std.proofs.lemmas.Bool.{eqb-true}
-use Rattle.im_types.specs.declared.operations.Waiter.{Waiter}
-use Rattle.im_contents.proofs.RowLemmas.{nobody-listed}
-use Rattle.im_memory.specs.Restoring.{Parts}
-use Rattle.im_image.proofs.Restored.{ListsPut, nobody, lists-more, begun-all, parts-same}
+use Rattle.std.proofs.Common.{◌≡◌, ℕ, ◌+◌, List, [], length, get_or, set, replicate, sum_by, sym, ap, ◌∙◌, subst, arith}
+use Rattle.std.proofs.Common.{eqb-true}
+use Rattle.{im_types.specs.Types.Waiter, im_memory.specs.Restoring.Parts, im_contents.proofs.RowLemmas.nobody-listed}
+use Rattle.im_image.proofs.Restored.{begun-all, lists-more, ListsPut, nobody, parts-same}
 use Rattle.im_image.proofs.area.put_lists.Goals as goal
 
 pub returns-then-has_nobody : goal.returns-then-has_nobody

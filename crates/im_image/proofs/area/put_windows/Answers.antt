@@ -1,9 +1,8 @@
 use Rattle.std.proofs.Common.{◌≡◌, length, subst, arith}
-use Rattle.im_types.specs.Contents.{new_window}
+use Rattle.im_types.specs.Types.{new_window}
 use Rattle.im_image.proofs.Restored.{Begun, begun-all, parts-same}
-use Rattle.im_image.proofs.area.put_windows.Goals as goal
 
-pub returns : goal.returns
+pub returns : Rattle.im_image.proofs.area.put_windows.Goals.returns
 returns c =
     let windows = c.args.windows.now in
     let end : c.loop-element.element ≡ length windows = omega (arith, c.requires.count) in

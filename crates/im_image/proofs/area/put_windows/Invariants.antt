@@ -1,8 +1,7 @@
 use Rattle.std.proofs.Common.{◌≡◌}
-use Rattle.im_types.specs.Contents.{new_window}
+use Rattle.im_types.specs.Types.{new_window}
 use Rattle.im_image.proofs.Restored.{Begun}
-use Rattle.im_image.proofs.area.put_windows.Given as goal
 
-abbrev pub invariant-loop-element : goal.invariant-loop-element
+abbrev pub invariant-loop-element : Rattle.im_image.proofs.area.put_windows.Given.invariant-loop-element
 invariant-loop-element l = (l.restoring.cells ≡ l.initial.restoring.cells)
     × (l.restoring.lists ≡ l.initial.restoring.lists) × Begun new_window l.windows l.restoring.windows l.element

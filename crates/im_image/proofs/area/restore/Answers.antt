@@ -1,9 +1,8 @@
 use Rattle.std.proofs.Common.{◌≡◌, length, sym, ap, ◌∙◌, subst, arith}
 use Rattle.std.proofs.lemmas.List.{length-replicate}
-use Rattle.im_types.specs.Contents.{new_window}
-use Rattle.im_contents.proofs.BlockLemmas.{length-cells_shown}
-use Rattle.im_memory.specs.Restoring.{Parts, AreComplete}
-use Rattle.im_image.proofs.Restored.{complete-of, records-fit, parts-same}
+use Rattle.{im_types.specs.Types.new_window, im_contents.proofs.BlockLemmas.length-cells_shown}
+use Rattle.im_memory.specs.Restoring.{AreComplete, Parts}
+use Rattle.im_image.proofs.Restored.{complete-of, parts-same, records-fit}
 use Rattle.im_image.proofs.area.restore.Goals as goal
 
 pub new-requires : goal.new-requires

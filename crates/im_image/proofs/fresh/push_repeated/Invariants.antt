@@ -1,6 +1,5 @@
 use Rattle.std.proofs.Common.{◌≡◌, ◌++◌}
 use Rattle.im_image.specs.Fresh.{repeated}
-use Rattle.im_image.proofs.fresh.push_repeated.Given as goal
 
-abbrev pub invariant-loop-turn : goal.invariant-loop-turn
+abbrev pub invariant-loop-turn : Rattle.im_image.proofs.fresh.push_repeated.Given.invariant-loop-turn
 invariant-loop-turn l = l.image.items ≡ l.initial.image.items ++ repeated l._turn l.bytes

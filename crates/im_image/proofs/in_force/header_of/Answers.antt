@@ -1,5 +1,5 @@
-use Rattle.std.proofs.Common.{inl, refl}
-use Rattle.im_types.specs.declared.refusals.Refusal.TheVariants.{WrongLength}
+use Rattle.std.proofs.Common.{refl, inl}
+use Rattle.im_types.specs.Types.{WrongLength}
 use Rattle.im_image.proofs.VersionLemmas.{header_may}
 use Rattle.im_image.proofs.in_force.header_of.Goals as goal
 

@@ -1,7 +1,6 @@
-use Rattle.std.proofs.Common.{inr, inl, refl}
-use Rattle.im_types.specs.declared.refusals.Refusal.TheVariants.{WrongLength}
-use Rattle.im_image.proofs.ImageStart.{good_beginning, fault_of_beginning}
-use Rattle.im_image.proofs.VersionLemmas.{header_may}
+use Rattle.std.proofs.Common.{refl, inl, inr}
+use Rattle.im_types.specs.Types.{WrongLength}
+use Rattle.im_image.proofs.{ImageStart.fault_of_beginning, ImageStart.good_beginning, VersionLemmas.header_may}
 use Rattle.im_image.proofs.in_force.read_header.Goals as goal
 
 pub returns-in-Ok-Some-clause-good : goal.returns-in-Ok-Some-clause-good

@@ -1,11 +1,9 @@
-use Rattle.std.proofs.Common.{◌≡◌, length, refl, sym, ap, subst, ◌∙◌}
-use Rattle.im_types.specs.Header.{Header, layout_in}
-use Rattle.im_types.specs.Layout.{Layout, layout_named, layout_of, sizes_of, area_of, image_length}
-use Rattle.im_types.specs.Meaning.{IsShown}
+use Rattle.std.proofs.Common.{◌≡◌, length, sym, refl, ap, ◌∙◌, subst}
+use Rattle.im_types.specs.Types.{Layout, layout_of, layout_named, sizes_of, image_length, area_of, Header, layout_in}
+use Rattle.im_types.specs.Types.{IsShown}
 use Rattle.im_records.proofs.RowLemmas.{refused-same}
+use Rattle.im_image.proofs.{OpenArea.length_by, OpenArea.shown-in, Restored.shows-none}
 use Rattle.im_image.specs.Headers.{seen}
-use Rattle.im_image.proofs.OpenArea.{length_by, shown-in}
-use Rattle.im_image.proofs.Restored.{shows-none}
 use Rattle.im_image.proofs.open_area.read_memory.Goals as goal
 
 pub read_records-requires : goal.read_records-requires

@@ -1,10 +1,8 @@
 use Rattle.std.proofs.Common.{◌≡◌, ◌*◌, length}
-use Rattle.im_types.specs.Layout.{layout_of, sizes_of}
-use Rattle.im_disk.specs.Since.{OnlyReads}
+use Rattle.{im_types.specs.Types.layout_of, im_types.specs.Types.sizes_of, im_disk.specs.Since.OnlyReads}
 use Rattle.im_image.specs.Reading.{HasFirstCells}
-use Rattle.im_image.proofs.open_area.read_pieces.Given as goal
 
-abbrev pub invariant-loop-i : goal.invariant-loop-i
+abbrev pub invariant-loop-i : Rattle.im_image.proofs.open_area.read_pieces.Given.invariant-loop-i
 invariant-loop-i g l = record {
   count : length l.cells ≡ 8192 * l.i;
   piece : length l.piece.items ≡ 262144;

@@ -1,6 +1,5 @@
 use Rattle.std.proofs.Common.{arith}
 use Rattle.im_image.proofs.Encoding.{area-shows}
-use Rattle.im_image.proofs.pages.areas_show_the_memory.Goals as goal
 
-pub returns : goal.returns
+pub returns : Rattle.im_image.proofs.pages.areas_show_the_memory.Goals.returns
 returns c = λ s r m area count shows has. area-shows s r m area count shows (omega (arith, has.size)) has.pages

@@ -1,9 +1,8 @@
-use Rattle.std.proofs.Common.{◌≡◌, ◌<◌, ◌≤◌, ◌∙◌, ⊎_elim, sym, subst, arith}
+use Rattle.std.proofs.Common.{◌≡◌, ◌<◌, ◌≤◌, sym, ◌∙◌, subst, ⊎_elim, arith}
 use Rattle.std.proofs.lemmas.Bool.{cases_lt}
-use Rattle.im_types.specs.Layout.{sizes_of, record_at}
-use Rattle.im_types.specs.Pages.{Records, ShowsRecords}
-use Rattle.im_image.specs.Encoding.{IsAreaPage, AreCounted}
+use Rattle.im_types.specs.Types.{sizes_of, record_at, Records, ShowsRecords}
 use Rattle.im_image.proofs.Encoding.{area-shows, counted}
+use Rattle.im_image.specs.Encoding.{AreCounted, IsAreaPage}
 use Rattle.im_image.proofs.pages.encode.Goals as goal
 
 pub loop-i-preserved : goal.loop-i-preserved

@@ -1,12 +1,8 @@
 use Rattle.std.proofs.Common.{◌≡◌, subst, arith}
-use Rattle.im_types.specs.declared.TheConstants.{NONE}
-use Rattle.im_types.specs.declared.records.CellRecord.TheVariants.{Free as FreeCell}
-use Rattle.im_types.specs.Layout.{layout_in_use, node_count, sizes_of}
-use Rattle.im_types.specs.Records.{cell_bytes, FitsCell}
+use Rattle.im_types.specs.Types.{NONE, layout_in_use, sizes_of, node_count, FreeCell, cell_bytes, FitsCell}
 use Rattle.im_image.proofs.Encoding.{Spelled, spelled-all}
-use Rattle.im_image.proofs.pages.encode_cells.Goals as goal
 
-pub returns : goal.returns
+pub returns : Rattle.im_image.proofs.pages.encode_cells.Goals.returns
 returns c =
     let end : c.loop-place.place ≡ 128 = omega arith in
     spelled-all 32 128 cell_bytes (FitsCell c.args.limits.cells (node_count layout_in_use (sizes_of c.args.limits)))

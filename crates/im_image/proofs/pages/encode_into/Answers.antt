@@ -1,6 +1,6 @@
-use Rattle.std.proofs.Common.{rules, ◌≡◌, ◌+◌, ◌*◌, ◌≤◌, length, sym, subst, arith}
-use Rattle.im_types.specs.Layout.{sizes_of}
-use Rattle.im_records.proofs.Places.{here_is, others_are, apart}
+use Rattle.std.proofs.Common.{◌≡◌, ◌+◌, ◌*◌, ◌≤◌, length, sym, subst, arith, rules}
+use Rattle.im_types.specs.Types.{sizes_of}
+use Rattle.im_records.proofs.Places.{apart, here_is, others_are}
 use Rattle.im_image.specs.Encoding.{IsAreaPage}
 use Rattle.im_image.proofs.pages.encode_into.Goals as goal
 

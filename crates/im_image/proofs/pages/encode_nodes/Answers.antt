@@ -1,12 +1,8 @@
 use Rattle.std.proofs.Common.{◌≡◌, subst, arith}
-use Rattle.im_types.specs.declared.TheConstants.{NONE}
-use Rattle.im_types.specs.declared.records.NodeRecord.TheVariants.{Free as FreeNode}
-use Rattle.im_types.specs.Layout.{layout_in_use, node_count, sizes_of}
-use Rattle.im_types.specs.Records.{node_bytes, FitsNode}
+use Rattle.im_types.specs.Types.{NONE, layout_in_use, sizes_of, node_count, FreeNode, node_bytes, FitsNode}
 use Rattle.im_image.proofs.Encoding.{Spelled, spelled-all}
-use Rattle.im_image.proofs.pages.encode_nodes.Goals as goal
 
-pub returns : goal.returns
+pub returns : Rattle.im_image.proofs.pages.encode_nodes.Goals.returns
 returns c =
     let end : c.loop-place.place ≡ 256 = omega arith in
     spelled-all 16 256 node_bytes (FitsNode (node_count layout_in_use (sizes_of c.args.limits)))

@@ -1,8 +1,6 @@
 use Rattle.std.proofs.Common.{subst}
-use Rattle.im_types.specs.Layout.{sizes_of}
-use Rattle.im_types.specs.Pages.{Records}
-use Rattle.im_image.specs.Encoding.{IsAreaPage}
-use Rattle.im_image.proofs.Encoding.{counted}
+use Rattle.im_types.specs.Types.{sizes_of, Records}
+use Rattle.im_image.{proofs.Encoding.counted, specs.Encoding.IsAreaPage}
 use Rattle.im_image.proofs.pages.encode_page.Goals as goal
 
 pub encode_records-requires-clause-count : goal.encode_records-requires-clause-count

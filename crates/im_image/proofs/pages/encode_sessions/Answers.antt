@@ -1,7 +1,5 @@
 use Rattle.std.proofs.Common.{◌≡◌, subst, arith}
-use Rattle.im_types.specs.Contents.{new_window}
-use Rattle.im_types.specs.Layout.{layout_in_use}
-use Rattle.im_types.specs.Records.{session_bytes, FitsWindow}
+use Rattle.im_types.specs.Types.{new_window, layout_in_use, session_bytes, FitsWindow}
 use Rattle.im_image.proofs.Encoding.{Spelled, spelled-all, spelled-more}
 use Rattle.im_image.proofs.pages.encode_sessions.Goals as goal
 

@@ -1,5 +1,4 @@
 use Rattle.im_image.proofs.Outside.{outside-stays}
-use Rattle.im_image.proofs.pages.pages_outside_stay.Goals as goal
 
-pub returns : goal.returns
+pub returns : Rattle.im_image.proofs.pages.pages_outside_stay.Goals.returns
 returns c = outside-stays

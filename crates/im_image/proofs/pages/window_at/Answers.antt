@@ -1,5 +1,5 @@
-use Rattle.std.proofs.Common.{ap, ◌∙◌, sym}
-use Rattle.im_image.proofs.Encoding.{bounds-some, bounds-none, past-new, entry-there, entry-more, entries-all}
+use Rattle.std.proofs.Common.{sym, ap, ◌∙◌}
+use Rattle.im_image.proofs.Encoding.{bounds-none, bounds-some, entries-all, entry-more, entry-there, past-new}
 use Rattle.im_image.proofs.Encoding.{with_entry}
 use Rattle.im_image.proofs.pages.window_at.Goals as goal
 

@@ -1,9 +1,7 @@
-use Rattle.std.proofs.Common.{◌≡◌, ◌-◌, take}
-use Rattle.std.specs.Prelude.{slice_index_or}
-use Rattle.im_types.specs.Contents.{new_window}
-use Rattle.im_image.proofs.pages.window_at.Given as goal
+use Rattle.std.proofs.Common.{◌≡◌, ◌-◌, take, slice_index_or}
+use Rattle.im_types.specs.Types.{new_window}
 
-abbrev pub invariant-loop-number : goal.invariant-loop-number
+abbrev pub invariant-loop-number : Rattle.im_image.proofs.pages.window_at.Given.invariant-loop-number
 invariant-loop-number l = l.window
     ≡ record {
       base = l.base;

@@ -1,10 +1,8 @@
-use Rattle.std.proofs.Common.{◌+◌, ap, sym}
-use Rattle.im_memory.specs.State.{MemoryState}
-use Rattle.im_types.specs.Meaning.{Reached}
+use Rattle.std.proofs.Common.{◌+◌, sym, ap}
+use Rattle.{im_types.specs.Types.Reached, im_memory.specs.State.MemoryState}
 use Rattle.im_image.proofs.Outcomes.{reads-same}
-use Rattle.im_image.proofs.reading.inspect.Goals as goal
 
-pub returns-in-Ok-clause-means : goal.returns-in-Ok-clause-means
+pub returns-in-Ok-clause-means : Rattle.im_image.proofs.reading.inspect.Goals.returns-in-Ok-clause-means
 returns-in-Ok-clause-means g c = λ h.
     let i = c.in-Ok.image in
     let r = c.report_of.result in

@@ -1,12 +1,8 @@
-use Rattle.std.proofs.Common.{inl, inr, Err, sym, ap, subst}
-use Rattle.im_types.specs.declared.refusals.Refusal.{Refusal}
-use Rattle.im_types.specs.Meaning.{Reads}
-use Rattle.im_types.specs.Header.{layout_in}
-use Rattle.im_disk.specs.Moment.{Moment}
-use Rattle.im_disk.proofs.RunLemmas.{reads-on}
-use Rattle.im_image.specs.Headers.{seen}
-use Rattle.im_image.specs.Reading.{HasArea, IsImageOf}
-use Rattle.im_image.proofs.Outcomes.{read-ok, read-err, reads-no-page}
+use Rattle.std.proofs.Common.{Err, sym, ap, subst, inl, inr}
+use Rattle.im_types.specs.Types.{Refusal, layout_in, Reads}
+use Rattle.im_disk.{proofs.RunLemmas.reads-on, specs.Moment.Moment}
+use Rattle.im_image.proofs.Outcomes.{read-err, read-ok, reads-no-page}
+use Rattle.im_image.specs.{Headers.seen, Reading.HasArea, Reading.IsImageOf}
 use Rattle.im_image.proofs.reading.read_behind.Goals as goal
 
 pub read_run-requires-clause-shown : goal.read_run-requires-clause-shown

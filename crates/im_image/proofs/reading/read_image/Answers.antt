@@ -1,12 +1,10 @@
-use Rattle.std.proofs.Common.{◌≡◌, None, inl, inr, ⊎_elim, Ok, Err, sym, subst}
-use Rattle.im_types.specs.Header.{Header, header_of}
-use Rattle.im_disk.specs.Moment.{Moment}
-use Rattle.im_disk.proofs.RunLemmas.{reads-on}
-use Rattle.im_journal.specs.Holding.{Holds}
-use Rattle.im_image.specs.Headers.{seen, version_fault}
-use Rattle.im_image.specs.Reading.{HasHeader, IsImageOf, ReadsBy, reached}
-use Rattle.im_image.proofs.Outcomes.{read-ok, read-err, reads-wider}
+use Rattle.std.proofs.Common.{◌≡◌, None, Ok, Err, sym, subst, inl, inr, ⊎_elim}
+use Rattle.{im_types.specs.Types.Header, im_types.specs.Types.header_of, im_journal.specs.Holding.Holds}
+use Rattle.im_disk.{proofs.RunLemmas.reads-on, specs.Moment.Moment}
+use Rattle.im_image.proofs.Outcomes.{read-err, read-ok, reads-wider}
 use Rattle.im_image.proofs.VersionLemmas.{fault_reads, image_may, reads_by, refused_may, sound, version_read}
+use Rattle.im_image.specs.Headers.{seen, version_fault}
+use Rattle.im_image.specs.Reading.{HasHeader, IsImageOf, reached, ReadsBy}
 use Rattle.im_image.proofs.reading.read_image.Goals as goal
 
 pub read_behind-requires-clause-sound : goal.read_behind-requires-clause-sound

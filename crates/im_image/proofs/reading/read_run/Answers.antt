@@ -1,12 +1,8 @@
-use Rattle.std.proofs.Common.{◌≡◌, inl, inr, None, Some, Err, refl, sym, ap, ◌∙◌, subst, List, arith}
-use Rattle.im_types.specs.declared.refusals.Refusal.{Refusal}
-use Rattle.im_types.specs.declared.commands.Command.{Command}
-use Rattle.im_types.specs.Header.{Header, layout_in}
-use Rattle.im_types.specs.Layout.{Layout, layout_named, layout_of, sizes_of, ring_of}
-use Rattle.im_types.specs.Journal.{tail}
-use Rattle.im_types.specs.Meaning.{Reads, accept_in}
+use Rattle.std.proofs.Common.{◌≡◌, List, Some, None, Err, sym, refl, ap, ◌∙◌, subst, inl, inr, arith}
+use Rattle.im_types.specs.Types.{Command, Refusal, Layout, layout_of, layout_named, sizes_of, ring_of, Header}
+use Rattle.im_types.specs.Types.{layout_in, tail, accept_in, Reads}
+use Rattle.im_image.proofs.Outcomes.{accepted-sizes, in-room, reads-all, reads-no-tail, reads-unaccepted}
 use Rattle.im_image.specs.Headers.{seen}
-use Rattle.im_image.proofs.Outcomes.{in-room, reads-no-tail, reads-unaccepted, reads-all, accepted-sizes}
 use Rattle.im_image.proofs.reading.read_run.Goals as goal
 
 pub read_tail-requires-clause-inside : goal.read_tail-requires-clause-inside

@@ -1,7 +1,6 @@
-use Rattle.std.proofs.Common.{◌∙◌, [], ◌∷◌, refl, arith, rules}
-use Rattle.im_journal.specs.Gates.{closed_gate}
-use Rattle.im_journal.specs.Holding.{ring_at}
-use Rattle.im_journal.proofs.Closing.{closing_start, torn_leaves, closing_next, synced_leaves, synced_shut}
+use Rattle.std.proofs.Common.{[], ◌∷◌, refl, ◌∙◌, arith, rules}
+use Rattle.im_journal.proofs.Closing.{closing_next, closing_start, synced_leaves, synced_shut, torn_leaves}
+use Rattle.im_journal.specs.{Gates.closed_gate, Holding.ring_at}
 use Rattle.im_journal.proofs.gate.close_gates.Goals as goal
 
 pub loop-i-init : goal.loop-i-init

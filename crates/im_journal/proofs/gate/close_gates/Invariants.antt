@@ -1,9 +1,7 @@
 use Rattle.std.proofs.Common.{◌≡◌}
-use Rattle.im_journal.specs.Holding.{ring_at}
-use Rattle.im_journal.proofs.Closing.{IsClosing}
-use Rattle.im_journal.proofs.gate.close_gates.Given as goal
+use Rattle.im_journal.{proofs.Closing.IsClosing, specs.Holding.ring_at}
 
-abbrev pub invariant-loop-i : goal.invariant-loop-i
+abbrev pub invariant-loop-i : Rattle.im_journal.proofs.gate.close_gates.Given.invariant-loop-i
 invariant-loop-i g l = record {
   honest : g.D.Disk.honest l.disk → g.D.Disk.honest l.fn.disk;
   closing : g.D.Disk.honest l.disk

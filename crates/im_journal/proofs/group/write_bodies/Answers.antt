@@ -1,11 +1,9 @@
-use Rattle.std.proofs.Common.{◌≡◌, ◌∙◌, ◌+◌, ◌<◌, ◌∷◌, ◌++◌, ℕ, suc, List, [], length, get_or, take, ap, refl, arith}
-use Rattle.std.proofs.Common.{length-take, rules}
+use Rattle.std.proofs.Common.{◌≡◌, ℕ, suc, ◌+◌, ◌<◌, List, [], ◌∷◌, ◌++◌, length, get_or, take, refl, ap, ◌∙◌, arith}
+use Rattle.std.proofs.Common.{length-take, take_all, rules}
 use Rattle.std.proofs.Math.Seq.{take-suc}
-use Rattle.std.proofs.lemmas.List.{take_all}
-use Rattle.im_types.specs.declared.commands.Command.{Command}
-use Rattle.im_journal.specs.Holding.{ring_at}
-use Rattle.im_journal.proofs.Spelling.{counted_body, spelled_long}
-use Rattle.im_journal.proofs.Writing.{writing_start, torn_leaves, writing_next, all_written}
+use Rattle.im_types.specs.Types.{Command}
+use Rattle.im_journal.{proofs.Spelling.counted_body, proofs.Spelling.spelled_long, specs.Holding.ring_at}
+use Rattle.im_journal.proofs.Writing.{all_written, torn_leaves, writing_next, writing_start}
 use Rattle.im_journal.proofs.group.write_bodies.Goals as goal
 
 next_taken : (commands : List Command) (i : ℕ) (d : Command) → i < length commands → take (i + 1) commands

@@ -1,9 +1,7 @@
 use Rattle.std.proofs.Common.{◌≡◌, length, take}
-use Rattle.im_journal.specs.Holding.{ring_at}
-use Rattle.im_journal.proofs.Writing.{IsWriting}
-use Rattle.im_journal.proofs.group.write_bodies.Given as goal
+use Rattle.im_journal.{proofs.Writing.IsWriting, specs.Holding.ring_at}
 
-abbrev pub invariant-loop-i : goal.invariant-loop-i
+abbrev pub invariant-loop-i : Rattle.im_journal.proofs.group.write_bodies.Given.invariant-loop-i
 invariant-loop-i g l = record {
   honest : g.D.Disk.honest l.disk → g.D.Disk.honest l.fn.disk;
   writing : g.D.Disk.honest l.disk

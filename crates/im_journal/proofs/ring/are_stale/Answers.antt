@@ -1,12 +1,8 @@
-use Rattle.std.proofs.Common.{◌≡◌, ℕ, ◌+◌, ◌<◌, true, nat_lt, ap, ◌∙◌, sym, arith}
-use Rattle.std.proofs.lemmas.Bool.{lt-ltb}
-use Rattle.im_types.specs.Slot.{sequence_of}
-use Rattle.im_types.specs.Journal.{slot}
-use Rattle.im_journal.specs.Holding.{ring_alone}
-use Rattle.im_journal.proofs.Reading.{stale_more}
-use Rattle.im_journal.proofs.ring.are_stale.Goals as goal
+use Rattle.std.proofs.Common.{◌≡◌, ℕ, ◌+◌, ◌<◌, true, nat_lt, sym, ap, ◌∙◌, arith, lt-ltb}
+use Rattle.im_types.specs.Types.{sequence_of, slot}
+use Rattle.im_journal.{proofs.Reading.stale_more, specs.Holding.ring_alone}
 
-pub loop-i-preserved : goal.loop-i-preserved
+pub loop-i-preserved : Rattle.im_journal.proofs.ring.are_stale.Goals.loop-i-preserved
 loop-i-preserved c =
     let less : c.sequence_in.result < c.args.first = omega arith in
     let test : nat_lt (sequence_of

@@ -1,8 +1,7 @@
 use Rattle.std.proofs.Common.{◌≡◌, ◌+◌, ◌-◌}
-use Rattle.im_types.specs.Journal.{are_stale}
+use Rattle.im_types.specs.Types.{are_stale}
 use Rattle.im_journal.specs.Holding.{ring_alone}
-use Rattle.im_journal.proofs.ring.are_stale.Given as goal
 
-abbrev pub invariant-loop-i : goal.invariant-loop-i
+abbrev pub invariant-loop-i : Rattle.im_journal.proofs.ring.are_stale.Given.invariant-loop-i
 invariant-loop-i l = are_stale (ring_alone l.slots) l.count l.«from» l.first l.ring
     ≡ are_stale (ring_alone l.slots) (l.count - l.i) (l.«from» + l.i) l.first l.ring

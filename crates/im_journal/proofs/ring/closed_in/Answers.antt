@@ -1,13 +1,8 @@
-use Rattle.std.proofs.Common.{◌≡◌, ℕ, suc, ◌+◌, ◌-◌, false, get_or, ap, ◌∙◌, sym, arith}
-use Rattle.std.proofs.lemmas.Bool.{ne_eqb}
-use Rattle.im_types.specs.Bytes.{open_gate}
-use Rattle.im_types.specs.Slot.{is_open}
-use Rattle.im_types.specs.Journal.{slot, closed_from}
-use Rattle.im_journal.specs.Holding.{ring_alone}
-use Rattle.im_journal.proofs.Reading.{closed_more}
-use Rattle.im_journal.proofs.ring.closed_in.Goals as goal
+use Rattle.std.proofs.Common.{◌≡◌, ℕ, suc, ◌+◌, ◌-◌, false, get_or, sym, ap, ◌∙◌, arith, ne_eqb}
+use Rattle.im_types.specs.Types.{open_gate, is_open, closed_from, slot}
+use Rattle.im_journal.{proofs.Reading.closed_more, specs.Holding.ring_alone}
 
-pub loop-i-preserved : goal.loop-i-preserved
+pub loop-i-preserved : Rattle.im_journal.proofs.ring.closed_in.Goals.loop-i-preserved
 loop-i-preserved c =
     let shut : is_open (slot (ring_alone c.args.slots) (c.args.«from» + c.loop-i.i) c.args.ring.now)
     ≡ false = ap is_open (sym c.slot_in-slot.ensures)

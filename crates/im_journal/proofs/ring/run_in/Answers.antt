@@ -1,12 +1,9 @@
-use Rattle.std.proofs.Common.{◌≡◌, ℕ, ◌+◌, ◌-◌, ◌≤◌, true, false, List, [], ◌∷◌, ◌++◌, Option, Some, None, ap, ◌∙◌}
-use Rattle.std.proofs.Common.{sym, arith, rules}
-use Rattle.std.proofs.lemmas.List.{append-nil}
-use Rattle.im_types.specs.declared.TheConstants.{LAST}
-use Rattle.im_types.specs.declared.commands.Command.{Command}
-use Rattle.im_types.specs.Journal.{slot, continues, run_from, member, due_after, commands_in}
+use Rattle.std.proofs.Common.{◌≡◌, ℕ, ◌+◌, ◌-◌, ◌≤◌, true, false, List, [], ◌∷◌, ◌++◌, Some, None, Option, sym, ap, ◌∙◌}
+use Rattle.std.proofs.Common.{append-nil, arith, rules}
+use Rattle.im_types.specs.Types.{Command, LAST, run_from, member, due_after, commands_in, slot, continues}
+use Rattle.im_journal.proofs.Reading.{behind_these, commands_bad, commands_end, commands_more, last_after}
+use Rattle.im_journal.proofs.ring.run_in.Goals.{else-due-eq0, then-due-eq0+else-not-continues}
 use Rattle.im_journal.specs.Holding.{ring_alone}
-use Rattle.im_journal.proofs.Reading.{behind_these, commands_end, commands_bad, commands_more, last_after}
-use Rattle.im_journal.proofs.ring.run_in.Goals.{then-due-eq0+else-not-continues, else-due-eq0}
 use Rattle.im_journal.proofs.ring.run_in.Goals as goal
 
 pub returns-then-not-continues-clause-commands : goal.returns-then-not-continues-clause-commands

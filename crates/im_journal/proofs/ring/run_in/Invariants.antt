@@ -1,11 +1,8 @@
 use Rattle.std.proofs.Common.{◌≡◌, ◌+◌, ◌-◌, ◌≤◌, length}
-use Rattle.im_types.specs.declared.TheConstants.{LAST}
-use Rattle.im_types.specs.Journal.{run_from, commands_in}
-use Rattle.im_journal.specs.Holding.{ring_alone}
-use Rattle.im_journal.proofs.Reading.{behind_these}
-use Rattle.im_journal.proofs.ring.run_in.Given as goal
+use Rattle.im_types.specs.Types.{LAST, run_from, commands_in}
+use Rattle.im_journal.{proofs.Reading.behind_these, specs.Holding.ring_alone}
 
-abbrev pub invariant-loop-i : goal.invariant-loop-i
+abbrev pub invariant-loop-i : Rattle.im_journal.proofs.ring.run_in.Given.invariant-loop-i
 invariant-loop-i l = record {
   few : length l.commands.items ≡ l.i;
   last : l.first + l.i + l.due ≤ LAST;

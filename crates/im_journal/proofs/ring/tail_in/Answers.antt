@@ -1,9 +1,6 @@
-use Rattle.std.proofs.Common.{◌≡◌, ◌+◌, Bool, Err, length, ap, ◌∙◌, rules, refl, ◌==◌, if◌then◌else◌}
-use Rattle.im_types.specs.declared.TheConstants.{LAST}
-use Rattle.im_types.specs.declared.refusals.Refusal.TheVariants.{BadRecord}
-use Rattle.im_types.specs.Journal.{tail_if}
-use Rattle.im_journal.specs.Holding.{ring_alone}
-use Rattle.im_journal.proofs.Reading.{tail_unread, tail_found}
+use Rattle.std.proofs.Common.{◌≡◌, ◌+◌, Bool, length, if◌then◌else◌, ◌==◌, Err, refl, ap, ◌∙◌, rules}
+use Rattle.im_types.specs.Types.{BadRecord, LAST, tail_if}
+use Rattle.im_journal.{proofs.Reading.tail_found, proofs.Reading.tail_unread, specs.Holding.ring_alone}
 use Rattle.im_journal.proofs.ring.tail_in.Goals as goal
 
 pub returns-in-Err-clause-bad : goal.returns-in-Err-clause-bad

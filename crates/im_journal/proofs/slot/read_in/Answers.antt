@@ -1,6 +1,6 @@
-use Rattle.std.proofs.Common.{◌≡◌, Some, ◌∙◌, sym}
-use Rattle.im_types.specs.Slot.{read_in}
-use Rattle.im_journal.proofs.Spelling.{read_in-only, read_in-compared, read_in-none}
+use Rattle.std.proofs.Common.{◌≡◌, Some, sym, ◌∙◌}
+use Rattle.im_types.specs.Types.{read_in}
+use Rattle.im_journal.proofs.Spelling.{read_in-compared, read_in-none, read_in-only}
 use Rattle.im_journal.proofs.slot.read_in.Goals as goal
 
 pub returns-in_err-command-clause-found : goal.returns-in_err-command-clause-found

@@ -1,10 +1,7 @@
-use Rattle.std.proofs.Common.{rules, ◌≡◌, ◌∷◌, ◌<◌, ◌^◌, Some, List, ℕ, ap, ◌∙◌, sym, subst}
-use Rattle.im_types.specs.declared.commands.Command.{Command}
-use Rattle.im_types.specs.declared.commands.Command.TheVariants.{Request as Asks, Confirm}
-use Rattle.im_types.specs.Agreement.{address_of}
-use Rattle.im_types.specs.Bytes.{open_gate, op_value}
-use Rattle.im_types.specs.Slot.{slot_body, sequence_of, read_in, FitsCommand}
-use Rattle.im_journal.proofs.Spelling.{sequence_of-spelled, read_in-spelled}
+use Rattle.std.proofs.Common.{◌≡◌, ℕ, ◌^◌, ◌<◌, List, ◌∷◌, Some, sym, ap, ◌∙◌, subst, rules}
+use Rattle.im_types.specs.Types.{Command, Asks, Confirm, address_of, open_gate, op_value, slot_body, FitsCommand}
+use Rattle.im_types.specs.Types.{sequence_of, read_in}
+use Rattle.im_journal.proofs.Spelling.{read_in-spelled, sequence_of-spelled}
 use Rattle.im_journal.proofs.slot.spell_in.Goals as goal
 
 pub returns-in-Request-clause-sequence : goal.returns-in-Request-clause-sequence

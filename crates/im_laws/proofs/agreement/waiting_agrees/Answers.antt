@@ -1,5 +1,5 @@
-use Rattle.im_types.specs.Contents.{empty_contents}
-use Rattle.im_laws.proofs.RunAgrees.{step-agrees, after-agrees, empty-agrees}
+use Rattle.im_types.specs.Types.{empty_contents}
+use Rattle.im_laws.proofs.RunAgrees.{after-agrees, empty-agrees, step-agrees}
 use Rattle.im_laws.proofs.agreement.waiting_agrees.Goals as goal
 
 pub returns-clause-step : goal.returns-clause-step

@@ -1,4 +1,4 @@
-use Rattle.im_laws.proofs.WaiterLemmas.{listed-WaitsAt, WaitsAt-listed, listed_once, WaitsAt-one, waiting-WaitsAt}
+use Rattle.im_laws.proofs.WaiterLemmas.{listed-WaitsAt, listed_once, waiting-WaitsAt, WaitsAt-listed, WaitsAt-one}
 use Rattle.im_laws.proofs.agreement.waiting_entries_are_listed_once.Goals as goal
 
 pub returns-clause-listed : goal.returns-clause-listed

@@ -1,4 +1,4 @@
-use Rattle.im_laws.proofs.AllocateLemmas.{allocation-least, allocation-cells, allocation-no_space}
+use Rattle.im_laws.proofs.AllocateLemmas.{allocation-cells, allocation-least, allocation-no_space}
 use Rattle.im_laws.proofs.blocks.allocation_takes_the_least_place.Goals as goal
 
 pub returns-clause-least : goal.returns-clause-least

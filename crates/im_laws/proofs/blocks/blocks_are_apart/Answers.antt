@@ -1,5 +1,4 @@
 use Rattle.im_laws.proofs.BlockLemmas.{blocks-apart}
-use Rattle.im_laws.proofs.blocks.blocks_are_apart.Goals as goal
 
-pub returns : goal.returns
+pub returns : Rattle.im_laws.proofs.blocks.blocks_are_apart.Goals.returns
 returns c = blocks-apart

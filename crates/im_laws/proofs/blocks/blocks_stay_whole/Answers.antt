@@ -1,4 +1,4 @@
-use Rattle.im_laws.proofs.MemoryLemmas.{step-blocks, after-blocks}
+use Rattle.im_laws.proofs.MemoryLemmas.{after-blocks, step-blocks}
 use Rattle.im_laws.proofs.blocks.blocks_stay_whole.Goals as goal
 
 pub returns-clause-step : goal.returns-clause-step

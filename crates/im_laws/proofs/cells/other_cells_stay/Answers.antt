@@ -1,5 +1,4 @@
 use Rattle.im_laws.proofs.CellLemmas.{step-other}
-use Rattle.im_laws.proofs.cells.other_cells_stay.Goals as goal
 
-pub returns : goal.returns
+pub returns : Rattle.im_laws.proofs.cells.other_cells_stay.Goals.returns
 returns c = step-other

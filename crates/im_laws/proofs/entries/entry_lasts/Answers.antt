@@ -1,5 +1,5 @@
+use Rattle.im_laws.proofs.EntryLemmas.{after-keeps, after-lasts, answered-lasts}
 use Rattle.im_laws.proofs.RunAgrees.{step-keeps}
-use Rattle.im_laws.proofs.EntryLemmas.{after-lasts, after-keeps, answered-lasts}
 use Rattle.im_laws.proofs.entries.entry_lasts.Goals as goal
 
 pub returns-clause-step : goal.returns-clause-step

@@ -1,5 +1,4 @@
 use Rattle.im_laws.proofs.EntryLemmas.{read_back}
-use Rattle.im_laws.proofs.entries.read_back.Goals as goal
 
-pub returns : goal.returns
+pub returns : Rattle.im_laws.proofs.entries.read_back.Goals.returns
 returns c = read_back

@@ -1,5 +1,4 @@
 use Rattle.im_laws.proofs.EntryLemmas.{told-told_again}
-use Rattle.im_laws.proofs.entries.repeat_is_told_again.Goals as goal
 
-pub returns : goal.returns
+pub returns : Rattle.im_laws.proofs.entries.repeat_is_told_again.Goals.returns
 returns c = told-told_again

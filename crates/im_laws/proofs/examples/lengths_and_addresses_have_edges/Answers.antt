@@ -1,7 +1,6 @@
 use Rattle.std.proofs.Common.{refl}
-use Rattle.im_types.specs.Contents.{empty_contents}
-use Rattle.im_laws.proofs.examples.lengths_and_addresses_have_edges.Goals as goal
+use Rattle.im_types.specs.Types.{empty_contents}
 
-pub returns : goal.returns
+pub returns : Rattle.im_laws.proofs.examples.lengths_and_addresses_have_edges.Goals.returns
 unfolding empty_contents
 returns c = (refl, (refl, (refl, (refl, (refl, (refl, tt))))))

@@ -1,5 +1,5 @@
 use Rattle.std.proofs.Common.{refl}
-use Rattle.im_types.specs.Contents.{empty_contents}
+use Rattle.im_types.specs.Types.{empty_contents}
 use Rattle.im_laws.proofs.examples.takes_match_puts.Goals as goal
 
 pub returns-clause-legal : goal.returns-clause-legal

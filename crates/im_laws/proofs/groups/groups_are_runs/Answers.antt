@@ -1,5 +1,4 @@
-use Rattle.im_laws.proofs.GroupLemmas.{puts-after, puts-accepted, puts-counted, puts-room}
-use Rattle.im_laws.proofs.groups.groups_are_runs.Goals as goal
+use Rattle.im_laws.proofs.GroupLemmas.{puts-accepted, puts-after, puts-counted, puts-room}
 
-pub returns : goal.returns
+pub returns : Rattle.im_laws.proofs.groups.groups_are_runs.Goals.returns
 returns c = record { memory = puts-after; accepted = puts-accepted; count = puts-counted; room = puts-room }

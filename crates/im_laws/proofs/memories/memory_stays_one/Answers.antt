@@ -1,5 +1,5 @@
-use Rattle.im_types.specs.Contents.{empty_contents}
-use Rattle.im_laws.proofs.MemoryLemmas.{empty-memory, step-memory, after-memory}
+use Rattle.im_types.specs.Types.{empty_contents}
+use Rattle.im_laws.proofs.MemoryLemmas.{after-memory, empty-memory, step-memory}
 use Rattle.im_laws.proofs.memories.memory_stays_one.Goals as goal
 
 pub returns-clause-empty : goal.returns-clause-empty

@@ -1,5 +1,5 @@
-use Rattle.im_laws.proofs.PlaceLemmas.{place-free, place-least, place-is_least, place-none, place-is_none}
 use Rattle.im_laws.proofs.BlockLemmas.{place-fits}
+use Rattle.im_laws.proofs.PlaceLemmas.{place-free, place-is_least, place-is_none, place-least, place-none}
 use Rattle.im_laws.proofs.places.place_is_the_least.Goals as goal
 
 pub returns-clause-least : goal.returns-clause-least

@@ -1,4 +1,4 @@
-use Rattle.im_laws.proofs.RunLemmas.{after-accepted, accepted-accepted}
+use Rattle.im_laws.proofs.RunLemmas.{accepted-accepted, after-accepted}
 use Rattle.im_laws.proofs.runs.only_accepted_commands_matter.Goals as goal
 
 pub returns-clause-memory : goal.returns-clause-memory

@@ -1,4 +1,4 @@
-use Rattle.im_laws.proofs.RunLemmas.{after-append, answers-append, accepted-append}
+use Rattle.im_laws.proofs.RunLemmas.{accepted-append, after-append, answers-append}
 use Rattle.im_laws.proofs.runs.runs_join.Goals as goal
 
 pub returns-clause-memory : goal.returns-clause-memory

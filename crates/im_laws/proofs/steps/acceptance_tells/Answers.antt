@@ -1,5 +1,5 @@
-use Rattle.im_laws.proofs.AcceptLemmas.{acceptance-refused, refused-acceptance, acceptance-changes}
-use Rattle.im_laws.proofs.AcceptLemmas.{changes-acceptance, acceptance-leaves, leaves-acceptance}
+use Rattle.im_laws.proofs.AcceptLemmas.{acceptance-changes, acceptance-leaves, acceptance-refused, changes-acceptance}
+use Rattle.im_laws.proofs.AcceptLemmas.{leaves-acceptance, refused-acceptance}
 use Rattle.im_laws.proofs.steps.acceptance_tells.Goals as goal
 
 pub returns-clause-refused : goal.returns-clause-refused

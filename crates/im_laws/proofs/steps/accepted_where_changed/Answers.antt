@@ -1,5 +1,5 @@
-use Rattle.im_laws.proofs.AcceptLemmas.{accepted-changes, changed-accepted, unaccepted-leaves, left-unaccepted}
-use Rattle.im_laws.proofs.AcceptLemmas.{accepted-ok}
+use Rattle.im_laws.proofs.AcceptLemmas.{accepted-changes, accepted-ok, changed-accepted, left-unaccepted}
+use Rattle.im_laws.proofs.AcceptLemmas.{unaccepted-leaves}
 use Rattle.im_laws.proofs.steps.accepted_where_changed.Goals as goal
 
 pub returns-clause-accepted : goal.returns-clause-accepted

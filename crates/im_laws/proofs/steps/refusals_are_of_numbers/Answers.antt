@@ -1,4 +1,4 @@
-use Rattle.im_laws.proofs.RefusalLemmas.{step-refusals, ask-refusals}
+use Rattle.im_laws.proofs.RefusalLemmas.{ask-refusals, step-refusals}
 use Rattle.im_laws.proofs.steps.refusals_are_of_numbers.Goals as goal
 
 pub returns-clause-command : goal.returns-clause-command

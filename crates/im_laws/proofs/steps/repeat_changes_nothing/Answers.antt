@@ -1,4 +1,4 @@
-use Rattle.im_laws.proofs.EntryLemmas.{step-repeat, step-mismatch, accepted-kept}
+use Rattle.im_laws.proofs.EntryLemmas.{accepted-kept, step-mismatch, step-repeat}
 use Rattle.im_laws.proofs.steps.repeat_changes_nothing.Goals as goal
 
 pub returns-clause-same : goal.returns-clause-same

@@ -1,4 +1,4 @@
-use Rattle.std.specs.Prelude.{[], ◌∷◌}
+use Rattle.std.proofs.Common.{[], ◌∷◌}
 use Rattle.im_laws.proofs.TraceLemmas.{end_of-append, IsLegal-push, IsLegal-split}
 use Rattle.im_laws.proofs.traces.trace_grows.Goals as goal
 

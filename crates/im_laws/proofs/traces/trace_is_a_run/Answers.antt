@@ -1,4 +1,4 @@
-use Rattle.im_laws.proofs.TraceLemmas.{end_of-commands, command_answers-legal}
+use Rattle.im_laws.proofs.TraceLemmas.{command_answers-legal, end_of-commands}
 use Rattle.im_laws.proofs.traces.trace_is_a_run.Goals as goal
 
 pub returns-clause-end : goal.returns-clause-end

@@ -1,5 +1,4 @@
 use Rattle.im_laws.proofs.ResumeLemmas.{store-answers}
-use Rattle.im_laws.proofs.waiters.store_answers_every_reader.Goals as goal
 
-pub returns : goal.returns
+pub returns : Rattle.im_laws.proofs.waiters.store_answers_every_reader.Goals.returns
 returns c = store-answers

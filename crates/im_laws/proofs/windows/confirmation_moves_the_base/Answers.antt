@@ -1,5 +1,4 @@
 use Rattle.im_laws.proofs.AcceptLemmas.{accepted-moves_base}
-use Rattle.im_laws.proofs.windows.confirmation_moves_the_base.Goals as goal
 
-pub returns : goal.returns
+pub returns : Rattle.im_laws.proofs.windows.confirmation_moves_the_base.Goals.returns
 returns c = accepted-moves_base

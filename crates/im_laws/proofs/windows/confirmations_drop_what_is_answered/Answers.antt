@@ -1,5 +1,5 @@
-use Rattle.im_laws.proofs.JudgeLemmas.{confirmed-confirmable, step-confirmed, kept_for-confirmed, confirm-cells}
-use Rattle.im_laws.proofs.JudgeLemmas.{confirm-no_element, confirm-gap, confirm-waits}
+use Rattle.im_laws.proofs.JudgeLemmas.{confirm-cells, confirm-gap, confirm-no_element, confirm-waits}
+use Rattle.im_laws.proofs.JudgeLemmas.{confirmed-confirmable, kept_for-confirmed, step-confirmed}
 use Rattle.im_laws.proofs.windows.confirmations_drop_what_is_answered.Goals as goal
 
 pub returns-clause-confirmed : goal.returns-clause-confirmed

@@ -1,6 +1,5 @@
-use Rattle.im_laws.proofs.ForgetLemmas.{bounds-forgotten, ask-forgotten}
-use Rattle.im_laws.proofs.EntryLemmas.{ask-kept}
-use Rattle.im_laws.proofs.JudgeLemmas.{bounds-kept, ask-gap, ask-no_element}
+use Rattle.im_laws.proofs.{EntryLemmas.ask-kept, ForgetLemmas.ask-forgotten, ForgetLemmas.bounds-forgotten}
+use Rattle.im_laws.proofs.JudgeLemmas.{ask-gap, ask-no_element, bounds-kept}
 use Rattle.im_laws.proofs.windows.entries_are_kept_within_bounds.Goals as goal
 
 pub returns-clause-below : goal.returns-clause-below

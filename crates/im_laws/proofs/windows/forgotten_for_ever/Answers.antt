@@ -1,4 +1,4 @@
-use Rattle.im_laws.proofs.ForgetLemmas.{after-forgotten, step-forgotten, ask-forgotten, asked-forgotten}
+use Rattle.im_laws.proofs.ForgetLemmas.{after-forgotten, ask-forgotten, asked-forgotten, step-forgotten}
 use Rattle.im_laws.proofs.windows.forgotten_for_ever.Goals as goal
 
 pub returns-clause-stays : goal.returns-clause-stays

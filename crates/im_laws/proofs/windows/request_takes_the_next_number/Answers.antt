@@ -1,5 +1,4 @@
 use Rattle.im_laws.proofs.AcceptLemmas.{accepted-takes_next}
-use Rattle.im_laws.proofs.windows.request_takes_the_next_number.Goals as goal
 
-pub returns : goal.returns
+pub returns : Rattle.im_laws.proofs.windows.request_takes_the_next_number.Goals.returns
 returns c = accepted-takes_next

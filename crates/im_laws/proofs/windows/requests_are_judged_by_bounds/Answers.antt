@@ -1,4 +1,4 @@
-use Rattle.im_laws.proofs.JudgeLemmas.{accepted-next, next-accepted, step-no_element, step-gap, step-full}
+use Rattle.im_laws.proofs.JudgeLemmas.{accepted-next, next-accepted, step-full, step-gap, step-no_element}
 use Rattle.im_laws.proofs.windows.requests_are_judged_by_bounds.Goals as goal
 
 pub returns-clause-accepted : goal.returns-clause-accepted

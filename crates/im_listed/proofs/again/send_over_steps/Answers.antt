@@ -1,13 +1,9 @@
-use Rattle.std.proofs.Common.{◌≡◌, ◌⊎◌, inl, inr, ⊎_elim, List, ℕ, [], refl, subst}
-use Rattle.im_types.specs.declared.commands.Command.TheVariants.{Request as Asks}
-use Rattle.im_types.specs.Step.{step}
-use Rattle.im_disk.specs.Moment.{Left}
-use Rattle.im_disk.proofs.SinceLemmas.{left_now}
+use Rattle.std.proofs.Common.{◌≡◌, ℕ, ◌⊎◌, List, [], refl, subst, inl, inr, ⊎_elim}
+use Rattle.{im_types.specs.Types.Asks, im_types.specs.Types.step, im_promise.proofs.Recovering.still_means}
+use Rattle.im_disk.{proofs.SinceLemmas.left_now, specs.Moment.Left}
 use Rattle.im_engine.specs.State.{EngineState, MeansEither, MeansState, with_command}
-use Rattle.im_promise.proofs.Sent.{by_is_false, is_false_by, sent_once, no_fault_of_one}
-use Rattle.im_promise.proofs.Recovering.{still_means}
-use Rattle.im_listed.specs.Listing.{Listing}
-use Rattle.im_listed.specs.Image.{begun_in}
+use Rattle.im_promise.proofs.Sent.{by_is_false, is_false_by, no_fault_of_one, sent_once}
+use Rattle.im_listed.specs.{Image.begun_in, Listing.Listing}
 use Rattle.im_listed.proofs.again.send_over_steps.Goals as goal
 
 pub returns-in-Ok-clause-once : goal.returns-in-Ok-clause-once

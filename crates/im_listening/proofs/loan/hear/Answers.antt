@@ -1,9 +1,8 @@
 use Rattle.std.proofs.Common.{◌≡◌, rules}
-use Rattle.im_listening.specs.declared.delivery.Delivery.TheVariants as heard_as
 use Rattle.im_listening.proofs.LendingLemmas.{waited}
-use Rattle.im_listening.proofs.loan.hear.Goals as goal
+use Rattle.im_listening.specs.declared.delivery.Delivery.TheVariants as heard_as
 
-pub invariant_of-loan : goal.invariant_of-loan
+pub invariant_of-loan : Rattle.im_listening.proofs.loan.hear.Goals.invariant_of-loan
 invariant_of-loan g c =
     let nothing : c.args.loan.now.heard ≡ heard_as.Nothing = search rules in
     record {

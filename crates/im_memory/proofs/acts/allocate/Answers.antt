@@ -1,6 +1,5 @@
 use Rattle.std.proofs.Common.{arith}
-use Rattle.im_memory.proofs.ActLemmas.{placed-HasActed, unplaced-HasActed}
-use Rattle.im_memory.proofs.TouchLemmas.{placed-change}
+use Rattle.im_memory.proofs.{ActLemmas.placed-HasActed, ActLemmas.unplaced-HasActed, TouchLemmas.placed-change}
 use Rattle.im_memory.proofs.acts.allocate.Goals as goal
 
 pub returns-in-Some-clause-acted : goal.returns-in-Some-clause-acted

@@ -1,11 +1,8 @@
-use Rattle.std.proofs.Common.{rules, ◌<◌, length, sym, ◌∙◌}
-use Rattle.std.proofs.lemmas.Option.{slice_get_within}
-use Rattle.im_arena.specs.Lists.{list_at}
-use Rattle.im_istore.proofs.Cells.{list_at-same}
-use Rattle.im_memory.proofs.TouchLemmas.{record-drained, away-drained}
-use Rattle.im_memory.proofs.acts.drain.Goals as goal
+use Rattle.std.proofs.{Common.◌<◌, Common.length, Common.sym, Common.◌∙◌, Common.rules, lemmas.Option.slice_get_within}
+use Rattle.{im_arena.specs.Lists.list_at, im_istore.proofs.Cells.list_at-same}
+use Rattle.im_memory.proofs.TouchLemmas.{away-drained, record-drained}
 
-pub loop-reader-preserved : goal.loop-reader-preserved
+pub loop-reader-preserved : Rattle.im_memory.proofs.acts.drain.Goals.loop-reader-preserved
 loop-reader-preserved c =
     let old = c.loop-reader.arena in
     let some : 0 < length (list_at old.held c.args.a) = slice_get_within _ 0 c.in-Some.reader

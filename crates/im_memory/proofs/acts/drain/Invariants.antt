@@ -1,12 +1,7 @@
-use Rattle.std.proofs.Common.{◌≡◌, ◌≢◌, ℕ, ◌<◌, List, Option, length, slice_get}
-use Rattle.im_types.specs.Window.{answer_each}
-use Rattle.im_cell.specs.declared.slots.Slot.{Slot}
-use Rattle.im_arena.specs.Lists.{list_at}
-use Rattle.im_istore.specs.Joined.{cells_of}
-use Rattle.im_istore.specs.Agreement.{AgreeBut}
-use Rattle.im_istore.specs.Access.{replies_to}
-use Rattle.im_memory.specs.Changing.{IsAway}
-use Rattle.im_memory.specs.Resuming.{AreAwaited}
+use Rattle.std.proofs.Common.{◌≡◌, ℕ, ◌<◌, ◌≢◌, List, length, slice_get, Option}
+use Rattle.{im_types.specs.Types.answer_each, im_arena.specs.Lists.list_at, im_cell.specs.declared.Slot.Slot}
+use Rattle.im_istore.specs.{Access.replies_to, Agreement.AgreeBut, Joined.cells_of}
+use Rattle.im_memory.specs.{Changing.IsAway, Resuming.AreAwaited}
 use Rattle.im_memory.proofs.acts.drain.Given as goal
 
 -- those that are left on the list still have to be answered, and then all are

@@ -1,5 +1,5 @@
 use Rattle.std.proofs.Common.{sym}
-use Rattle.im_types.specs.declared.operations.Waiter.{Waiter}
+use Rattle.im_types.specs.Types.{Waiter}
 use Rattle.im_memory.proofs.TouchLemmas.{put-change, put-served}
 use Rattle.im_memory.proofs.acts.put.Goals as goal
 

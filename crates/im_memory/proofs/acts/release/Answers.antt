@@ -1,5 +1,4 @@
-use Rattle.im_memory.proofs.ActLemmas.{releasable-found, released-HasActed}
-use Rattle.im_memory.proofs.TouchLemmas.{released-change}
+use Rattle.im_memory.proofs.{ActLemmas.releasable-found, ActLemmas.released-HasActed, TouchLemmas.released-change}
 use Rattle.im_memory.proofs.acts.release.Goals as goal
 
 pub returns-then-release-clause-acted : goal.returns-then-release-clause-acted

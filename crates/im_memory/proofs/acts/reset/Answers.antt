@@ -1,5 +1,4 @@
-use Rattle.im_memory.proofs.ActLemmas.{releasable-found, reset-HasActed}
-use Rattle.im_memory.proofs.TouchLemmas.{reset-change}
+use Rattle.im_memory.proofs.{ActLemmas.releasable-found, ActLemmas.reset-HasActed, TouchLemmas.reset-change}
 use Rattle.im_memory.proofs.acts.reset.Goals as goal
 
 pub returns-then-reset-clause-acted : goal.returns-then-reset-clause-acted

@@ -1,9 +1,7 @@
-use Rattle.std.proofs.Common.{ap, sym, ◌∙◌}
-use Rattle.im_types.specs.declared.operations.Waiter.{Waiter}
+use Rattle.std.proofs.Common.{sym, ap, ◌∙◌}
+use Rattle.im_types.specs.Types.{Reply, Waiter, Answered}
 use Rattle.im_istore.proofs.Cells.{AgreeBut-inside}
-use Rattle.im_types.specs.declared.operations.Reply.{Reply}
-use Rattle.im_types.specs.declared.operations.Entry.TheVariants.{Answered}
-use Rattle.im_memory.proofs.TouchLemmas.{store-change, store-among}
+use Rattle.im_memory.proofs.TouchLemmas.{store-among, store-change}
 use Rattle.im_memory.proofs.acts.store.Goals as goal
 
 anyone : Waiter

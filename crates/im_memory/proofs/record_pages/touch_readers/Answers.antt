@@ -1,6 +1,6 @@
 use Rattle.std.proofs.Common.{length, ap, ◌∙◌, arith}
 use Rattle.im_pages.specs.Places.{page_of_node, page_of_session}
-use Rattle.im_memory.proofs.CoverLemmas.{nodes-more, nodes-end, sessions-more, sessions-end}
+use Rattle.im_memory.proofs.CoverLemmas.{nodes-end, nodes-more, sessions-end, sessions-more}
 use Rattle.im_memory.proofs.record_pages.touch_readers.Goals as goal
 
 pub loop-reader-preserved : goal.loop-reader-preserved

@@ -1,14 +1,10 @@
-use Rattle.std.proofs.Common.{◌≡◌, ◌≤◌, ◌+◌, ◌*◌, List, Bool, length}
-use Rattle.im_arena.specs.Lists.{list_at, ends_at, first_in}
-use Rattle.im_pages.specs.Places.{page_of_node, page_of_session}
-use Rattle.im_pages.specs.PageSets.{size_of, IsWithin}
-use Rattle.im_memory.specs.Touched.{nodes_from}
-use Rattle.im_memory.specs.Covering.{AreIn}
-use Rattle.im_memory.proofs.CoverLemmas.{elements_of}
-use Rattle.im_memory.proofs.record_pages.touch_readers.Given as goal
+use Rattle.std.proofs.Common.{◌≡◌, ◌+◌, ◌*◌, ◌≤◌, Bool, List, length}
+use Rattle.im_pages.specs.{PageSets.IsWithin, PageSets.size_of, Places.page_of_node, Places.page_of_session}
+use Rattle.im_arena.specs.Lists.{ends_at, first_in, list_at}
+use Rattle.im_memory.{proofs.CoverLemmas.elements_of, specs.Covering.AreIn, specs.Touched.nodes_from}
 
 -- a set that has all that is there so far, and what is left, has all
-abbrev pub invariant-loop-reader : goal.invariant-loop-reader
+abbrev pub invariant-loop-reader : Rattle.im_memory.proofs.record_pages.touch_readers.Given.invariant-loop-reader
 invariant-loop-reader l = record {
   nodes : (set : List Bool) → IsWithin l.pages set
       → AreIn (page_of_node (length l.arena.held.lists)) set

@@ -1,6 +1,6 @@
-use Rattle.std.proofs.Common.{sym, subst, length, arith}
+use Rattle.std.proofs.Common.{length, sym, subst, arith}
+use Rattle.im_memory.proofs.RecordLemmas.{ends-past, ends-read, ends-within}
 use Rattle.im_memory.specs.Shown.{AreWithin}
-use Rattle.im_memory.proofs.RecordLemmas.{ends-within, ends-past, ends-read}
 use Rattle.im_memory.proofs.records.ends_at.Goals as goal
 
 pub returns-then-a-list_count-clause-ends : goal.returns-then-a-list_count-clause-ends

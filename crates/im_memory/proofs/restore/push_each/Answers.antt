@@ -1,8 +1,7 @@
 use Rattle.std.proofs.Common.{arith}
-use Rattle.im_memory.proofs.RestoreLemmas.{room-left, one-more}
-use Rattle.im_memory.proofs.restore.push_each.Goals as goal
+use Rattle.im_memory.proofs.RestoreLemmas.{one-more, room-left}
 
-pub loop-waiter-preserved : goal.loop-waiter-preserved
+pub loop-waiter-preserved : Rattle.im_memory.proofs.restore.push_each.Goals.loop-waiter-preserved
 loop-waiter-preserved c =
     let held = c.args.arena.now.held in
     let list = c.args.list in

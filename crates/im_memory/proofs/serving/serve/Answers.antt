@@ -1,9 +1,8 @@
 use Rattle.std.proofs.Common.{sym, ap, ◌∙◌, subst}
-use Rattle.im_types.specs.Window.{answer_each, note_in}
-use Rattle.im_memory.specs.Resuming.{replies_of, AreAwaited}
-use Rattle.im_memory.proofs.RoomLemmas.{room-fresh}
-use Rattle.im_memory.proofs.MakesLemmas.{resumed-awaited, makes-served}
+use Rattle.im_types.specs.Types.{note_in, answer_each}
+use Rattle.im_memory.proofs.{MakesLemmas.makes-served, MakesLemmas.resumed-awaited, RoomLemmas.room-fresh}
 use Rattle.im_memory.proofs.TouchLemmas.{resumed-change, served-change}
+use Rattle.im_memory.specs.Resuming.{AreAwaited, replies_of}
 use Rattle.im_memory.proofs.serving.serve.Goals as goal
 
 pub act-acted-requires-clause-room : goal.act-acted-requires-clause-room

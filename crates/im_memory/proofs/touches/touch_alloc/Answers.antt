@@ -1,9 +1,7 @@
-use Rattle.std.proofs.Common.{◌≡◌, ◌≤◌, ◌+◌, arith, refl, sym, ◌∙◌, subst}
-use Rattle.im_laws.proofs.BlockLemmas.{place-fits}
-use Rattle.im_pages.specs.PageSets.{size_of}
+use Rattle.std.proofs.Common.{◌≡◌, ◌+◌, ◌≤◌, sym, refl, ◌∙◌, subst, arith}
+use Rattle.{im_laws.proofs.BlockLemmas.place-fits, im_pages.specs.PageSets.size_of}
+use Rattle.im_memory.proofs.{CellsLemmas.place-cells, CoverLemmas.alloc-block, CoverLemmas.alloc-none}
 use Rattle.im_memory.specs.Covering.{most_by_new, with_new}
-use Rattle.im_memory.proofs.CellsLemmas.{place-cells}
-use Rattle.im_memory.proofs.CoverLemmas.{alloc-block, alloc-none}
 use Rattle.im_memory.proofs.touches.touch_alloc.Goals as goal
 
 pub touch_cells-requires : goal.touch_cells-requires

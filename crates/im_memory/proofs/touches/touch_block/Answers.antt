@@ -1,8 +1,7 @@
-use Rattle.std.proofs.Common.{◌≡◌, ◌≤◌, ◌+◌, refl, subst}
+use Rattle.std.proofs.Common.{◌≡◌, ◌+◌, ◌≤◌, refl, subst}
 use Rattle.im_pages.specs.PageSets.{size_of}
-use Rattle.im_memory.specs.Covering.{most_by_block, with_block}
-use Rattle.im_memory.proofs.TouchLemmas.{found-base}
 use Rattle.im_memory.proofs.CoverLemmas.{is-inner, is-none, whole-block, whole-inner, whole-none}
+use Rattle.im_memory.{proofs.TouchLemmas.found-base, specs.Covering.most_by_block, specs.Covering.with_block}
 use Rattle.im_memory.proofs.touches.touch_block.Goals as goal
 
 pub returns-then-block-a-clause-places : goal.returns-then-block-a-clause-places

@@ -1,8 +1,7 @@
 use Rattle.std.proofs.Common.{Ok, sym, ap, ◌∙◌, arith}
-use Rattle.im_types.specs.declared.operations.Kind.TheVariants.{I}
-use Rattle.im_memory.specs.State.{rows_of}
-use Rattle.im_memory.specs.Touched.{by_fetch, last_at}
-use Rattle.im_memory.proofs.CoverLemmas.{HasPlaces-err, HasPlaces-ok, fetch-open, most-ok}
+use Rattle.im_types.specs.Types.{I}
+use Rattle.im_memory.proofs.CoverLemmas.{fetch-open, HasPlaces-err, HasPlaces-ok, most-ok}
+use Rattle.im_memory.specs.{State.rows_of, Touched.by_fetch, Touched.last_at}
 use Rattle.im_memory.proofs.touches.touch_fetch.Goals as goal
 
 pub returns-in-Err-clause-places : goal.returns-in-Err-clause-places

@@ -1,6 +1,5 @@
-use Rattle.im_types.specs.declared.operations.Kind.TheVariants.{I, M}
-use Rattle.im_types.specs.Act.{fetch, store, take_from, put}
-use Rattle.im_memory.proofs.CoverLemmas.{no_cell, fetch-tells, store-tells, take-tells, put-tells}
+use Rattle.im_types.specs.Types.{I, M, fetch, store, take_from, put}
+use Rattle.im_memory.proofs.CoverLemmas.{fetch-tells, no_cell, put-tells, store-tells, take-tells}
 use Rattle.im_memory.proofs.touches.touch_op.Goals as goal
 
 pub returns-in-Fetch-clause-alone : goal.returns-in-Fetch-clause-alone

@@ -1,14 +1,10 @@
-use Rattle.std.proofs.Common.{Ok, ◌≡◌, refl, [], length, sym, ap, ◌∙◌, arith}
-use Rattle.im_types.specs.declared.operations.Kind.TheVariants.{M}
-use Rattle.im_types.specs.declared.cells.Cell.TheVariants.{Waiting}
-use Rattle.im_types.specs.Contents.{Empty as IsEmpty}
-use Rattle.im_types.specs.Act.{put}
+use Rattle.std.proofs.Common.{◌≡◌, [], length, Ok, sym, refl, ap, ◌∙◌, arith}
+use Rattle.im_types.specs.Types.{M, Empty as IsEmpty, CellWaiting as Waiting, put}
 use Rattle.im_pages.specs.Places.{page_of_session}
-use Rattle.im_memory.specs.State.{rows_of}
-use Rattle.im_memory.specs.Touched.{by_put, first_at}
-use Rattle.im_memory.proofs.CoverLemmas.{HasPlaces-err, HasPlaces-ok, resumed-err, resumed-ok, most-ok, nobody}
-use Rattle.im_memory.proofs.CoverLemmas.{somebody, put-taker, other-cell, quiet-state, told-none, told-taker}
-use Rattle.im_memory.proofs.CoverLemmas.{quiet-cell}
+use Rattle.im_memory.proofs.CoverLemmas.{HasPlaces-err, HasPlaces-ok, most-ok, nobody, other-cell, put-taker}
+use Rattle.im_memory.proofs.CoverLemmas.{quiet-cell, quiet-state, resumed-err, resumed-ok, somebody, told-none}
+use Rattle.im_memory.proofs.CoverLemmas.{told-taker}
+use Rattle.im_memory.specs.{State.rows_of, Touched.by_put, Touched.first_at}
 use Rattle.im_memory.proofs.touches.touch_put.Goals as goal
 
 pub returns-in_default-clause-places : goal.returns-in_default-clause-places

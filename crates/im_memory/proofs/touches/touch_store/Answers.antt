@@ -1,15 +1,9 @@
-use Rattle.std.proofs.Common.{Ok, ◌≡◌, [], refl, length, sym, ap, ◌∙◌, arith}
-use Rattle.im_types.specs.declared.operations.Kind.TheVariants.{I}
-use Rattle.im_types.specs.declared.cells.Cell.TheVariants.{Waiting}
-use Rattle.im_types.specs.Act.{store}
-use Rattle.im_arena.specs.Lists.{list_at}
-use Rattle.im_pages.specs.Places.{page_of_session}
-use Rattle.im_memory.specs.State.{rows_of}
-use Rattle.im_memory.specs.Touched.{by_store, first_at}
-use Rattle.im_memory.specs.Covering.{most_by_store}
-use Rattle.im_memory.proofs.CoverLemmas.{HasPlaces-err, HasPlaces-ok, resumed-err, resumed-ok, most-ok, nobody}
-use Rattle.im_memory.proofs.CoverLemmas.{store-readers, other-cell, quiet-state, quiet-cell, told-none}
-use Rattle.im_memory.proofs.CoverLemmas.{told-readers}
+use Rattle.std.proofs.Common.{◌≡◌, [], length, Ok, sym, refl, ap, ◌∙◌, arith}
+use Rattle.im_types.specs.Types.{I, CellWaiting as Waiting, store}
+use Rattle.{im_pages.specs.Places.page_of_session, im_arena.specs.Lists.list_at}
+use Rattle.im_memory.proofs.CoverLemmas.{HasPlaces-err, HasPlaces-ok, most-ok, nobody, other-cell, quiet-cell}
+use Rattle.im_memory.proofs.CoverLemmas.{quiet-state, resumed-err, resumed-ok, store-readers, told-none, told-readers}
+use Rattle.im_memory.specs.{Covering.most_by_store, State.rows_of, Touched.by_store, Touched.first_at}
 use Rattle.im_memory.proofs.touches.touch_store.Goals as goal
 
 pub returns-in-Err-clause-places : goal.returns-in-Err-clause-places

@@ -1,8 +1,7 @@
 use Rattle.std.proofs.Common.{Ok, sym, ap, ◌∙◌, arith}
-use Rattle.im_types.specs.declared.operations.Kind.TheVariants.{M}
-use Rattle.im_memory.specs.State.{rows_of}
-use Rattle.im_memory.specs.Touched.{by_take, last_at}
-use Rattle.im_memory.proofs.CoverLemmas.{HasPlaces-err, HasPlaces-ok, take-open, most-ok}
+use Rattle.im_types.specs.Types.{M}
+use Rattle.im_memory.proofs.CoverLemmas.{HasPlaces-err, HasPlaces-ok, most-ok, take-open}
+use Rattle.im_memory.specs.{State.rows_of, Touched.by_take, Touched.last_at}
 use Rattle.im_memory.proofs.touches.touch_take.Goals as goal
 
 pub returns-in_default-clause-places : goal.returns-in_default-clause-places

@@ -1,6 +1,6 @@
-use Rattle.std.proofs.Common.{true, false, sym, ap, ◌∙◌, ◌-◌, ◌+◌, take, drop, arith}
+use Rattle.std.proofs.Common.{◌+◌, ◌-◌, true, false, take, drop, sym, ap, ◌∙◌, arith}
 use Rattle.std.specs.List.{list_any}
-use Rattle.im_types.specs.Window.{is_waiting}
+use Rattle.im_types.specs.Types.{is_waiting}
 use Rattle.im_memory.proofs.ConfirmLemmas.{waits-step}
 use Rattle.im_memory.proofs.windows.any_waits.Goals as goal
 

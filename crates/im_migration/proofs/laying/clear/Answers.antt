@@ -1,8 +1,7 @@
 use Rattle.std.proofs.Common.{◌∙◌, arith}
 use Rattle.im_migration.proofs.Blank.{blank_then}
-use Rattle.im_migration.proofs.laying.clear.Goals as goal
 
-pub loop-page-preserved : goal.loop-page-preserved
+pub loop-page-preserved : Rattle.im_migration.proofs.laying.clear.Goals.loop-page-preserved
 loop-page-preserved g c = record {
   near = omega (arith, c.loop-page-test.true);
   few = c.loop-page.invariant.few;

@@ -1,5 +1,5 @@
 use Rattle.std.proofs.Common.{◌≡◌, ◌+◌, ◌-◌, ◌*◌, ◌^◌, ◌≤◌, length}
-use Rattle.im_types.specs.Layout.{layout_in_use, image_length, sizes_of}
+use Rattle.im_types.specs.Types.{layout_in_use, sizes_of, image_length}
 use Rattle.im_migration.specs.Laying.{AreCleared, StaysBlank}
 use Rattle.im_migration.proofs.laying.clear.Given as goal
 

@@ -1,15 +1,14 @@
-use Rattle.std.proofs.Common.{◌≡◌, ◌+◌, ◌-◌, ◌≤◌, List, ℕ, length, take, replicate, subst, sym, arith, length-take}
-use Rattle.std.proofs.Common.{Result, Ok, Err, OnOk}
+use Rattle.std.proofs.Common.{◌≡◌, ℕ, ◌+◌, ◌-◌, ◌≤◌, List, length, take, replicate, OnOk, Ok, Err, Result, sym, subst}
+use Rattle.std.proofs.Common.{arith, length-take}
 use Rattle.std.proofs.lemmas.List.{length-replicate}
-use Rattle.im_migration.specs.Laying.{AreCleared}
 use Rattle.im_migration.proofs.Cleared.{cleared_more, replicated, taken}
-use Rattle.im_migration.proofs.laying.clear_page.Goals as goal
+use Rattle.im_migration.specs.Laying.{AreCleared}
 
 on_ok : {T E P Q : Type 0} (r : Result T E) → OnOk r P → (P → Q) → OnOk r Q
 on_ok (Ok x) p then = then p
 on_ok (Err e) p then = tt
 
-pub returns-clause-cleared : goal.returns-clause-cleared
+pub returns-clause-cleared : Rattle.im_migration.proofs.laying.clear_page.Goals.returns-clause-cleared
 returns-clause-cleared g c = on_ok c.write_beside.result c.write_beside.ensures.written (λ w h before.
     let from = c.piece-from.result.0 in
     let end = c.piece-from.result.1 in

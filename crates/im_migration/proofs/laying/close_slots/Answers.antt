@@ -1,9 +1,7 @@
-use Rattle.std.proofs.Common.{◌≡◌, ◌+◌, ◌∙◌, [], ◌∷◌, length, ap, subst, sym, arith, List, ℕ}
-use Rattle.im_types.specs.Layout.{area_pages, layout_in_use, sizes_of}
+use Rattle.std.proofs.Common.{◌≡◌, ℕ, ◌+◌, List, [], ◌∷◌, length, sym, ap, ◌∙◌, subst, arith}
+use Rattle.im_types.specs.Types.{layout_in_use, sizes_of, area_pages}
 use Rattle.im_disk.proofs.OverlayLemmas.{length-overlaid}
-use Rattle.im_migration.specs.Laying.{IsLaid}
-use Rattle.im_migration.proofs.Blank.{blank_then}
-use Rattle.im_migration.proofs.Laid.{laid_slot, length_is}
+use Rattle.im_migration.{proofs.Blank.blank_then, proofs.Laid.laid_slot, proofs.Laid.length_is, specs.Laying.IsLaid}
 use Rattle.im_migration.proofs.laying.close_slots.Goals as goal
 
 pub loop-slot-preserved : goal.loop-slot-preserved

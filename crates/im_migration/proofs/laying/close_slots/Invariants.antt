@@ -1,10 +1,8 @@
 use Rattle.std.proofs.Common.{◌≡◌, length}
-use Rattle.im_types.specs.Layout.{layout_in_use, area_pages, image_length, sizes_of}
-use Rattle.im_types.specs.Pages.{Records}
+use Rattle.im_types.specs.Types.{layout_in_use, sizes_of, area_pages, image_length, Records}
 use Rattle.im_migration.specs.Laying.{IsLaid, StaysBlank}
-use Rattle.im_migration.proofs.laying.close_slots.Given as goal
 
-abbrev pub invariant-loop-slot : goal.invariant-loop-slot
+abbrev pub invariant-loop-slot : Rattle.im_migration.proofs.laying.close_slots.Given.invariant-loop-slot
 invariant-loop-slot g l = record {
   honest : g.N.Disk.honest l.new → g.N.Disk.honest l.fn.new;
   laid : g.N.Disk.honest l.new → (r : Records)

@@ -1,16 +1,10 @@
-use Rattle.std.proofs.Common.{rules, ◌≡◌, ◌⊎◌, inl, subst, sym, Result, Ok, Err, OnOk}
-use Rattle.im_types.specs.Header.{Header, header_body}
-use Rattle.im_types.specs.Layout.{sizes_of}
-use Rattle.im_types.specs.Pages.{Records, ShowsRecords}
-use Rattle.im_disk.specs.Moment.{overlaid}
-use Rattle.im_disk.specs.Since.{LeavesNow, LeavesOnly}
+use Rattle.std.proofs.Common.{◌≡◌, ◌⊎◌, OnOk, Ok, Err, Result, sym, subst, inl, rules}
+use Rattle.im_types.specs.Types.{sizes_of, Header, header_body, Records, ShowsRecords}
 use Rattle.im_disk.proofs.SinceLemmas.{left_now, only_weaker}
-use Rattle.im_image.specs.Encoding.{AreCounted}
-use Rattle.im_image.specs.Headers.{seen}
-use Rattle.im_image.proofs.Encoding.{counted}
+use Rattle.im_disk.specs.{Moment.overlaid, Since.LeavesNow, Since.LeavesOnly}
+use Rattle.im_image.{proofs.Encoding.counted, specs.Encoding.AreCounted, specs.Headers.seen}
+use Rattle.im_migration.proofs.{Blank.blank_then, Opened.laid_now, Opened.leaves_laid}
 use Rattle.im_migration.specs.Migration.{IsBlank, IsLaidDown}
-use Rattle.im_migration.proofs.Blank.{blank_then}
-use Rattle.im_migration.proofs.Opened.{leaves_laid, laid_now}
 use Rattle.im_migration.proofs.laying.lay_down.Goals as goal
 
 on_ok : {T E P Q : Type 0} (r : Result T E) → OnOk r P → (P → Q) → OnOk r Q

@@ -1,8 +1,7 @@
 use Rattle.std.proofs.Common.{rules}
 use Rattle.im_migration.proofs.Blank.{blank_write}
-use Rattle.im_migration.proofs.laying.write_beside.Goals as goal
 
-pub returns-clause-runs : goal.returns-clause-runs
+pub returns-clause-runs : Rattle.im_migration.proofs.laying.write_beside.Goals.returns-clause-runs
 returns-clause-runs g c = record {
   honest = search rules;
   kept = λ h.

@@ -1,12 +1,11 @@
-use Rattle.std.proofs.Common.{◌≡◌, take, drop, subst, List, ℕ, Result, Ok, Err, OnOk}
+use Rattle.std.proofs.Common.{◌≡◌, ℕ, List, take, drop, OnOk, Ok, Err, Result, subst}
 use Rattle.im_disk.specs.Moment.{overlaid}
-use Rattle.im_migration.proofs.laying.write_header.Goals as goal
 
 on_ok : {T E P Q : Type 0} (r : Result T E) → OnOk r P → (P → Q) → OnOk r Q
 on_ok (Ok x) p then = then p
 on_ok (Err e) p then = tt
 
-pub returns-clause-written : goal.returns-clause-written
+pub returns-clause-written : Rattle.im_migration.proofs.laying.write_header.Goals.returns-clause-written
 returns-clause-written g c = on_ok c.write_beside.result c.write_beside.ensures.written (λ w h.
     subst (λ (b : List ℕ). (g.N.Disk.now c.write_beside.new.new).bytes
     ≡ overlaid (g.N.Disk.now c.args.new.now).bytes 1 (take 63 (drop 1 b))) c.spell-bytes.ensures (w h))

@@ -1,11 +1,8 @@
-use Rattle.std.proofs.Common.{rules, ◌≡◌, ◌+◌, ◌∙◌, length, subst, sym, arith, List, ℕ}
-use Rattle.im_types.specs.Layout.{sizes_of}
-use Rattle.im_migration.specs.Laying.{IsLaid}
-use Rattle.im_migration.proofs.Blank.{blank_then}
-use Rattle.im_migration.proofs.Laid.{laid_page}
-use Rattle.im_migration.proofs.laying.write_pages.Goals as goal
+use Rattle.std.proofs.Common.{◌≡◌, ℕ, ◌+◌, List, length, sym, ◌∙◌, subst, arith, rules}
+use Rattle.im_types.specs.Types.{sizes_of}
+use Rattle.im_migration.{proofs.Blank.blank_then, proofs.Laid.laid_page, specs.Laying.IsLaid}
 
-pub loop-i-preserved : goal.loop-i-preserved
+pub loop-i-preserved : Rattle.im_migration.proofs.laying.write_pages.Goals.loop-i-preserved
 loop-i-preserved g c = record {
   honest = λ h. c.loop-i.invariant.honest (c.write_beside.ensures.runs.honest h);
   laid = λ h.

@@ -1,8 +1,7 @@
-use Rattle.std.proofs.Common.{inl, inr, ⊎_elim, sym, ap, subst}
-use Rattle.im_types.specs.Layout.{Sizes, sizes_of}
-use Rattle.im_image.specs.Headers.{seen}
-use Rattle.im_migration.specs.Migration.{IsPlace}
+use Rattle.std.proofs.Common.{sym, ap, subst, inl, inr, ⊎_elim}
+use Rattle.{im_types.specs.Types.Sizes, im_types.specs.Types.sizes_of, im_image.specs.Headers.seen}
 use Rattle.im_migration.proofs.Parts.{has_count, leaves_same, means_same, refused_old, refused_place, same_sizes}
+use Rattle.im_migration.specs.Migration.{IsPlace}
 use Rattle.im_migration.proofs.moving.migrate.Goals as goal
 
 pub returns-in-Ok-put_image-clause-leaves : goal.returns-in-Ok-put_image-clause-leaves

@@ -1,6 +1,5 @@
-use Rattle.std.proofs.Common.{◌≡◌, ◌⊎◌, ap, inl, inr, subst}
-use Rattle.im_types.specs.Header.{Header}
-use Rattle.im_types.specs.Layout.{Sizes, sizes_of}
+use Rattle.std.proofs.Common.{◌≡◌, ◌⊎◌, ap, subst, inl, inr}
+use Rattle.im_types.specs.Types.{Sizes, sizes_of, Header}
 use Rattle.im_disk.specs.Since.{LeavesWithin}
 use Rattle.im_migration.specs.Migration.{BlankOrLaid, IsLaidDown, PlaceFails}
 use Rattle.im_migration.proofs.preparing.put_memory.Goals as goal

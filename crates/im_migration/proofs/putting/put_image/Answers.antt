@@ -1,7 +1,6 @@
 use Rattle.std.proofs.Common.{rules}
 use Rattle.im_image.specs.Headers.{seen}
-use Rattle.im_migration.specs.Migration.{BlankOrLaid}
-use Rattle.im_migration.proofs.Blank.{leaves_after}
+use Rattle.im_migration.{proofs.Blank.leaves_after, specs.Migration.BlankOrLaid}
 use Rattle.im_migration.proofs.putting.put_image.Goals as goal
 
 pub returns-in-Ok-clause-runs : goal.returns-in-Ok-clause-runs

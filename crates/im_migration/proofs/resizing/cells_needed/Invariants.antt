@@ -1,5 +1,5 @@
-use Rattle.std.proofs.Common.{◌≡◌, ◌≤◌, ℕ, None}
-use Rattle.im_types.specs.Contents.{held_at}
+use Rattle.std.proofs.Common.{◌≡◌, ℕ, ◌≤◌, None}
+use Rattle.im_types.specs.Types.{held_at}
 use Rattle.im_migration.proofs.resizing.cells_needed.Given as goal
 
 abbrev pub invariant-loop-needed : goal.invariant-loop-needed

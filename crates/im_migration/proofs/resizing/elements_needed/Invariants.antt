@@ -1,5 +1,5 @@
-use Rattle.std.proofs.Common.{◌≡◌, ◌≤◌, ℕ}
-use Rattle.im_types.specs.Contents.{new_window}
+use Rattle.std.proofs.Common.{◌≡◌, ℕ, ◌≤◌}
+use Rattle.im_types.specs.Types.{new_window}
 use Rattle.im_migration.specs.Resizing.{window_at}
 use Rattle.im_migration.proofs.resizing.elements_needed.Given as goal
 

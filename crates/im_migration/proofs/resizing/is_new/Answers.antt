@@ -1,4 +1,4 @@
-use Rattle.std.proofs.lemmas.Bool.{eqb-false, eqb-true}
+use Rattle.std.proofs.{Common.eqb-true, lemmas.Bool.eqb-false}
 use Rattle.im_migration.proofs.OtherSizes.{bounds-of-new, new-by-bounds, new-by-none}
 use Rattle.im_migration.proofs.resizing.is_new.Goals as goal
 

@@ -1,10 +1,8 @@
-use Rattle.std.proofs.Common.{◌≡◌, ◌+◌, ◌<◌, ◌∙◌, ℕ, List, length, set, get_or, refl, sym, ap, subst, arith}
+use Rattle.std.proofs.Common.{◌≡◌, ℕ, ◌+◌, ◌<◌, List, length, get_or, set, sym, refl, ap, ◌∙◌, subst, arith}
 use Rattle.std.proofs.lemmas.List.Sums.{sum_by_more_le}
-use Rattle.im_types.specs.declared.operations.Waiter.{Waiter}
-use Rattle.im_memory.specs.Restoring.{Parts}
-use Rattle.im_image.proofs.Restored.{ListsPut, begun-all, lists-more, parts-same}
-use Rattle.im_migration.specs.Resizing.{fitted, lists_of}
-use Rattle.im_migration.proofs.Chained.{nobody}
+use Rattle.{im_types.specs.Types.Waiter, im_memory.specs.Restoring.Parts}
+use Rattle.im_image.proofs.Restored.{begun-all, lists-more, ListsPut, parts-same}
+use Rattle.im_migration.{proofs.Chained.nobody, specs.Resizing.fitted, specs.Resizing.lists_of}
 use Rattle.im_migration.proofs.OtherSizes.{length-lists-of, list-at, no_cell, none-put}
 use Rattle.im_migration.proofs.resizing.put_lists.Goals as goal
 

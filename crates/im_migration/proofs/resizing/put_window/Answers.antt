@@ -1,8 +1,6 @@
-use Rattle.std.proofs.Common.{◌≡◌, ◌∙◌, sym, ap, subst}
-use Rattle.im_types.specs.Contents.{Window}
-use Rattle.im_types.specs.Memory.{IsWindow}
-use Rattle.im_migration.specs.Resizing.{window_at}
-use Rattle.im_migration.proofs.OtherSizes.{is-window}
+use Rattle.std.proofs.Common.{◌≡◌, sym, ap, ◌∙◌, subst}
+use Rattle.im_types.specs.Types.{Window, IsWindow}
+use Rattle.im_migration.{proofs.OtherSizes.is-window, specs.Resizing.window_at}
 use Rattle.im_migration.proofs.resizing.put_window.Goals as goal
 
 pub put_window-requires-clause-window : goal.put_window-requires-clause-window

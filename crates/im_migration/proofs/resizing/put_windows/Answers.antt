@@ -1,9 +1,7 @@
-use Rattle.std.proofs.Common.{◌≡◌, ◌+◌, ◌<◌, ◌∙◌, sym, ap, subst, set, get_or, length, arith, List, ℕ, refl}
-use Rattle.im_types.specs.Contents.{Window, new_window}
-use Rattle.im_memory.specs.Restoring.{Parts}
+use Rattle.std.proofs.Common.{◌≡◌, ℕ, ◌+◌, ◌<◌, List, length, get_or, set, sym, refl, ap, ◌∙◌, subst, arith}
+use Rattle.{im_types.specs.Types.Window, im_types.specs.Types.new_window, im_memory.specs.Restoring.Parts}
 use Rattle.im_image.proofs.Restored.{Begun, begun-all, begun-more, parts-same}
-use Rattle.im_migration.specs.Resizing.{fitted}
-use Rattle.im_migration.proofs.Fitted.{fitted-below, length-fitted}
+use Rattle.im_migration.{proofs.Fitted.fitted-below, proofs.Fitted.length-fitted, specs.Resizing.fitted}
 use Rattle.im_migration.proofs.resizing.put_windows.Goals as goal
 
 pub loop-element-init : goal.loop-element-init

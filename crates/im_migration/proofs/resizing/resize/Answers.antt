@@ -1,14 +1,11 @@
-use Rattle.std.proofs.Common.{◌≡◌, ◌∙◌, List, length, refl, sym, ap, subst, arith}
+use Rattle.std.proofs.Common.{◌≡◌, List, length, Option, sym, refl, ap, ◌∙◌, subst, arith}
 use Rattle.std.proofs.lemmas.List.{length-replicate}
-use Rattle.std.specs.Prelude.{Option}
-use Rattle.im_types.specs.Contents.{Contents, Held, new_window}
-use Rattle.im_types.specs.Layout.{Sizes, sizes_of}
-use Rattle.im_memory.specs.Restoring.{AreComplete, Parts, contents_shown}
+use Rattle.im_types.specs.Types.{Held, Contents, new_window, Sizes, sizes_of}
+use Rattle.im_memory.specs.Restoring.{AreComplete, contents_shown, Parts}
 use Rattle.im_image.proofs.Restored.{complete-of, parts-same}
-use Rattle.im_migration.specs.Resizing.{IsResized, fitted, lists_of}
-use Rattle.im_migration.proofs.Chained.{free_cell}
-use Rattle.im_migration.proofs.Fitted.{length-fitted}
+use Rattle.im_migration.proofs.{Chained.free_cell, Fitted.length-fitted}
 use Rattle.im_migration.proofs.OtherSizes.{chained, contents-are, cut, few-wait, is-resized, memory, no_cell, resized}
+use Rattle.im_migration.specs.Resizing.{fitted, IsResized, lists_of}
 use Rattle.im_migration.proofs.resizing.resize.Goals as goal
 
 -- the sizes of a memory

@@ -1,11 +1,8 @@
-use Rattle.std.proofs.Common.{◌∙◌, sym, ap, List, ◌++◌, ◌∷◌, []}
-use Rattle.im_types.specs.declared.records.CellRecord.{CellRecord}
-use Rattle.im_migration.specs.Resizing.{fitted}
-use Rattle.im_migration.proofs.Chained.{free_cell}
-use Rattle.im_migration.proofs.Fitted.{fitted-more}
-use Rattle.im_migration.proofs.resizing.row_of.Goals as goal
+use Rattle.std.proofs.Common.{List, [], ◌∷◌, ◌++◌, sym, ap, ◌∙◌}
+use Rattle.im_types.specs.Types.{CellRecord}
+use Rattle.im_migration.{proofs.Chained.free_cell, proofs.Fitted.fitted-more, specs.Resizing.fitted}
 
-pub loop-a-preserved : goal.loop-a-preserved
+pub loop-a-preserved : Rattle.im_migration.proofs.resizing.row_of.Goals.loop-a-preserved
 loop-a-preserved c =
     c.in_ok-push.ensures
     ∙ ap (λ (row : List CellRecord). row ++ c.cell_record.result ∷ []) c.loop-a.invariant

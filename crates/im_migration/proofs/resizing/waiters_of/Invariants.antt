@@ -1,6 +1,5 @@
 use Rattle.std.proofs.Common.{◌≡◌, ◌++◌}
-use Rattle.im_types.specs.Contents.{waiters_at}
-use Rattle.im_migration.proofs.resizing.waiters_of.Given as goal
+use Rattle.im_types.specs.Types.{waiters_at}
 
-abbrev pub invariant-loop-waiter : goal.invariant-loop-waiter
+abbrev pub invariant-loop-waiter : Rattle.im_migration.proofs.resizing.waiters_of.Given.invariant-loop-waiter
 invariant-loop-waiter l = l.waiters.items ++ l.waiter-iterator ≡ waiters_at l.memory.contents.cells l.a

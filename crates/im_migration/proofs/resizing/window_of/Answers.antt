@@ -1,9 +1,8 @@
-use Rattle.std.proofs.Common.{◌≡◌, ◌-◌, ap, ◌∙◌, sym, take, length, arith, length-take}
-use Rattle.im_image.proofs.Encoding.{bounds-some, bounds-none, past-new, entry-there, entry-more, entries-all}
+use Rattle.std.proofs.Common.{◌≡◌, ◌-◌, length, take, sym, ap, ◌∙◌, arith, length-take}
+use Rattle.im_types.specs.Types.{Window}
+use Rattle.im_image.proofs.Encoding.{bounds-none, bounds-some, entries-all, entry-more, entry-there, past-new}
 use Rattle.im_image.proofs.Encoding.{with_entry}
-use Rattle.im_types.specs.Contents.{Window}
-use Rattle.im_migration.specs.Resizing.{window_at}
-use Rattle.im_migration.proofs.OtherSizes.{is-window}
+use Rattle.im_migration.{proofs.OtherSizes.is-window, specs.Resizing.window_at}
 use Rattle.im_migration.proofs.resizing.window_of.Goals as goal
 
 pub returns-in_default : goal.returns-in_default

@@ -1,8 +1,7 @@
 use Rattle.std.proofs.Common.{◌≡◌, ◌-◌, take}
 use Rattle.im_migration.specs.Resizing.{window_at}
-use Rattle.im_migration.proofs.resizing.window_of.Given as goal
 
-abbrev pub invariant-loop-number : goal.invariant-loop-number
+abbrev pub invariant-loop-number : Rattle.im_migration.proofs.resizing.window_of.Given.invariant-loop-number
 invariant-loop-number l = l.window
     ≡ record {
       base = l.base;

@@ -1,8 +1,6 @@
-use Rattle.std.proofs.Common.{◌≡◌, ℕ, ◌<◌, ◌≤◌, length, get_or}
-use Rattle.std.specs.Prelude.{max}
-use Rattle.im_pages.proofs.words.fill_between.Given as goal
+use Rattle.std.proofs.Common.{◌≡◌, ℕ, ◌<◌, ◌≤◌, max, length, get_or}
 
-abbrev pub invariant-loop-at : goal.invariant-loop-at
+abbrev pub invariant-loop-at : Rattle.im_pages.proofs.words.fill_between.Given.invariant-loop-at
 invariant-loop-at l = record {
   long : length l.words ≡ length l.initial.words;
   upto : l.at ≤ max l.from l.to;

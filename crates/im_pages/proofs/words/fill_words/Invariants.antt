@@ -1,5 +1,4 @@
-use Rattle.std.proofs.Common.{◌≡◌, ◌++◌, replicate, drop}
-use Rattle.im_pages.proofs.words.fill_words.Given as goal
+use Rattle.std.proofs.Common.{◌≡◌, ◌++◌, drop, replicate}
 
-abbrev pub invariant-loop-at : goal.invariant-loop-at
+abbrev pub invariant-loop-at : Rattle.im_pages.proofs.words.fill_words.Given.invariant-loop-at
 invariant-loop-at l = l.words ≡ replicate l.at l.word ++ drop l.at l.initial.words

@@ -1,6 +1,6 @@
 use Rattle.std.proofs.Common.{◌≡◌, ◌+◌, ◌*◌, ◌/◌, length, subst, arith}
+use Rattle.im_pages.proofs.BitLemmas.{found, Looks, looks, looks_on, passes}
 use Rattle.im_pages.specs.Words.{AreClear}
-use Rattle.im_pages.proofs.BitLemmas.{Looks, looks, looks_on, passes, found}
 use Rattle.im_pages.proofs.words.first_set.Goals as goal
 
 pub loop-word-init : goal.loop-word-init

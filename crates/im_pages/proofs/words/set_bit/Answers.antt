@@ -1,5 +1,4 @@
 use Rattle.im_pages.proofs.BitLemmas.{bit-set}
-use Rattle.im_pages.proofs.words.set_bit.Goals as goal
 
-pub returns : goal.returns
+pub returns : Rattle.im_pages.proofs.words.set_bit.Goals.returns
 returns c = λ bit. bit-set c.args.words.now c.args.at bit c.requires

@@ -1,10 +1,8 @@
-use Rattle.std.proofs.Common.{◌≡◌, ⊎_elim, get_or, bit_or, ap, sym, ◌∙◌, arith}
-use Rattle.std.proofs.lemmas.Bool.{cases_lt}
-use Rattle.std.proofs.lemmas.List.{get_or_past}
+use Rattle.std.proofs.Common.{◌≡◌, get_or, bit_or, sym, ap, ◌∙◌, ⊎_elim, arith}
+use Rattle.std.proofs.lemmas.{Bool.cases_lt, List.get_or_past}
 use Rattle.im_pages.proofs.BitLemmas.{bits-set}
-use Rattle.im_pages.proofs.words.set_bits.Goals as goal
 
-pub returns : goal.returns
+pub returns : Rattle.im_pages.proofs.words.set_bits.Goals.returns
 returns c = bits-set c.loop-at.words c.args.words.now c.args.other.now (λ k. ⊎_elim
     (λ low. c.loop-at.invariant.done k low)
     (λ high.

@@ -1,5 +1,5 @@
 use Rattle.std.proofs.Common.{◌/◌, arith}
-use Rattle.im_pages.proofs.RangeLemmas.{in_one, in_more, low_mask, length-with}
+use Rattle.im_pages.proofs.RangeLemmas.{in_more, in_one, length-with, low_mask}
 use Rattle.im_pages.proofs.words.set_range.Goals as goal
 
 pub returns-then-first-last-clause-found : goal.returns-then-first-last-clause-found

@@ -1,9 +1,8 @@
 use Rattle.std.proofs.Common.{length, sym, ap, ◌∙◌}
-use Rattle.im_types.specs.declared.operations.Reply.TheVariants.{NoCell, WrongKind}
-use Rattle.im_plain.specs.Waiting.{waiting_at}
-use Rattle.im_plain.specs.CellEffects.{access_of}
-use Rattle.im_plain.proofs.ActLemmas.{tells-HasEffect, same_kind-other, same_kind-equal, at_cell-absent, at_cell-other}
-use Rattle.im_plain.proofs.ActLemmas.{at_cell-serves, AreWaiting-QueueFits}
+use Rattle.im_types.specs.Types.{NoCell, WrongKind}
+use Rattle.im_plain.proofs.ActLemmas.{AreWaiting-QueueFits, at_cell-absent, at_cell-other, at_cell-serves}
+use Rattle.im_plain.proofs.ActLemmas.{same_kind-equal, same_kind-other, tells-HasEffect}
+use Rattle.im_plain.specs.{CellEffects.access_of, Waiting.waiting_at}
 use Rattle.im_plain.proofs.acts.access_at.Goals as goal
 
 pub returns-in_default-clause-acted : goal.returns-in_default-clause-acted

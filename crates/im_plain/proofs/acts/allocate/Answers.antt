@@ -1,6 +1,6 @@
 use Rattle.std.proofs.Common.{None, sym, ◌∙◌}
-use Rattle.im_types.specs.declared.operations.Reply.TheVariants.{NoSpace}
-use Rattle.im_plain.proofs.ActLemmas.{tells-HasEffect, allocate-placed, allocate-HasEffect}
+use Rattle.im_types.specs.Types.{NoSpace}
+use Rattle.im_plain.proofs.ActLemmas.{allocate-HasEffect, allocate-placed, tells-HasEffect}
 use Rattle.im_plain.proofs.acts.allocate.Goals as goal
 
 pub returns-in_default : goal.returns-in_default

@@ -1,6 +1,5 @@
 use Rattle.std.proofs.Common.{true, false, sym, ◌∙◌, arith}
-use Rattle.im_plain.specs.Joined.{plain_cells}
-use Rattle.im_plain.proofs.ActLemmas.{waits-step}
+use Rattle.im_plain.{proofs.ActLemmas.waits-step, specs.Joined.plain_cells}
 use Rattle.im_plain.proofs.acts.any_waits.Goals as goal
 
 pub returns-then-is_waiting : goal.returns-then-is_waiting

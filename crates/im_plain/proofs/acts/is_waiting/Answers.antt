@@ -1,7 +1,6 @@
 use Rattle.std.proofs.Common.{sym, ap, ◌∙◌}
-use Rattle.im_types.specs.Act.{is_waiting_cell}
-use Rattle.im_plain.specs.Waiting.{waiting_at}
-use Rattle.im_plain.proofs.JoinedLemmas.{held_at-None, held_at-Some}
+use Rattle.im_types.specs.Types.{is_waiting_cell}
+use Rattle.im_plain.{proofs.JoinedLemmas.held_at-None, proofs.JoinedLemmas.held_at-Some, specs.Waiting.waiting_at}
 use Rattle.im_plain.proofs.acts.is_waiting.Goals as goal
 
 pub returns-in-Some : goal.returns-in-Some

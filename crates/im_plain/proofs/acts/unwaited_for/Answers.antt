@@ -1,6 +1,5 @@
-use Rattle.std.proofs.Common.{sym, ◌∙◌, arith}
-use Rattle.std.proofs.lemmas.Bool.Decides.{nat_tests}
-use Rattle.im_plain.proofs.ActLemmas.{absent-refused, inner-refused, waiting-refused, unwaited, released_within}
+use Rattle.std.proofs.{Common.sym, Common.◌∙◌, Common.arith, lemmas.Bool.Decides.nat_tests}
+use Rattle.im_plain.proofs.ActLemmas.{absent-refused, inner-refused, released_within, unwaited, waiting-refused}
 use Rattle.im_plain.proofs.acts.unwaited_for.Goals as goal
 
 pub any_waits-requires-clause-within : goal.any_waits-requires-clause-within

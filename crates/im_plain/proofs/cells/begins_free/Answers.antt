@@ -1,8 +1,8 @@
 use Rattle.std.proofs.Common.{None, sym, ◌∙◌, arith}
-use Rattle.im_plain.proofs.Places.{begins_free-past, begins_free-held, begins_free-more}
-use Rattle.im_plain.proofs.cells.begins_free.Goals as goal
-use Rattle.im_plain.proofs.cells.begins_free.Goals.{then-i-slots-via-then-i-slots}
 use Rattle.im_plain.proofs.cells.begins_free.Goals.{then-i-slots-via-else-i-slots+then-is_some}
+use Rattle.im_plain.proofs.cells.begins_free.Goals.{then-i-slots-via-then-i-slots}
+use Rattle.im_plain.proofs.Places.{begins_free-held, begins_free-more, begins_free-past}
+use Rattle.im_plain.proofs.cells.begins_free.Goals as goal
 
 pub returns-then-i-slots : goal.returns-then-i-slots
 returns-then-i-slots c =

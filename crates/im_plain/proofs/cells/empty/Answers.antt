@@ -1,8 +1,8 @@
-use Rattle.std.proofs.Common.{ap, ◌∙◌, arith, get_or, set, ◌+◌, None}
+use Rattle.std.proofs.Common.{◌+◌, get_or, set, None, ap, ◌∙◌, arith}
+use Rattle.im_plain.proofs.cells.empty.Goals.{else-at-slots, then-at-slots}
+use Rattle.im_plain.proofs.Places.{change_each-more, change_each-none, change_each-past}
 use Rattle.im_plain.specs.Joined.{emptied_slot}
-use Rattle.im_plain.proofs.Places.{change_each-none, change_each-more, change_each-past}
 use Rattle.im_plain.proofs.cells.empty.Goals as goal
-use Rattle.im_plain.proofs.cells.empty.Goals.{then-at-slots, else-at-slots}
 
 pub loop-i-preserved : goal.loop-i-preserved
 loop-i-preserved c =

@@ -1,8 +1,7 @@
-use Rattle.std.proofs.Common.{ap, ◌∙◌, arith, set, ◌+◌}
-use Rattle.im_laws.proofs.FillLemmas.{fill-none, fill-more}
-use Rattle.im_plain.proofs.Places.{fill-past}
+use Rattle.std.proofs.Common.{◌+◌, set, ap, ◌∙◌, arith}
+use Rattle.im_laws.proofs.FillLemmas.{fill-more, fill-none}
+use Rattle.im_plain.proofs.{cells.fill.Goals.else-at-slots, cells.fill.Goals.then-at-slots, Places.fill-past}
 use Rattle.im_plain.proofs.cells.fill.Goals as goal
-use Rattle.im_plain.proofs.cells.fill.Goals.{then-at-slots, else-at-slots}
 
 pub loop-i-preserved : goal.loop-i-preserved
 loop-i-preserved c =

@@ -1,6 +1,5 @@
 use Rattle.std.proofs.Common.{◌≡◌, replicate}
-use Rattle.im_types.specs.Contents.{new_window}
-use Rattle.im_plain.proofs.memory.new_windows.Given as goal
+use Rattle.im_types.specs.Types.{new_window}
 
-abbrev pub invariant-loop : goal.invariant-loop
+abbrev pub invariant-loop : Rattle.im_plain.proofs.memory.new_windows.Given.invariant-loop
 invariant-loop l = l.windows.items ≡ replicate l.counter new_window

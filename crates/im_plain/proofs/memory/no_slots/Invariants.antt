@@ -1,5 +1,4 @@
-use Rattle.std.proofs.Common.{◌≡◌, None, replicate}
-use Rattle.im_plain.proofs.memory.no_slots.Given as goal
+use Rattle.std.proofs.Common.{◌≡◌, replicate, None}
 
-abbrev pub invariant-loop : goal.invariant-loop
+abbrev pub invariant-loop : Rattle.im_plain.proofs.memory.no_slots.Given.invariant-loop
 invariant-loop l = l.slots.items ≡ replicate l.counter None

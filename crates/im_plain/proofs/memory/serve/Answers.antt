@@ -1,8 +1,7 @@
-use Rattle.std.proofs.Common.{ap, ◌∙◌, take, arith}
-use Rattle.im_types.specs.Window.{answer_each}
-use Rattle.im_plain.specs.Waiting.{waiting_at, each_given}
-use Rattle.im_plain.proofs.RoomLemmas.{room-fresh}
-use Rattle.im_plain.proofs.MakesLemmas.{makes-served}
+use Rattle.std.proofs.Common.{take, ap, ◌∙◌, arith}
+use Rattle.im_types.specs.Types.{answer_each}
+use Rattle.im_plain.proofs.{MakesLemmas.makes-served, RoomLemmas.room-fresh}
+use Rattle.im_plain.specs.Waiting.{each_given, waiting_at}
 use Rattle.im_plain.proofs.memory.serve.Goals as goal
 
 pub act-acted-requires-clause-room : goal.act-acted-requires-clause-room

@@ -1,11 +1,10 @@
-use Rattle.std.proofs.Common.{◌-◌, ◌+◌, take, Some, None, sym, ap, ◌∙◌, arith}
-use Rattle.im_types.specs.Window.{answer_each}
-use Rattle.im_plain.specs.Waiting.{waiting_at, each_given}
+use Rattle.std.proofs.Common.{◌+◌, ◌-◌, take, Some, None, sym, ap, ◌∙◌, arith}
+use Rattle.im_types.specs.Types.{answer_each}
 use Rattle.im_plain.proofs.ResumeLemmas.{answer_each-first, without-first}
-use Rattle.im_plain.proofs.windows.resume.Goals as goal
 use Rattle.im_plain.proofs.windows.resume.Goals.{in-Some, in_default}
+use Rattle.im_plain.specs.Waiting.{each_given, waiting_at}
 
-pub loop-preserved : goal.loop-preserved
+pub loop-preserved : Rattle.im_plain.proofs.windows.resume.Goals.loop-preserved
 loop-preserved c =
     let left = c.args.count - (c.loop.counter + 1) in
     let later = answer_each-first c.loop.queue.items c.pop_first.new.queue.items c.args.a c.args.count c.loop.counter

@@ -1,7 +1,6 @@
-use Rattle.std.proofs.Common.{◌∙◌, ap}
+use Rattle.std.proofs.Common.{ap, ◌∙◌}
 use Rattle.im_planning.specs.Progress.{all_fetch}
-use Rattle.im_planning.proofs.states.do_fetch.Goals as goal
 
-pub loop-waiter-init : goal.loop-waiter-init
+pub loop-waiter-init : Rattle.im_planning.proofs.states.do_fetch.Goals.loop-waiter-init
 loop-waiter-init c = ap (all_fetch c.args.plan.now c.args.a)
     (c.into_iter-waiter-iterator.ensures.into_iter_gives ∙ c.waiters-waiter-items.ensures)

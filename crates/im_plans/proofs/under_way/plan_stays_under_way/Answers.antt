@@ -1,5 +1,5 @@
+use Rattle.im_plans.proofs.UnderWayLaws.{after-goes_on, call-goes_on, runs-go_on, runs-result}
 use Rattle.im_plans.proofs.UnderWayLemmas.{fits-begins}
-use Rattle.im_plans.proofs.UnderWayLaws.{call-goes_on, after-goes_on, runs-go_on, runs-result}
 use Rattle.im_plans.proofs.under_way.plan_stays_under_way.Goals as goal
 
 pub returns-clause-begins : goal.returns-clause-begins

@@ -1,5 +1,4 @@
-use Rattle.im_plans.proofs.UnderWayLaws.{runs-served}
-use Rattle.im_plans.proofs.Values.{runs-value}
+use Rattle.im_plans.proofs.{UnderWayLaws.runs-served, Values.runs-value}
 use Rattle.im_plans.proofs.under_way.stopped_plan_has_one_end.Goals as goal
 
 pub returns-clause-entries : goal.returns-clause-entries

@@ -1,4 +1,4 @@
-use Rattle.im_plans.proofs.UnderWayLaws.{runs-told, runs-kept, runs-wait}
+use Rattle.im_plans.proofs.UnderWayLaws.{runs-kept, runs-told, runs-wait}
 use Rattle.im_plans.proofs.under_way.stopped_runs_tell_results.Goals as goal
 
 pub returns-clause-told : goal.returns-clause-told

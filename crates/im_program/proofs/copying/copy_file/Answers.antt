@@ -1,11 +1,8 @@
-use Rattle.std.proofs.Common.{codes}
-use Rattle.std.specs.Io.KnownBytes.{Appends, Keeps}
-use Rattle.im_types.specs.Layout.{layout_in_use}
-use Rattle.im_disk.specs.File.{account_of}
-use Rattle.im_migration.specs.Copying.{MeansCopy}
-use Rattle.im_report.proofs.InspectingLemmas.{done_at_zero}
-use Rattle.im_program.specs.Moving.{TellsCount, counted_line}
+use Rattle.std.{proofs.Common.codes, specs.Io.KnownBytes.Appends, specs.Io.KnownBytes.Keeps}
+use Rattle.{im_types.specs.Types.layout_in_use, im_disk.specs.File.account_of, im_migration.specs.Copying.MeansCopy}
+use Rattle.{im_report.proofs.InspectingLemmas.done_at_zero}
 use Rattle.im_program.proofs.MovedLemmas.{moved, read_since, same_bytes, told_count}
+use Rattle.im_program.specs.Moving.{counted_line, TellsCount}
 use Rattle.im_program.proofs.copying.copy_file.Goals as goal
 
 pub returns-in-Ok-clause-copied : goal.returns-in-Ok-clause-copied

@@ -1,10 +1,8 @@
 use Rattle.std.specs.Io.KnownBytes.{Keeps}
-use Rattle.im_dump.specs.Dumping.{WasDumped}
-use Rattle.im_report.proofs.InspectingLemmas.{done_at_zero}
+use Rattle.{im_report.proofs.InspectingLemmas.done_at_zero, im_dump.specs.Dumping.WasDumped}
 use Rattle.im_program.proofs.Loads.{dumps_kept}
-use Rattle.im_program.proofs.dumping.dump_on.Goals as goal
 
-pub returns-clause-told : goal.returns-clause-told
+pub returns-clause-told : Rattle.im_program.proofs.dumping.dump_on.Goals.returns-clause-told
 returns-clause-told g c = λ honest zero.
     let bytes = (g.D.Disk.now c.args.disk.now).bytes in
     let was = g.W.Write.contents c.args.out.now in

@@ -1,7 +1,6 @@
-use Rattle.std.proofs.Common.{refl, sym}
-use Rattle.im_program.proofs.formatting.format_image.Goals as goal
+use Rattle.std.proofs.Common.{sym, refl}
 
-pub returns-clause-made : goal.returns-clause-made
+pub returns-clause-made : Rattle.im_program.proofs.formatting.format_image.Goals.returns-clause-made
 returns-clause-made g c = λ honest.
     let is = c.in_ok-limits.ensures.limits in (
       refl,

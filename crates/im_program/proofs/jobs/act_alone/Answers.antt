@@ -1,11 +1,8 @@
-use Rattle.im_disk.specs.declared.file.FileDisk.{FileDisk}
-use Rattle.im_disk.specs.contracts.file.FileDiskDisk.TheImpl.{ghosts}
+use Rattle.im_disk.specs.{contracts.file.FileDiskDisk.TheImpl.ghosts, declared.FileDisk.FileDisk}
 use Rattle.im_words.specs.Words.{task_of_job}
-use Rattle.im_program.proofs.OkLemmas.{some_then}
-use Rattle.im_program.proofs.SourceLemmas.{done_with}
-use Rattle.im_program.proofs.jobs.act_alone.Goals as goal
+use Rattle.im_program.proofs.{OkLemmas.some_then, SourceLemmas.done_with}
 
-pub returns-clause-done : goal.returns-clause-done
+pub returns-clause-done : Rattle.im_program.proofs.jobs.act_alone.Goals.returns-clause-done
 returns-clause-done g c =
     let d = ghosts g.row.S g.S.Start g.S.Start-dict g.S.Destruct-dict in
     let was = g.W.Write.contents c.args.out.now in

@@ -1,5 +1,4 @@
-use Rattle.std.proofs.Common.{inl, refl}
-use Rattle.im_program.proofs.jobs.may_do.Goals as goal
+use Rattle.std.proofs.Common.{refl, inl}
 
-pub returns-in-Format : goal.returns-in-Format
+pub returns-in-Format : Rattle.im_program.proofs.jobs.may_do.Goals.returns-in-Format
 returns-in-Format g c = rw c.in-Format.is (inl (_, _, _, _, _, refl))

@@ -1,12 +1,8 @@
-use Rattle.std.proofs.Common.{codes}
-use Rattle.std.specs.Io.KnownBytes.{Appends, Keeps}
-use Rattle.im_report.proofs.InspectingLemmas.{done_at_zero}
-use Rattle.im_text.proofs.PrintingLemmas.{appends_kept}
-use Rattle.im_program.specs.Moving.{counted_line}
-use Rattle.im_program.proofs.Loads.{loaded_from}
-use Rattle.im_program.proofs.loading.load_file.Goals as goal
+use Rattle.std.{proofs.Common.codes, specs.Io.KnownBytes.Appends, specs.Io.KnownBytes.Keeps}
+use Rattle.{im_text.proofs.PrintingLemmas.appends_kept, im_report.proofs.InspectingLemmas.done_at_zero}
+use Rattle.im_program.{proofs.Loads.loaded_from, specs.Moving.counted_line}
 
-pub returns-clause-loaded : goal.returns-clause-loaded
+pub returns-clause-loaded : Rattle.im_program.proofs.loading.load_file.Goals.returns-clause-loaded
 returns-clause-loaded g c =
     let was = g.W.Write.contents c.args.out.now in
     let mid = g.W.Write.contents c.print_counted-told.new.out in

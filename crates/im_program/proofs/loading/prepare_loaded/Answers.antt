@@ -1,6 +1,4 @@
-use Rattle.im_program.proofs.loading.prepare_loaded.Goals as goal
-
-pub returns-in-Ok-clause-source : goal.returns-in-Ok-clause-source
+pub returns-in-Ok-clause-source : Rattle.im_program.proofs.loading.prepare_loaded.Goals.returns-in-Ok-clause-source
 returns-in-Ok-clause-source g c = record {
   sizes = c.in-Ok.ensures.sizes;
   count = c.in-Ok.ensures.count;

@@ -1,8 +1,7 @@
 use Rattle.std.proofs.Common.{subst}
 use Rattle.im_dump.specs.Dumping.{IsDumpOf}
-use Rattle.im_program.proofs.loading.read_loaded.Goals as goal
 
-pub returns-in-Ok : goal.returns-in-Ok
+pub returns-in-Ok : Rattle.im_program.proofs.loading.read_loaded.Goals.returns-in-Ok
 returns-in-Ok g c = (
   c.in_ok-text.text.items,
   c.in_ok-text.ensures,

@@ -1,9 +1,7 @@
 use Rattle.std.proofs.Common.{codes}
-use Rattle.im_types.specs.Layout.{layout_1}
-use Rattle.im_disk.specs.File.{account_of}
-use Rattle.im_migration.specs.Migration.{MeansSame}
-use Rattle.im_program.specs.Moving.{TellsCount}
+use Rattle.{im_types.specs.Types.layout_1, im_disk.specs.File.account_of, im_migration.specs.Migration.MeansSame}
 use Rattle.im_program.proofs.MovedLemmas.{moved, read_since, same_bytes}
+use Rattle.im_program.specs.Moving.{TellsCount}
 use Rattle.im_program.proofs.moving.migrate_file.Goals as goal
 
 pub returns-clause-moved : goal.returns-clause-moved

@@ -1,12 +1,8 @@
-use Rattle.std.proofs.Common.{codes}
-use Rattle.std.specs.Io.KnownBytes.{Appends, Keeps}
-use Rattle.im_types.specs.Layout.{layout_1}
-use Rattle.im_report.proofs.InspectingLemmas.{done_at_zero}
-use Rattle.im_program.specs.Moving.{counted_line}
-use Rattle.im_program.proofs.MovedLemmas.{told_count}
-use Rattle.im_program.proofs.moving.migrate_on.Goals as goal
+use Rattle.std.{proofs.Common.codes, specs.Io.KnownBytes.Appends, specs.Io.KnownBytes.Keeps}
+use Rattle.{im_types.specs.Types.layout_1, im_report.proofs.InspectingLemmas.done_at_zero}
+use Rattle.im_program.{proofs.MovedLemmas.told_count, specs.Moving.counted_line}
 
-pub returns-in-Ok-clause-told : goal.returns-in-Ok-clause-told
+pub returns-in-Ok-clause-told : Rattle.im_program.proofs.moving.migrate_on.Goals.returns-in-Ok-clause-told
 returns-in-Ok-clause-told g c = λ done honest.
     let was = g.W.Write.contents c.args.out.now in
     let mid = g.W.Write.contents c.print_counted-told.new.out in

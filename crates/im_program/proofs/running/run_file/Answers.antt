@@ -1,9 +1,7 @@
 use denote.Param.{param}
 use denote.Param.Send.{sendable}
-use Rattle.std.proofs.Crossing.{crosses}
-use Rattle.std.proofs.Common.{◌∙◌}
-use Rattle.im_program.proofs.Crosses.{FileDisk-row-send}
-use Rattle.im_program.proofs.SourceLemmas.{text_as}
+use Rattle.std.proofs.{Common.◌∙◌, Crossing.crosses}
+use Rattle.im_program.proofs.{Crosses.FileDisk-row-send, SourceLemmas.text_as}
 use Rattle.im_program.proofs.running.run_file.Goals as goal
 
 pub run_task-requires-send-D : goal.run_task-requires-send-D

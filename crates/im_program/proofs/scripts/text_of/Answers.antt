@@ -1,4 +1,4 @@
-use Rattle.std.proofs.Common.{◌∙◌, sym}
+use Rattle.std.proofs.Common.{sym, ◌∙◌}
 use Rattle.im_program.proofs.SourceLemmas.{from_file, from_input}
 use Rattle.im_program.proofs.scripts.text_of.Goals as goal
 

@@ -1,6 +1,4 @@
-use Rattle.im_program.proofs.talking.talk_file.Goals as goal
-
-pub returns-clause-talked : goal.returns-clause-talked
+pub returns-clause-talked : Rattle.im_program.proofs.talking.talk_file.Goals.returns-clause-talked
 returns-clause-talked g c = λ honest. record {
   old = c.in_ok-disk.disk;
   was = c.in_ok-disk.ensures.now;

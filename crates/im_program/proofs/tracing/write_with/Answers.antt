@@ -1,7 +1,6 @@
-use Rattle.std.proofs.Common.{◌∙◌, ap}
+use Rattle.std.proofs.Common.{ap, ◌∙◌}
 use Rattle.im_program.proofs.TracedLemmas.{begins_none}
-use Rattle.im_program.proofs.tracing.write_with.Goals as goal
 
-pub returns-in-Err-clause-begins : goal.returns-in-Err-clause-begins
+pub returns-in-Err-clause-begins : Rattle.im_program.proofs.tracing.write_with.Goals.returns-in-Err-clause-begins
 returns-in-Err-clause-begins g c =
     begins_none c.args.trace.now _ _ (ap g.W.Write.contents c.in-Err.ensures ∙ c.requires.start)

@@ -1,6 +1,5 @@
 use Rattle.std.proofs.Common.{⊎_elim}
-use Rattle.im_program.proofs.OkLemmas.{some_each, some_then}
-use Rattle.im_program.proofs.TransferLemmas.{is_of_two, of_two}
+use Rattle.im_program.proofs.{OkLemmas.some_each, OkLemmas.some_then, TransferLemmas.is_of_two, TransferLemmas.of_two}
 use Rattle.im_program.proofs.work.act.Goals as goal
 
 pub returns-in-Alone-clause-done : goal.returns-in-Alone-clause-done

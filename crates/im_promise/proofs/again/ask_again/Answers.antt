@@ -1,11 +1,8 @@
 use Rattle.std.proofs.Common.{sym, subst}
-use Rattle.im_types.specs.declared.commands.Command.TheVariants.{Request as Asks}
-use Rattle.im_types.specs.Contents.{Contents}
-use Rattle.im_laws.specs.Entries.{IsToldAgainOrForgotten}
-use Rattle.im_promise.proofs.Sent.{said, by_is_false}
-use Rattle.im_promise.proofs.again.ask_again.Goals as goal
+use Rattle.{im_types.specs.Types.Asks, im_types.specs.Types.Contents, im_laws.specs.Entries.IsToldAgainOrForgotten}
+use Rattle.im_promise.proofs.Sent.{by_is_false, said}
 
-pub returns : goal.returns
+pub returns : Rattle.im_promise.proofs.again.ask_again.Goals.returns
 returns g c = λ f entry told.
     let again = said c.args.engine.now c.serve.new.self c.args.request entry c.serve.result f c.serve.ensures.answered
     (subst (λ (x : Contents). IsToldAgainOrForgotten x c.args.request entry) (sym told.is)

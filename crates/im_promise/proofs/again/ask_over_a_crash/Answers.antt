@@ -1,13 +1,8 @@
 use Rattle.std.proofs.Common.{◌≡◌, List, ◌++◌, sym, ap, ◌∙◌, subst}
-use Rattle.im_types.specs.declared.commands.Command.{Command}
-use Rattle.im_types.specs.declared.commands.Command.TheVariants.{Request as Asks}
-use Rattle.im_types.specs.Contents.{Contents}
-use Rattle.im_types.specs.Agreement.{WaitingAgrees}
-use Rattle.im_types.specs.Run.{after}
-use Rattle.im_laws.specs.Requests.{after_request}
-use Rattle.im_laws.specs.Entries.{IsToldAgainOrForgotten}
+use Rattle.im_types.specs.Types.{Command, Asks, Contents, WaitingAgrees, after}
+use Rattle.im_laws.specs.{Entries.IsToldAgainOrForgotten, Requests.after_request}
 use Rattle.im_session.specs.Events.{acknowledged}
-use Rattle.im_promise.proofs.Sent.{answer_of, said, by_is_false, is_false_by, acted, asked}
+use Rattle.im_promise.proofs.Sent.{acted, answer_of, asked, by_is_false, is_false_by, said}
 use Rattle.im_promise.proofs.again.ask_over_a_crash.Goals as goal
 
 pub returns-in-Ok-clause-again : goal.returns-in-Ok-clause-again

@@ -1,12 +1,9 @@
-use Rattle.std.proofs.Common.{◌≡◌, ◌⊎◌, inl, inr, ⊎_elim, ◌∙◌, ap, sym, subst, [], refl}
-use Rattle.im_types.specs.declared.commands.Command.TheVariants.{Request as Asks}
-use Rattle.im_types.specs.Step.{step}
-use Rattle.im_disk.specs.Since.{LeavesNow}
-use Rattle.im_disk.specs.Recording.{Recording}
-use Rattle.im_disk.specs.Fuse.{Fused}
+use Rattle.std.proofs.Common.{◌≡◌, ◌⊎◌, [], sym, refl, ap, ◌∙◌, subst, inl, inr, ⊎_elim}
+use Rattle.im_types.specs.Types.{Asks, step}
+use Rattle.im_disk.specs.{Fuse.Fused, Recording.Recording, Since.LeavesNow}
 use Rattle.im_engine.specs.State.{EngineState, MeansEither, with_command}
-use Rattle.im_promise.proofs.Sent.{answer_of, by_is_false, is_false_by, sent_once, no_fault_of_one}
 use Rattle.im_promise.proofs.Recovering.{still_means}
+use Rattle.im_promise.proofs.Sent.{answer_of, by_is_false, is_false_by, no_fault_of_one, sent_once}
 use Rattle.im_promise.proofs.again.send_over_a_crash.Goals as goal
 
 pub returns-in-Ok-clause-once : goal.returns-in-Ok-clause-once

@@ -1,11 +1,8 @@
 use Rattle.std.proofs.Common.{[], sym, ap, ◌∙◌, subst}
-use Rattle.im_types.specs.declared.commands.Command.TheVariants.{Request as Asks}
-use Rattle.im_types.specs.Contents.{Contents}
-use Rattle.im_types.specs.Agreement.{WaitingAgrees}
-use Rattle.im_laws.specs.Entries.{IsToldAgainOrForgotten}
-use Rattle.im_engine.specs.State.{EngineState}
+use Rattle.im_types.specs.Types.{Asks, Contents, WaitingAgrees}
+use Rattle.{im_laws.specs.Entries.IsToldAgainOrForgotten, im_engine.specs.State.EngineState}
+use Rattle.im_promise.proofs.Sent.{acted, by_is_false, is_false_by, said, unused}
 use Rattle.im_promise.specs.Again.{IsSaidAgain}
-use Rattle.im_promise.proofs.Sent.{said, by_is_false, is_false_by, acted, unused}
 use Rattle.im_promise.proofs.again.send_twice.Goals as goal
 
 pub returns-clause-unheld : goal.returns-clause-unheld

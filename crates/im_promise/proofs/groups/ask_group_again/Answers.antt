@@ -1,10 +1,9 @@
 use Rattle.std.proofs.Common.{[], refl}
 use Rattle.im_engine.specs.Groups.{reached_in}
-use Rattle.im_promise.proofs.Sent.{is_false_by, by_is_false, agrees_after}
-use Rattle.im_promise.proofs.Asking.{said_again, group_again}
-use Rattle.im_promise.proofs.groups.ask_group_again.Goals as goal
+use Rattle.im_promise.proofs.Asking.{group_again, said_again}
+use Rattle.im_promise.proofs.Sent.{agrees_after, by_is_false, is_false_by}
 
-pub returns : goal.returns
+pub returns : Rattle.im_promise.proofs.groups.ask_group_again.Goals.returns
 returns g c = λ f before has.
     let old = c.args.engine.now in
     let members = c.args.members.now.items in

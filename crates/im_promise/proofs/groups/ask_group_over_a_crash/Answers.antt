@@ -1,13 +1,9 @@
 use Rattle.std.proofs.Common.{◌≡◌, List, [], ◌++◌, refl, ap, ◌∙◌, subst}
-use Rattle.im_types.specs.declared.commands.Command.{Command}
-use Rattle.im_types.specs.Contents.{Contents}
-use Rattle.im_types.specs.Agreement.{WaitingAgrees}
-use Rattle.im_types.specs.Run.{after}
-use Rattle.im_session.specs.Events.{acknowledged}
-use Rattle.im_engine.specs.Groups.{reached_in, group_put}
-use Rattle.im_promise.proofs.Sent.{is_false_by, by_is_false, agrees_after}
-use Rattle.im_promise.proofs.Grouping.{GroupsAreRuns, group_answer, group_acted, group_asked}
-use Rattle.im_promise.proofs.Asking.{said_again, group_again}
+use Rattle.im_types.specs.Types.{Command, Contents, WaitingAgrees, after}
+use Rattle.{im_engine.specs.Groups.group_put, im_engine.specs.Groups.reached_in, im_session.specs.Events.acknowledged}
+use Rattle.im_promise.proofs.Asking.{group_again, said_again}
+use Rattle.im_promise.proofs.Grouping.{group_acted, group_answer, group_asked, GroupsAreRuns}
+use Rattle.im_promise.proofs.Sent.{agrees_after, by_is_false, is_false_by}
 use Rattle.im_promise.proofs.groups.ask_group_over_a_crash.Goals as goal
 
 pub returns-in-Ok-clause-again : goal.returns-in-Ok-clause-again

@@ -1,14 +1,9 @@
-use Rattle.std.proofs.Common.{◌≡◌, ◌⊎◌, false, sym, ap, ◌∙◌, subst}
-use Rattle.im_types.specs.declared.refusals.Refusal.TheVariants.{NoMemory, Device}
-use Rattle.im_disk.specs.Moment.{Left}
-use Rattle.im_disk.specs.Since.{LeavesNow}
-use Rattle.im_disk.specs.Recording.{Recording}
-use Rattle.im_disk.specs.Fuse.{Fused}
-use Rattle.im_engine.specs.State.{EngineState, MeansState, MeansEither}
-use Rattle.im_engine.specs.Groups.{after_group}
+use Rattle.std.proofs.Common.{◌≡◌, false, ◌⊎◌, sym, ap, ◌∙◌, subst}
+use Rattle.im_types.specs.Types.{Device, NoMemory}
+use Rattle.im_disk.specs.{Fuse.Fused, Moment.Left, Recording.Recording, Since.LeavesNow}
+use Rattle.im_engine.specs.{Groups.after_group, State.EngineState, State.MeansEither, State.MeansState}
+use Rattle.im_promise.proofs.{Grouping.group_by, Grouping.group_refused, Reopening.under, Reopening.under_err}
 use Rattle.im_promise.specs.Groups.{RecoversGroup}
-use Rattle.im_promise.proofs.Reopening.{under, under_err}
-use Rattle.im_promise.proofs.Grouping.{group_by, group_refused}
 use Rattle.im_promise.proofs.groups.recover_group.Goals as goal
 
 pub returns-clause-recovers : goal.returns-clause-recovers

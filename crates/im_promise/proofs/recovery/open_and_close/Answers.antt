@@ -1,7 +1,5 @@
 use Rattle.std.proofs.Common.{ap, subst}
-use Rattle.im_disk.specs.Moment.{Left}
-use Rattle.im_disk.specs.Recording.{Recording}
-use Rattle.im_disk.specs.Fuse.{Fused}
+use Rattle.im_disk.specs.{Fuse.Fused, Moment.Left, Recording.Recording}
 use Rattle.im_promise.proofs.Recovering.{was_left}
 use Rattle.im_promise.proofs.recovery.open_and_close.Goals as goal
 

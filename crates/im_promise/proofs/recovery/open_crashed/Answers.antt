@@ -1,7 +1,6 @@
-use Rattle.std.proofs.Common.{inl, inr, ⊎_elim, ap}
-use Rattle.im_disk.specs.Recording.{Recording}
-use Rattle.im_disk.proofs.SinceLemmas.{left_now}
-use Rattle.im_promise.proofs.Recovering.{was_left, left_again}
+use Rattle.std.proofs.Common.{ap, inl, inr, ⊎_elim}
+use Rattle.im_disk.{proofs.SinceLemmas.left_now, specs.Recording.Recording}
+use Rattle.im_promise.proofs.Recovering.{left_again, was_left}
 use Rattle.im_promise.proofs.recovery.open_crashed.Goals as goal
 
 pub returns-in-Ok-clause-left : goal.returns-in-Ok-clause-left

@@ -1,13 +1,9 @@
 use Rattle.std.proofs.Common.{◌≡◌, false, sym, ◌∙◌, subst}
-use Rattle.im_laws.proofs.Tests.{true_false}
-use Rattle.im_disk.specs.Fuse.{Fused}
-use Rattle.im_engine.specs.State.{EngineState}
-use Rattle.im_session.specs.Events.{AnsweredInTurn, after_events}
-use Rattle.im_session.specs.Kept.{SessionState}
-use Rattle.im_promise.specs.Recovery.{HasNoRoom, Recovers}
-use Rattle.im_promise.proofs.Answering.{Known, told}
+use Rattle.{im_laws.proofs.Tests.true_false, im_disk.specs.Fuse.Fused, im_engine.specs.State.EngineState}
+use Rattle.im_session.specs.{Events.after_events, Events.AnsweredInTurn, Kept.SessionState}
+use Rattle.im_promise.proofs.{Answering.Known, Answering.told, SessionLemmas.recovered}
 use Rattle.im_promise.proofs.Reopening.{under, under_err}
-use Rattle.im_promise.proofs.SessionLemmas.{recovered}
+use Rattle.im_promise.specs.Recovery.{HasNoRoom, Recovers}
 use Rattle.im_promise.proofs.recovery.recover.Goals as goal
 
 pub returns-then-failed-clause-recovers : goal.returns-then-failed-clause-recovers

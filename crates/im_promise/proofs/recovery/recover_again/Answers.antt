@@ -1,13 +1,8 @@
-use Rattle.std.proofs.Common.{◌≡◌, inl, inr, ⊎_elim, false, ap, ◌∙◌, subst}
-use Rattle.im_disk.specs.Moment.{Left}
-use Rattle.im_disk.specs.Since.{LeavesNow}
-use Rattle.im_disk.specs.Recording.{Recording}
-use Rattle.im_disk.specs.Fuse.{Fused}
-use Rattle.im_engine.specs.State.{EngineState, MeansState}
-use Rattle.im_promise.specs.Recovery.{Recovers}
-use Rattle.im_disk.proofs.SinceLemmas.{left_now}
-use Rattle.im_promise.proofs.Recovering.{was_left, still_means}
-use Rattle.im_promise.proofs.Reopening.{again_by, under, over}
+use Rattle.std.proofs.Common.{◌≡◌, false, ap, ◌∙◌, subst, inl, inr, ⊎_elim}
+use Rattle.{im_disk.proofs.SinceLemmas.left_now, im_engine.specs.State.EngineState, im_engine.specs.State.MeansState}
+use Rattle.im_disk.specs.{Fuse.Fused, Moment.Left, Recording.Recording, Since.LeavesNow}
+use Rattle.im_promise.{proofs.Recovering.still_means, proofs.Recovering.was_left, specs.Recovery.Recovers}
+use Rattle.im_promise.proofs.Reopening.{again_by, over, under}
 use Rattle.im_promise.proofs.recovery.recover_again.Goals as goal
 
 pub returns-in-Ok-clause-recovers : goal.returns-in-Ok-clause-recovers

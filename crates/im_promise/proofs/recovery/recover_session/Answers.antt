@@ -1,8 +1,5 @@
-use Rattle.std.proofs.Common.{◌≡◌, ◌∙◌, sym, ap, subst}
-use Rattle.im_disk.specs.Moment.{Left}
-use Rattle.im_disk.specs.Since.{LeavesNow}
-use Rattle.im_disk.specs.Fuse.{Fused}
-use Rattle.im_disk.specs.Recording.{Recording}
+use Rattle.std.proofs.Common.{◌≡◌, sym, ap, ◌∙◌, subst}
+use Rattle.im_disk.specs.{Fuse.Fused, Moment.Left, Recording.Recording, Since.LeavesNow}
 use Rattle.im_promise.proofs.SessionLemmas.{MeansEnd, session_found, session_refused}
 use Rattle.im_promise.proofs.recovery.recover_session.Goals as goal
 

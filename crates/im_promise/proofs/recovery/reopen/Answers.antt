@@ -1,10 +1,8 @@
-use Rattle.std.proofs.Common.{◌≡◌, ◌⊎◌, false, sym, subst}
-use Rattle.im_types.specs.declared.refusals.Refusal.TheVariants.{NoMemory, Device}
-use Rattle.im_disk.specs.Moment.{Left}
-use Rattle.im_disk.specs.Since.{LeavesNow}
-use Rattle.im_disk.specs.Recording.{Recording}
+use Rattle.std.proofs.Common.{◌≡◌, false, ◌⊎◌, sym, subst}
+use Rattle.im_types.specs.Types.{Device, NoMemory}
+use Rattle.im_disk.specs.{Moment.Left, Recording.Recording, Since.LeavesNow}
 use Rattle.im_engine.specs.State.{EngineState, MeansState}
-use Rattle.im_promise.proofs.Reopening.{same_by, refused_by, under, under_err}
+use Rattle.im_promise.proofs.Reopening.{refused_by, same_by, under, under_err}
 use Rattle.im_promise.proofs.recovery.reopen.Goals as goal
 
 pub returns-clause-same : goal.returns-clause-same

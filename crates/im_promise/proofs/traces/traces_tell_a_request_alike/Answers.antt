@@ -1,7 +1,6 @@
-use Rattle.im_promise.proofs.Alike.{told_alike, acts_once}
-use Rattle.im_promise.proofs.traces.traces_tell_a_request_alike.Goals as goal
+use Rattle.im_promise.proofs.Alike.{acts_once, told_alike}
 
-pub returns : goal.returns
+pub returns : Rattle.im_promise.proofs.traces.traces_tell_a_request_alike.Goals.returns
 returns c =
     let run = c.trace_is_a_run.ensures.end in
     let join = c.traces_join.ensures.end in

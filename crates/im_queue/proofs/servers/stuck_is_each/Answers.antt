@@ -1,5 +1,4 @@
 use Rattle.im_queue.proofs.StuckLemmas.{stuck_is_each}
-use Rattle.im_queue.proofs.servers.stuck_is_each.Goals as goal
 
-pub returns : goal.returns
+pub returns : Rattle.im_queue.proofs.servers.stuck_is_each.Goals.returns
 returns _ = stuck_is_each

@@ -1,7 +1,6 @@
-use Rattle.im_receipts.proofs.Tellings.{is_telling, both}
-use Rattle.im_receipts.proofs.alike.told_alike.Goals as goal
+use Rattle.im_receipts.proofs.Tellings.{both, is_telling}
 
-pub returns : goal.returns
+pub returns : Rattle.im_receipts.proofs.alike.told_alike.Goals.returns
 returns g c = record {
   alike = λ r first second gives gives'.
       let m = g.K.Name.origin.memory in

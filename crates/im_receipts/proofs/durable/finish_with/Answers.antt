@@ -1,8 +1,7 @@
-use Rattle.std.proofs.Common.{◌∙◌, sym, ap, subst}
-use mathlib.Core.List.{IsPrefix}
+use Rattle.std.proofs.Common.{sym, ap, ◌∙◌, subst}
 use Rattle.im_trace.specs.Ends.{RecordingState}
-use Rattle.im_controller.specs.Lines.{time_at}
-use Rattle.im_controller.specs.Kept.{IsSessionOf, KeptSince}
+use Rattle.im_controller.specs.{Kept.IsSessionOf, Kept.KeptSince, Lines.time_at}
+use mathlib.Core.List.{IsPrefix}
 use Rattle.im_receipts.proofs.durable.finish_with.Goals as goal
 
 pub returns-clause-begins : goal.returns-clause-begins

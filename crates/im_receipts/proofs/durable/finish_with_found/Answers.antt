@@ -1,13 +1,10 @@
-use Rattle.std.proofs.Common.{◌∙◌, List, sym, ap, subst}
-use mathlib.Core.List.{IsPrefix}
-use Rattle.im_types.specs.declared.commands.Line.{Line}
-use Rattle.im_types.specs.Contents.{Contents}
+use Rattle.std.proofs.Common.{List, sym, ap, ◌∙◌, subst}
+use Rattle.{im_types.specs.Types.Line, im_types.specs.Types.Contents, im_controller.specs.Lines.time_at}
+use Rattle.im_receipts.proofs.DurableLemmas.{found_later, is_left_at, means_past, memory_with}
 use Rattle.im_receipts.specs.Durable.{IsFoundAgainOrForgotten}
-use Rattle.im_controller.specs.Lines.{time_at}
-use Rattle.im_receipts.proofs.DurableLemmas.{means_past, memory_with, found_later, is_left_at}
-use Rattle.im_receipts.proofs.durable.finish_with_found.Goals as goal
+use mathlib.Core.List.{IsPrefix}
 
-pub returns : goal.returns
+pub returns : Rattle.im_receipts.proofs.durable.finish_with_found.Goals.returns
 returns g c = record {
   keeps = λ honest.
       let k = g.K.Name.origin in

@@ -1,13 +1,10 @@
-use Rattle.std.proofs.Common.{◌≡◌, ◌∙◌, List, length, sym, ap, subst}
-use mathlib.Core.List.{IsPrefix}
-use Rattle.im_types.specs.declared.commands.Line.{Line}
-use Rattle.im_trace.specs.Ends.{RecordingState}
-use Rattle.im_trace.specs.Lines.{time_at}
-use Rattle.im_trace.proofs.TimeLemmas.{both-at}
+use Rattle.std.proofs.Common.{◌≡◌, List, length, sym, ap, ◌∙◌, subst}
+use Rattle.im_types.specs.Types.{Line}
+use Rattle.im_trace.{proofs.TimeLemmas.both-at, specs.Ends.RecordingState, specs.Lines.time_at}
 use Rattle.im_receipts.proofs.TimedLemmas.{in_time}
-use Rattle.im_receipts.proofs.timed.finish_with_two.Goals as goal
+use mathlib.Core.List.{IsPrefix}
 
-pub returns : goal.returns
+pub returns : Rattle.im_receipts.proofs.timed.finish_with_two.Goals.returns
 returns g c = record {
   order = λ honest begins.
       let one = c.args.one.now in

@@ -1,9 +1,7 @@
-use Rattle.std.proofs.Common.{◌*◌}
-use Rattle.std.proofs.lemmas.Result.{IfOk-weaker}
-use Rattle.im_types.specs.Layout.{sizes_of, page_bytes, cell_pages}
-use Rattle.im_records.proofs.area.cells_of.Goals as goal
+use Rattle.std.proofs.{Common.◌*◌, lemmas.Result.IfOk-weaker}
+use Rattle.im_types.specs.Types.{sizes_of, page_bytes, cell_pages}
 
-pub returns-clause-found : goal.returns-clause-found
+pub returns-clause-found : Rattle.im_records.proofs.area.cells_of.Goals.returns-clause-found
 returns-clause-found c =
     IfOk-weaker c.rest_of_cells.result _ _
     (λ row found area stands first. found

@@ -1,13 +1,9 @@
 use Rattle.std.proofs.Common.{ℕ, ◌*◌, sym, subst}
-use Rattle.im_types.specs.declared.TheConstants.{NONE}
-use Rattle.im_types.specs.declared.records.CellRecord.TheVariants.{Free as FreeCell}
-use Rattle.im_types.specs.Layout.{layout_of, sizes_of, node_count, page_bytes, cell_pages}
-use Rattle.im_types.specs.Records.{cell_bytes, FitsCell}
-use Rattle.im_records.specs.Rows.{BeginWithCells}
-use Rattle.im_records.proofs.Parts.{cells_fit, beginning_of_row}
-use Rattle.im_records.proofs.area.read_more_cells.Goals as goal
+use Rattle.im_types.specs.Types.{NONE, layout_of, sizes_of, page_bytes, node_count, cell_pages, FreeCell, cell_bytes}
+use Rattle.im_types.specs.Types.{FitsCell}
+use Rattle.im_records.{proofs.Parts.beginning_of_row, proofs.Parts.cells_fit, specs.Rows.BeginWithCells}
 
-pub returns-clause-bad : goal.returns-clause-bad
+pub returns-clause-bad : Rattle.im_records.proofs.area.read_more_cells.Goals.returns-clause-bad
 returns-clause-bad c = λ e area r stands spells.
     let s = sizes_of c.args.limits in
     let n = node_count (layout_of c.args.version) s in

@@ -1,9 +1,8 @@
 use Rattle.std.proofs.Common.{ℕ, ◌+◌, ◌-◌, ◌*◌, List, length, take, drop, sym, ap, ◌∙◌, subst, arith}
-use Rattle.im_types.specs.Layout as layout
-use Rattle.im_types.specs.Layout.{layout_of, sizes_of}
+use Rattle.im_types.specs.Types.{layout_of, sizes_of}
+use Rattle.im_records.proofs.{Parts.end_of_rest, Parts.first_of_rest, Parts.middle_of_rest, RowLemmas.refused-same}
 use Rattle.im_records.specs.Rows.{AreNodes, AreSessions}
-use Rattle.im_records.proofs.Parts.{first_of_rest, middle_of_rest, end_of_rest}
-use Rattle.im_records.proofs.RowLemmas.{refused-same}
+use Rattle.im_types.specs.Layout as layout
 use Rattle.im_records.proofs.area.read_rest_of_area.Goals as goal
 
 pub returns-in-Err-clause-bad : goal.returns-in-Err-clause-bad

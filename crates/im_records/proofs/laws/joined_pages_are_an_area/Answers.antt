@@ -1,5 +1,4 @@
 use Rattle.im_records.proofs.Joining.{joined_is_area}
-use Rattle.im_records.proofs.laws.joined_pages_are_an_area.Goals as goal
 
-pub returns : goal.returns
+pub returns : Rattle.im_records.proofs.laws.joined_pages_are_an_area.Goals.returns
 returns c = joined_is_area

@@ -1,10 +1,8 @@
-use Rattle.std.proofs.Common.{rules, arith, ◌≡◌, ◌≤◌, ◌+◌, ◌*◌, ◌∙◌, ap, ℕ, length}
-use Rattle.im_records.specs.Placed.{placed}
-use Rattle.im_types.specs.Layout.{layout_in_use, session_record_bytes}
-use Rattle.im_records.proofs.Places.{others_are, apart}
-use Rattle.im_records.proofs.page.put_session.Goals as goal
+use Rattle.std.proofs.Common.{◌≡◌, ℕ, ◌+◌, ◌*◌, ◌≤◌, length, ap, ◌∙◌, arith, rules}
+use Rattle.im_types.specs.Types.{layout_in_use, session_record_bytes}
+use Rattle.im_records.{proofs.Places.apart, proofs.Places.others_are, specs.Placed.placed}
 
-pub returns-clause-others : goal.returns-clause-others
+pub returns-clause-others : Rattle.im_records.proofs.page.put_session.Goals.returns-clause-others
 returns-clause-others c = λ k lt other.
     let long : length c.session_or_zeros.result ≡ (session_record_bytes layout_in_use) = search rules in
     let room : (session_record_bytes layout_in_use) * c.args.place +

@@ -1,6 +1,5 @@
-use Rattle.std.proofs.Common.{None, Some, ap, arith, sym, ◌∙◌, if◌then◌else◌}
-use Rattle.im_records.proofs.Filled.{filled, not_filled}
-use Rattle.im_records.proofs.Reading.{false_true}
+use Rattle.std.proofs.Common.{if◌then◌else◌, Some, None, sym, ap, ◌∙◌, arith}
+use Rattle.im_records.proofs.{Filled.filled, Filled.not_filled, Reading.false_true}
 use Rattle.im_records.proofs.read.cell_if.Goals as goal
 
 pub returns-then-fill_cell : goal.returns-then-fill_cell

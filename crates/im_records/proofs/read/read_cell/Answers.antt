@@ -1,6 +1,6 @@
-use Rattle.std.proofs.Common.{sym, ◌∙◌, ap, option_and_then}
+use Rattle.std.proofs.Common.{option_and_then, sym, ap, ◌∙◌}
 use Rattle.im_formats.specs.Reading.{cell_if, cell_in}
-use Rattle.im_records.proofs.Reading.{no_cell, cell_by}
+use Rattle.im_records.proofs.Reading.{cell_by, no_cell}
 use Rattle.im_records.proofs.read.read_cell.Goals as goal
 
 pub returns-in_default : goal.returns-in_default

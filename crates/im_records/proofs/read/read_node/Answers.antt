@@ -1,7 +1,5 @@
-use Rattle.std.proofs.Common.{Some, None, sym, ◌∙◌, ap, if◌then◌else◌}
-use Rattle.im_types.specs.Bytes.{same_bytes}
-use Rattle.im_types.specs.Records.{node_bytes}
-use Rattle.im_formats.specs.Reading.{node_in}
+use Rattle.std.proofs.Common.{if◌then◌else◌, Some, None, sym, ap, ◌∙◌}
+use Rattle.{im_types.specs.Types.same_bytes, im_types.specs.Types.node_bytes, im_formats.specs.Reading.node_in}
 use Rattle.im_records.proofs.Reading.{no_node, node_by}
 use Rattle.im_records.proofs.read.read_node.Goals as goal
 

@@ -1,4 +1,4 @@
-use Rattle.std.proofs.Common.{sym, ◌∙◌, ap, option_and_then}
+use Rattle.std.proofs.Common.{option_and_then, sym, ap, ◌∙◌}
 use Rattle.im_formats.specs.Reading.{place_if, place_in}
 use Rattle.im_records.proofs.Reading.{no_place, place_by}
 use Rattle.im_records.proofs.read.read_place.Goals as goal

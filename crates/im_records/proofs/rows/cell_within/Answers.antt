@@ -1,7 +1,6 @@
 use Rattle.std.proofs.Common.{◌≡◌, sym, ◌∙◌, subst}
-use Rattle.im_types.specs.Records.{FitsCell}
-use Rattle.im_formats.proofs.Records.{read_cell-only}
-use Rattle.im_records.proofs.Reading.{cell_is_read, none_some, some_inj, false_true}
+use Rattle.{im_types.specs.Types.FitsCell, im_formats.proofs.Records.read_cell-only}
+use Rattle.im_records.proofs.Reading.{cell_is_read, false_true, none_some, some_inj}
 use Rattle.im_records.proofs.rows.cell_within.Goals as goal
 
 pub returns-in_err-cell-clause-only : goal.returns-in_err-cell-clause-only

@@ -1,7 +1,6 @@
 use Rattle.std.proofs.Common.{◌≡◌, sym, ◌∙◌, subst}
-use Rattle.im_types.specs.Records.{FitsNode}
-use Rattle.im_formats.proofs.Records.{read_node-only}
-use Rattle.im_records.proofs.Reading.{node_is_read, none_some, some_inj, false_true}
+use Rattle.{im_types.specs.Types.FitsNode, im_formats.proofs.Records.read_node-only}
+use Rattle.im_records.proofs.Reading.{false_true, node_is_read, none_some, some_inj}
 use Rattle.im_records.proofs.rows.node_within.Goals as goal
 
 pub returns-in_err-node-clause-only : goal.returns-in_err-node-clause-only

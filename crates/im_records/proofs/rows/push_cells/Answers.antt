@@ -1,8 +1,5 @@
-use Rattle.std.proofs.Common.{rules, ◌≡◌, ◌∷◌, [], ◌++◌, length, ap, arith, Some}
-use Rattle.std.proofs.lemmas.List.{length-append}
-use Rattle.im_types.specs.declared.TheConstants.{NONE}
-use Rattle.im_types.specs.declared.records.CellRecord.TheVariants.{Free as FreeCell}
-use Rattle.im_types.specs.Records.{cell_bytes, FitsCell}
+use Rattle.std.proofs.Common.{◌≡◌, [], ◌∷◌, ◌++◌, length, Some, ap, arith, length-append, rules}
+use Rattle.im_types.specs.Types.{NONE, FreeCell, cell_bytes, FitsCell}
 use Rattle.im_records.proofs.RowLemmas.{begin_behind, none_behind}
 use Rattle.im_records.proofs.rows.push_cells.Goals as goal
 

@@ -1,10 +1,7 @@
 use Rattle.std.proofs.Common.{◌*◌, length, sym, ◌∙◌, arith}
-use Rattle.im_types.specs.declared.TheConstants.{NONE}
-use Rattle.im_types.specs.declared.records.CellRecord.TheVariants.{Free as FreeCell}
-use Rattle.im_types.specs.Records.{cell_bytes, FitsCell}
-use Rattle.im_records.proofs.Parts.{zeros_of_piece, zeros_in_piece, row_of_beginning, beginning_of_row}
-use Rattle.im_records.proofs.Reading.{false_true}
-use Rattle.im_records.proofs.RowLemmas.{begin_as_many, refused-same}
+use Rattle.im_types.specs.Types.{NONE, FreeCell, cell_bytes, FitsCell}
+use Rattle.im_records.proofs.Parts.{beginning_of_row, row_of_beginning, zeros_in_piece, zeros_of_piece}
+use Rattle.im_records.proofs.{Reading.false_true, RowLemmas.begin_as_many, RowLemmas.refused-same}
 use Rattle.im_records.proofs.rows.rest_of_cells.Goals as goal
 
 pub returns-then-not-are_zero-clause-bad : goal.returns-then-not-are_zero-clause-bad

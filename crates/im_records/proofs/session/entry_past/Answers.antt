@@ -1,6 +1,5 @@
 use Rattle.std.proofs.Common.{sym, ◌∙◌}
-use Rattle.im_records.proofs.Reading.{none_some, some_inj}
-use Rattle.im_records.proofs.SessionLemmas.{entry_is_read}
+use Rattle.im_records.proofs.{Reading.none_some, Reading.some_inj, SessionLemmas.entry_is_read}
 use Rattle.im_records.proofs.session.entry_past.Goals as goal
 
 pub returns-in-Some : goal.returns-in-Some

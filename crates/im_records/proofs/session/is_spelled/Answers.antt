@@ -1,10 +1,7 @@
-use Rattle.std.proofs.Common.{◌≡◌, Bool, true, sym, ap, ◌∙◌, take, ℕ}
-use Rattle.std.specs.Prelude.{IsTrue}
-use Rattle.im_types.specs.Bytes.{same_bytes}
-use Rattle.im_types.specs.Layout.{layout_of}
+use Rattle.std.proofs.Common.{◌≡◌, ℕ, Bool, true, take, IsTrue, sym, ap, ◌∙◌}
+use Rattle.im_types.specs.Types.{layout_of, same_bytes}
 use Rattle.im_formats.proofs.Same.{same_bytes_self, same_bytes_true}
 use Rattle.im_records.proofs.SessionLemmas.{first_bytes, has_place}
-use Rattle.im_records.proofs.session.is_spelled.Goals as goal
 
 is_true : (b : Bool) → IsTrue b → b ≡ true
 is_true b h = search
@@ -12,7 +9,7 @@ is_true b h = search
 from_true : (b : Bool) → b ≡ true → IsTrue b
 from_true b h = search
 
-pub returns-then-fits_window : goal.returns-then-fits_window
+pub returns-then-fits_window : Rattle.im_records.proofs.session.is_spelled.Goals.returns-then-fits_window
 returns-then-fits_window c =
     let begins = ap (λ (n : ℕ). take n c.spell_in.result) c.session_record.ensures.bytes
     ∙ first_bytes (layout_of c.args.version)

@@ -1,6 +1,6 @@
-use Rattle.std.proofs.Common.{ap, sym, ◌∙◌, length}
-use Rattle.im_types.specs.Layout.{layout_of}
-use Rattle.im_records.proofs.SessionLemmas.{length-session, has_place}
+use Rattle.std.proofs.Common.{length, sym, ap, ◌∙◌}
+use Rattle.im_types.specs.Types.{layout_of}
+use Rattle.im_records.proofs.SessionLemmas.{has_place, length-session}
 use Rattle.im_records.proofs.session.read_session.Goals as goal
 
 pub returns-then-bytes-session_record-clause-only : goal.returns-then-bytes-session_record-clause-only

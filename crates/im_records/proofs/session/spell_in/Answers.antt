@@ -1,9 +1,7 @@
-use Rattle.std.proofs.Common.{◌++◌, [], ◌∷◌, length, refl, ap, ◌∙◌, arith}
+use Rattle.std.proofs.Common.{[], ◌∷◌, ◌++◌, length, refl, ap, ◌∙◌, arith}
 use Rattle.byteorder.specs.Endian.{little_bytes}
-use Rattle.im_types.specs.Bytes.{zeros}
-use Rattle.im_types.specs.Layout.{layout_of}
-use Rattle.im_types.specs.Records.{place_bytes}
-use Rattle.im_records.proofs.SessionLemmas.{placed_behind, place_more, all_places}
+use Rattle.im_types.specs.Types.{layout_of, zeros, place_bytes}
+use Rattle.im_records.proofs.SessionLemmas.{all_places, place_more, placed_behind}
 use Rattle.im_records.specs.Placed.{placed}
 use Rattle.im_records.proofs.session.spell_in.Goals as goal
 

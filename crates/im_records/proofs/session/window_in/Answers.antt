@@ -1,9 +1,7 @@
-use Rattle.std.proofs.Common.{◌≡◌, ◌<◌, length, ap, sym, ◌∙◌, arith, ◌++◌, ◌∷◌, [], List, slice_index}
-use Rattle.im_types.specs.Contents.{Window}
-use Rattle.im_types.specs.Layout.{layout_of}
-use Rattle.im_types.specs.declared.operations.Kept.{Kept}
-use Rattle.im_records.proofs.SessionLemmas.{base_is_read, count_is_read, none_within, take_more, whole_window}
-use Rattle.im_records.proofs.SessionLemmas.{one_longer}
+use Rattle.std.proofs.Common.{◌≡◌, ◌<◌, List, [], ◌∷◌, ◌++◌, length, slice_index, sym, ap, ◌∙◌, arith}
+use Rattle.im_types.specs.Types.{Kept, Window, layout_of}
+use Rattle.im_records.proofs.SessionLemmas.{base_is_read, count_is_read, none_within, one_longer, take_more}
+use Rattle.im_records.proofs.SessionLemmas.{whole_window}
 use Rattle.im_records.proofs.session.window_in.Goals as goal
 
 pub returns-in_err-entry_past : goal.returns-in_err-entry_past

@@ -1,11 +1,9 @@
-use Rattle.std.proofs.Common.{◌≡◌, take, length}
-use Rattle.im_types.specs.Contents.{Window}
-use Rattle.im_types.specs.Layout.{layout_of}
+use Rattle.std.proofs.Common.{◌≡◌, length, take}
+use Rattle.im_types.specs.Types.{Window, layout_of}
 use Rattle.im_records.specs.Entries.{SpellsSession}
-use Rattle.im_records.proofs.session.window_in.Given as goal
 
 -- so far these are the entries of each window that the bytes spell
-abbrev pub invariant-loop-past : goal.invariant-loop-past
+abbrev pub invariant-loop-past : Rattle.im_records.proofs.session.window_in.Given.invariant-loop-past
 invariant-loop-past l = record {
   base : l.window.base ≡ l.base;
   many : length l.window.kept ≡ l.past;

@@ -1,8 +1,7 @@
-use Rattle.std.proofs.Common.{◌≡◌, ◌+◌, ◌∙◌, ap, length, arith}
-use Rattle.std.specs.Prelude.{if◌then◌else◌}
-use Rattle.im_types.specs.Contents.{block_at}
+use Rattle.std.proofs.Common.{◌≡◌, ◌+◌, length, if◌then◌else◌, ap, ◌∙◌, arith}
+use Rattle.im_types.specs.Types.{block_at}
+use Rattle.im_report.proofs.SumLemmas.{one_few, sums_more, sums_none}
 use Rattle.im_report.specs.Figures.{begins_at, sum_below}
-use Rattle.im_report.proofs.SumLemmas.{sums_none, sums_more, one_few}
 use Rattle.im_report.proofs.counting.bases.Goals as goal
 
 pub loop-a-init : goal.loop-a-init

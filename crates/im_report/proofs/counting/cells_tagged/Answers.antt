@@ -1,9 +1,7 @@
-use Rattle.std.proofs.Common.{◌≡◌, ◌+◌, ◌∙◌, ap, ap₂, length, arith}
-use Rattle.std.specs.Prelude.{if◌then◌else◌}
-use Rattle.im_types.specs.Contents.{block_at, held_at}
-use Rattle.im_types.specs.Presences.{presence_in}
+use Rattle.std.proofs.Common.{◌≡◌, ◌+◌, length, if◌then◌else◌, ap, ◌∙◌, ap₂, arith}
+use Rattle.im_types.specs.Types.{held_at, block_at, presence_in}
+use Rattle.im_report.proofs.SumLemmas.{one_few, sums_more, sums_none}
 use Rattle.im_report.specs.Figures.{is_tagged, sum_below}
-use Rattle.im_report.proofs.SumLemmas.{sums_none, sums_more, one_few}
 use Rattle.im_report.proofs.counting.cells_tagged.Goals as goal
 
 pub loop-a-init : goal.loop-a-init

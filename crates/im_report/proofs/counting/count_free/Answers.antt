@@ -1,9 +1,8 @@
-use Rattle.std.proofs.Common.{◌≡◌, ◌+◌, ◌∙◌, ap, length, arith}
-use Rattle.std.specs.Prelude.{if◌then◌else◌, is_none}
-use Rattle.im_types.specs.Contents.{block_at}
-use Rattle.im_report.specs.Figures.{row_after, sum_below, most_below}
+use Rattle.std.proofs.Common.{◌≡◌, ◌+◌, length, is_none, if◌then◌else◌, ap, ◌∙◌, arith}
+use Rattle.im_types.specs.Types.{block_at}
+use Rattle.im_report.proofs.SumLemmas.{ap₃, rows_more, rows_none}
 use Rattle.im_report.specs.declared.figures.FreeFigures.{FreeFigures}
-use Rattle.im_report.proofs.SumLemmas.{rows_none, rows_more, ap₃}
+use Rattle.im_report.specs.Figures.{most_below, row_after, sum_below}
 use Rattle.im_report.proofs.counting.count_free.Goals as goal
 
 pub loop-a-init : goal.loop-a-init

@@ -1,7 +1,7 @@
-use Rattle.std.proofs.Common.{◌≡◌, ◌+◌, ◌∙◌, ◌≤◌, ap, length, arith}
-use Rattle.im_report.specs.Figures.{queue_at, sum_below, most_below, first_most}
+use Rattle.std.proofs.Common.{◌≡◌, ◌+◌, ◌≤◌, length, ap, ◌∙◌, arith}
+use Rattle.im_report.proofs.SumLemmas.{ap₃, sums_more, sums_none, tops_more, tops_none}
 use Rattle.im_report.specs.declared.figures.QueueFigures.{QueueFigures}
-use Rattle.im_report.proofs.SumLemmas.{sums_none, sums_more, tops_none, tops_more, ap₃}
+use Rattle.im_report.specs.Figures.{first_most, most_below, queue_at, sum_below}
 use Rattle.im_report.proofs.counting.count_queues.Goals as goal
 
 pub loop-a-init : goal.loop-a-init

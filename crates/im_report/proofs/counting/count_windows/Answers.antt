@@ -1,8 +1,7 @@
-use Rattle.std.proofs.Common.{◌≡◌, ◌+◌, ◌∙◌, ◌≤◌, ℕ, ap, length, arith}
-use Rattle.std.specs.Prelude.{if◌then◌else◌, ◌==◌, slice_get}
-use Rattle.im_report.specs.Figures.{has_asked, kept_in, sum_below}
+use Rattle.std.proofs.Common.{◌≡◌, ℕ, ◌+◌, ◌≤◌, length, if◌then◌else◌, ◌==◌, slice_get, ap, ◌∙◌, arith}
+use Rattle.im_report.proofs.SumLemmas.{ap₃, one_few, sums_more, sums_none}
 use Rattle.im_report.specs.declared.figures.WindowFigures.{WindowFigures}
-use Rattle.im_report.proofs.SumLemmas.{sums_none, sums_more, one_few, ap₃}
+use Rattle.im_report.specs.Figures.{has_asked, kept_in, sum_below}
 use Rattle.im_report.proofs.counting.count_windows.Goals as goal
 
 pub loop-element-init : goal.loop-element-init

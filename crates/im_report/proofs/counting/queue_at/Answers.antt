@@ -1,6 +1,6 @@
-use Rattle.std.proofs.Common.{◌∙◌, List, ap, length, arith}
-use Rattle.im_types.specs.declared.operations.Waiter.{Waiter}
-use Rattle.im_report.proofs.QueueLemmas.{queue_few, none_left, one_left}
+use Rattle.std.proofs.Common.{List, length, ap, ◌∙◌, arith}
+use Rattle.im_types.specs.Types.{Waiter}
+use Rattle.im_report.proofs.QueueLemmas.{none_left, one_left, queue_few}
 use Rattle.im_report.proofs.counting.queue_at.Goals as goal
 
 pub loop-waiter-init : goal.loop-waiter-init

@@ -1,9 +1,7 @@
-use Rattle.std.proofs.Common.{◌++◌, ◌∙◌, ap, string_bytes}
-use Rattle.im_types.specs.Contents.{held_at, waiters_at}
-use Rattle.im_types.specs.Presences.{presence_in}
-use Rattle.im_text.proofs.TextLemmas.{written_none, written_more}
-use Rattle.im_report.specs.Report.{cell_line}
-use Rattle.im_report.specs.Look.{names_cell, text_if}
+use Rattle.std.proofs.Common.{◌++◌, string_bytes, ap, ◌∙◌}
+use Rattle.im_types.specs.Types.{held_at, waiters_at, presence_in}
+use Rattle.im_text.proofs.TextLemmas.{written_more, written_none}
+use Rattle.im_report.specs.{Look.names_cell, Look.text_if, Report.cell_line}
 use Rattle.im_report.proofs.filtering.add_named_cells.Goals as goal
 
 pub loop-a-init : goal.loop-a-init

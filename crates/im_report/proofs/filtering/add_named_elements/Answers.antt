@@ -1,8 +1,6 @@
-use Rattle.std.proofs.Common.{◌++◌, ◌∙◌, ap, string_bytes}
-use Rattle.std.specs.Prelude.{slice_get}
-use Rattle.im_text.proofs.TextLemmas.{written_none, written_more}
-use Rattle.im_report.specs.Report.{window_text}
-use Rattle.im_report.specs.Look.{text_if}
+use Rattle.std.proofs.Common.{◌++◌, slice_get, string_bytes, ap, ◌∙◌}
+use Rattle.im_text.proofs.TextLemmas.{written_more, written_none}
+use Rattle.im_report.specs.{Look.text_if, Report.window_text}
 use Rattle.im_report.proofs.filtering.add_named_elements.Goals as goal
 
 pub loop-element-init : goal.loop-element-init

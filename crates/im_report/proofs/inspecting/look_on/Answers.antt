@@ -1,9 +1,7 @@
 use Rattle.std.specs.Io.KnownBytes.{Keeps}
-use Rattle.im_report.specs.Look.{ShowsView}
-use Rattle.im_report.proofs.InspectingLemmas.{done_at_zero, looks_kept}
-use Rattle.im_report.proofs.inspecting.look_on.Goals as goal
+use Rattle.im_report.{proofs.InspectingLemmas.done_at_zero, proofs.InspectingLemmas.looks_kept, specs.Look.ShowsView}
 
-pub returns-clause-told : goal.returns-clause-told
+pub returns-clause-told : Rattle.im_report.proofs.inspecting.look_on.Goals.returns-clause-told
 returns-clause-told g c = λ honest zero.
     let bytes = (g.D.Disk.now c.args.disk).bytes in
     let was = g.W.Write.contents c.args.out.now in

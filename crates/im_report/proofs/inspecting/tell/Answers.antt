@@ -1,12 +1,9 @@
-use Rattle.std.proofs.Common.{◌≡◌, ◌∙◌, subst}
+use Rattle.std.proofs.{Common.◌≡◌, Common.◌∙◌, Common.subst, lemmas.Result.on_ok_weaker}
 use Rattle.std.specs.Io.KnownBytes.{Appends}
-use Rattle.std.proofs.lemmas.Result.{on_ok_weaker}
 use Rattle.im_image.specs.Headers.{seen}
-use Rattle.im_report.specs.Look.{looked_text}
-use Rattle.im_report.proofs.InspectingLemmas.{looks}
-use Rattle.im_report.proofs.inspecting.tell.Goals as goal
+use Rattle.im_report.{proofs.InspectingLemmas.looks, specs.Look.looked_text}
 
-pub returns-in-Ok-text_of-clause-told : goal.returns-in-Ok-text_of-clause-told
+pub returns-in-Ok-text_of-clause-told : Rattle.im_report.proofs.inspecting.tell.Goals.returns-in-Ok-text_of-clause-told
 returns-in-Ok-text_of-clause-told g c = on_ok_weaker c.put_through.result (λ whole. λ honest.
     let report = c.in-Ok.report in
     let was = g.W.Write.contents c.args.out.now in

@@ -1,6 +1,6 @@
-use Rattle.std.proofs.Common.{◌++◌, ◌∙◌, ap, string_bytes}
+use Rattle.std.proofs.Common.{◌++◌, string_bytes, ap, ◌∙◌}
+use Rattle.im_text.proofs.TextLemmas.{written_more, written_none}
 use Rattle.im_report.specs.Report.{block_line}
-use Rattle.im_text.proofs.TextLemmas.{written_none, written_more}
 use Rattle.im_report.proofs.report.add_blocks.Goals as goal
 
 pub loop-a-init : goal.loop-a-init

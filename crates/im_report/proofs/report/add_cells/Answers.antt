@@ -1,4 +1,4 @@
-use Rattle.im_text.proofs.TextLemmas.{written_none, written_more}
+use Rattle.im_text.proofs.TextLemmas.{written_more, written_none}
 use Rattle.im_report.proofs.report.add_cells.Goals as goal
 
 pub loop-a-init : goal.loop-a-init

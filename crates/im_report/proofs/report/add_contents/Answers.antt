@@ -1,10 +1,8 @@
-use Rattle.std.proofs.Common.{◌++◌, string_bytes}
-use Rattle.std.proofs.lemmas.Result.{on_ok_weaker}
-use Rattle.im_report.specs.Report.{blocks_text, cells_text, elements_text}
+use Rattle.std.proofs.{Common.◌++◌, Common.string_bytes, lemmas.Result.on_ok_weaker}
 use Rattle.im_report.proofs.ReportLemmas.{joined}
-use Rattle.im_report.proofs.report.add_contents.Goals as goal
+use Rattle.im_report.specs.Report.{blocks_text, cells_text, elements_text}
 
-pub returns : goal.returns
+pub returns : Rattle.im_report.proofs.report.add_contents.Goals.returns
 returns c =
     let m = c.args.memory.now.contents in
     let blocks = blocks_text c.args.notation m in

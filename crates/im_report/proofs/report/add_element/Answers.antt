@@ -1,11 +1,9 @@
-use Rattle.std.proofs.Common.{◌∙◌, sym, arith, string_bytes}
-use Rattle.std.specs.Prelude.{slice_get}
+use Rattle.std.proofs.Common.{slice_get, string_bytes, sym, ◌∙◌, arith}
 use Rattle.std.proofs.lemmas.Result.{on_ok_weaker}
 use Rattle.im_text.proofs.WindowLemmas.{bounds_found}
 use Rattle.im_report.proofs.ReportLemmas.{element_told}
-use Rattle.im_report.proofs.report.add_element.Goals as goal
 
-pub returns : goal.returns
+pub returns : Rattle.im_report.proofs.report.add_element.Goals.returns
 returns c =
     let found = bounds_found (slice_get c.args.memory.now.contents.windows c.args.element) c.in-Ok.base c.in-Ok.next (sym c.window.ensures ∙ c.in-Ok.is) in
     on_ok_weaker c.add_entries.result

@@ -1,4 +1,4 @@
-use Rattle.im_text.proofs.TextLemmas.{written_none, written_more}
+use Rattle.im_text.proofs.TextLemmas.{written_more, written_none}
 use Rattle.im_report.proofs.report.add_elements.Goals as goal
 
 pub loop-element-init : goal.loop-element-init

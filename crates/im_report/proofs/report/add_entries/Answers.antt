@@ -1,5 +1,5 @@
-use Rattle.std.proofs.Common.{◌++◌, ◌-◌, ◌∙◌, ap, arith, string_bytes}
-use Rattle.im_text.proofs.TextLemmas.{written_none_at, written_more_at}
+use Rattle.std.proofs.Common.{◌-◌, ◌++◌, string_bytes, ap, ◌∙◌, arith}
+use Rattle.im_text.proofs.TextLemmas.{written_more_at, written_none_at}
 use Rattle.im_report.proofs.ReportLemmas.{entry_at}
 use Rattle.im_report.proofs.report.add_entries.Goals as goal
 

@@ -1,11 +1,9 @@
-use Rattle.std.proofs.Common.{◌++◌, string_bytes}
-use Rattle.std.proofs.lemmas.Result.{on_ok_weaker}
+use Rattle.std.proofs.{Common.◌++◌, Common.string_bytes, lemmas.Result.on_ok_weaker}
 use Rattle.im_image.specs.Headers.{seen}
-use Rattle.im_report.specs.Report.{version_line, limits_line, header_line}
 use Rattle.im_report.proofs.ReportLemmas.{joined}
-use Rattle.im_report.proofs.report.add_opening.Goals as goal
+use Rattle.im_report.specs.Report.{header_line, limits_line, version_line}
 
-pub returns : goal.returns
+pub returns : Rattle.im_report.proofs.report.add_opening.Goals.returns
 returns c =
     let h = seen c.args.header.now in
     let start = string_bytes c.args.out.now in

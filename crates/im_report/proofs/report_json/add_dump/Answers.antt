@@ -1,14 +1,9 @@
-use Rattle.std.proofs.Common.{◌++◌, codes, string_bytes}
-use Rattle.std.proofs.lemmas.Result.{on_ok_weaker}
+use Rattle.std.proofs.{Common.◌++◌, Common.string_bytes, Common.codes, lemmas.Result.on_ok_weaker}
 use Rattle.im_image.specs.Headers.{seen}
-use Rattle.im_report.specs.declared.notation.Notation.TheVariants.{Json}
-use Rattle.im_report.specs.Report.{contents_text}
-use Rattle.im_report.specs.ReportJson.{dump_sizes}
-use Rattle.im_report.specs.Stat.{count_json}
-use Rattle.im_report.proofs.ReportLemmas.{joined}
-use Rattle.im_report.proofs.report_json.add_dump.Goals as goal
+use Rattle.im_report.{proofs.ReportLemmas.joined, specs.Report.contents_text}
+use Rattle.im_report.specs.{declared.notation.Notation.TheVariants.Json, ReportJson.dump_sizes, Stat.count_json}
 
-pub returns : goal.returns
+pub returns : Rattle.im_report.proofs.report_json.add_dump.Goals.returns
 returns c =
     let h = seen c.args.report.now.header in
     let sizes = dump_sizes h in

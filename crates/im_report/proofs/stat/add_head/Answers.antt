@@ -1,12 +1,9 @@
-use Rattle.std.proofs.Common.{◌++◌, string_bytes}
-use Rattle.std.proofs.lemmas.Result.{on_ok_weaker}
+use Rattle.std.proofs.{Common.◌++◌, Common.string_bytes, lemmas.Result.on_ok_weaker}
 use Rattle.im_image.specs.Headers.{seen}
-use Rattle.im_report.specs.Report.{opening_lines}
-use Rattle.im_report.specs.Stat.{slots_line, count_line, next_line}
 use Rattle.im_report.proofs.ReportLemmas.{joined}
-use Rattle.im_report.proofs.stat.add_head.Goals as goal
+use Rattle.im_report.specs.{Report.opening_lines, Stat.count_line, Stat.next_line, Stat.slots_line}
 
-pub returns : goal.returns
+pub returns : Rattle.im_report.proofs.stat.add_head.Goals.returns
 returns c =
     let h = seen c.args.header.now in
     let one = opening_lines h in

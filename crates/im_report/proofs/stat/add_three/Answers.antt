@@ -1,10 +1,7 @@
-use Rattle.std.proofs.Common.{◌++◌, string_bytes}
-use Rattle.std.proofs.lemmas.Result.{on_ok_weaker}
-use Rattle.im_report.specs.Report.{numbered, three_words}
-use Rattle.im_report.proofs.ReportLemmas.{joined}
-use Rattle.im_report.proofs.stat.add_three.Goals as goal
+use Rattle.std.proofs.{Common.◌++◌, Common.string_bytes, lemmas.Result.on_ok_weaker}
+use Rattle.im_report.{proofs.ReportLemmas.joined, specs.Report.numbered, specs.Report.three_words}
 
-pub returns : goal.returns
+pub returns : Rattle.im_report.proofs.stat.add_three.Goals.returns
 unfolding three_words
 returns c =
     let start = string_bytes c.args.out.now in

@@ -1,11 +1,8 @@
-use Rattle.std.proofs.Common.{◌∙◌, ◌++◌, ap, string_bytes}
-use Rattle.std.proofs.lemmas.Result.{on_ok_weaker}
+use Rattle.std.proofs.{Common.◌++◌, Common.string_bytes, Common.ap, Common.◌∙◌, lemmas.Result.on_ok_weaker}
+use Rattle.im_report.{proofs.ReportLemmas.joined, specs.Stat.free_json, specs.Stat.queue_json, specs.Stat.window_json}
 use Rattle.im_report.specs.Figures.{free_figures, queue_figures, window_figures}
-use Rattle.im_report.specs.Stat.{free_json, queue_json, window_json}
-use Rattle.im_report.proofs.ReportLemmas.{joined}
-use Rattle.im_report.proofs.stat_json.add_figures.Goals as goal
 
-pub returns : goal.returns
+pub returns : Rattle.im_report.proofs.stat_json.add_figures.Goals.returns
 returns c =
     let m = c.args.memory.now.contents in
     let free = free_json (free_figures m) in

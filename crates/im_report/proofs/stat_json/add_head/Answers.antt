@@ -1,11 +1,9 @@
-use Rattle.std.proofs.Common.{◌++◌, string_bytes}
-use Rattle.std.proofs.lemmas.Result.{on_ok_weaker}
+use Rattle.std.proofs.{Common.◌++◌, Common.string_bytes, lemmas.Result.on_ok_weaker}
 use Rattle.im_image.specs.Headers.{seen}
-use Rattle.im_report.specs.Stat.{sizes_json, header_json, slots_json, count_json, next_json}
 use Rattle.im_report.proofs.ReportLemmas.{joined}
-use Rattle.im_report.proofs.stat_json.add_head.Goals as goal
+use Rattle.im_report.specs.Stat.{count_json, header_json, next_json, sizes_json, slots_json}
 
-pub returns : goal.returns
+pub returns : Rattle.im_report.proofs.stat_json.add_head.Goals.returns
 returns c =
     let h = seen c.args.header.now in
     let slots = slots_json h c.args.run c.args.room in

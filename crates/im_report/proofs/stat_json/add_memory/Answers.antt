@@ -1,12 +1,9 @@
-use Rattle.std.proofs.Common.{◌++◌, string_bytes}
-use Rattle.std.proofs.lemmas.Result.{on_ok_weaker}
-use Rattle.im_types.specs.declared.operations.Kind.TheVariants.{I, M}
-use Rattle.im_report.specs.Figures.{kind_figures}
-use Rattle.im_report.specs.Stat.{kind_json, figures_json}
+use Rattle.std.proofs.{Common.◌++◌, Common.string_bytes, lemmas.Result.on_ok_weaker}
+use Rattle.im_types.specs.Types.{I, M}
 use Rattle.im_report.proofs.ReportLemmas.{joined}
-use Rattle.im_report.proofs.stat_json.add_memory.Goals as goal
+use Rattle.im_report.specs.{Figures.kind_figures, Stat.figures_json, Stat.kind_json}
 
-pub returns : goal.returns
+pub returns : Rattle.im_report.proofs.stat_json.add_memory.Goals.returns
 returns c =
     let m = c.args.memory.now.contents in
     let one = kind_json I (kind_figures m I) in

@@ -1,10 +1,7 @@
-use Rattle.std.proofs.Common.{◌++◌, codes, string_bytes}
-use Rattle.std.proofs.lemmas.Result.{on_ok_weaker}
-use Rattle.im_report.specs.Report.{numbered}
-use Rattle.im_report.proofs.ReportLemmas.{joined}
-use Rattle.im_report.proofs.stat_json.add_sizes.Goals as goal
+use Rattle.std.proofs.{Common.◌++◌, Common.string_bytes, Common.codes, lemmas.Result.on_ok_weaker}
+use Rattle.im_report.{proofs.ReportLemmas.joined, specs.Report.numbered}
 
-pub returns : goal.returns
+pub returns : Rattle.im_report.proofs.stat_json.add_sizes.Goals.returns
 returns c =
     let start = string_bytes c.args.out.now in
     let part0 = numbered (codes "{\"version\":") c.args.header.now.version in

@@ -1,11 +1,8 @@
-use Rattle.std.proofs.Common.{◌++◌, codes, string_bytes}
-use Rattle.std.proofs.lemmas.Result.{on_ok_weaker}
+use Rattle.std.proofs.{Common.◌++◌, Common.string_bytes, Common.codes, lemmas.Result.on_ok_weaker}
 use Rattle.im_text.specs.Texts.{entry_text, op_text}
-use Rattle.im_report.specs.Report.{entry_start}
-use Rattle.im_report.proofs.ReportLemmas.{joined}
-use Rattle.im_report.proofs.told.add_kept_object.Goals as goal
+use Rattle.im_report.{proofs.ReportLemmas.joined, specs.Report.entry_start}
 
-pub returns : goal.returns
+pub returns : Rattle.im_report.proofs.told.add_kept_object.Goals.returns
 returns c =
     let one = entry_start c.args.element c.args.number in
     let op = op_text c.args.kept.op in

@@ -1,6 +1,6 @@
-use Rattle.std.proofs.Common.{◌++◌, ◌∙◌, ap, codes, string_bytes}
+use Rattle.std.proofs.Common.{◌++◌, string_bytes, codes, ap, ◌∙◌}
+use Rattle.im_report.proofs.ReportLemmas.{objects_more, objects_none}
 use Rattle.im_report.specs.Report.{mark_of, waiter_objects}
-use Rattle.im_report.proofs.ReportLemmas.{objects_none, objects_more}
 use Rattle.im_report.proofs.told.add_waiter_objects.Goals as goal
 
 pub loop-waiter-init : goal.loop-waiter-init

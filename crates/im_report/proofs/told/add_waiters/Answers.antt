@@ -1,6 +1,5 @@
-use Rattle.std.proofs.Common.{◌++◌, ◌∙◌, ap, string_bytes}
-use Rattle.im_report.specs.Report.{waiters_text}
-use Rattle.im_report.proofs.ReportLemmas.{waiters_none, waiters_more}
+use Rattle.std.proofs.Common.{◌++◌, string_bytes, ap, ◌∙◌}
+use Rattle.im_report.{proofs.ReportLemmas.waiters_more, proofs.ReportLemmas.waiters_none, specs.Report.waiters_text}
 use Rattle.im_report.proofs.told.add_waiters.Goals as goal
 
 pub loop-waiter-init : goal.loop-waiter-init

@@ -1,11 +1,8 @@
-use Rattle.std.proofs.Common.{◌++◌, codes, string_bytes}
-use Rattle.std.proofs.lemmas.Result.{on_ok_weaker}
-use Rattle.im_types.specs.Contents.{waiters_at}
-use Rattle.im_report.specs.Report.{waiter_objects, waiting_start}
-use Rattle.im_report.proofs.ReportLemmas.{joined}
-use Rattle.im_report.proofs.told.add_waiting_object.Goals as goal
+use Rattle.std.proofs.{Common.◌++◌, Common.string_bytes, Common.codes, lemmas.Result.on_ok_weaker}
+use Rattle.im_types.specs.Types.{waiters_at}
+use Rattle.im_report.{proofs.ReportLemmas.joined, specs.Report.waiter_objects, specs.Report.waiting_start}
 
-pub returns : goal.returns
+pub returns : Rattle.im_report.proofs.told.add_waiting_object.Goals.returns
 returns c =
     let one = waiting_start c.args.a in
     let all = waiter_objects (codes "[") (waiters_at c.args.memory.now.contents.cells c.args.a) in

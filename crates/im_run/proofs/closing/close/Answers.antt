@@ -1,12 +1,8 @@
 use Rattle.std.proofs.Common.{List, subst}
-use Rattle.im_types.specs.Contents.{Contents}
-use Rattle.im_text.proofs.PrintingLemmas.{on_ok_by}
-use Rattle.im_run.specs.declared.served.Did.{Did}
-use Rattle.im_run.specs.Running.{Closes}
-use Rattle.im_run.proofs.RunningLemmas.{closed_by}
-use Rattle.im_run.proofs.closing.close.Goals as goal
+use Rattle.{im_types.specs.Types.Contents, im_text.proofs.PrintingLemmas.on_ok_by}
+use Rattle.im_run.{proofs.RunningLemmas.closed_by, specs.declared.served.Did.Did, specs.Running.Closes}
 
-pub returns-clause-printed : goal.returns-clause-printed
+pub returns-clause-printed : Rattle.im_run.proofs.closing.close.Goals.returns-clause-printed
 returns-clause-printed g c =
     let t = c.print_finals-told in
     let f = c.finish-status in

@@ -1,8 +1,7 @@
-use Rattle.std.proofs.Common.{◌≡◌, ◌∙◌, ◌++◌, List, ap, append-nil, arith, length, map, sym}
-use Rattle.std.specs.Prelude.{vec_len}
+use Rattle.std.proofs.Common.{◌≡◌, List, ◌++◌, map, length, vec_len, sym, ap, ◌∙◌, append-nil, arith}
 use Rattle.std.proofs.lemmas.List.{map-append}
-use Rattle.im_run.specs.Orders.{Ask, ask_of}
 use Rattle.im_run.proofs.OrdersLemmas.{ask_none, ask_some, grown}
+use Rattle.im_run.specs.Orders.{Ask, ask_of}
 use Rattle.im_run.proofs.numbering.keep_order.Goals as goal
 
 pub returns-then-is_empty : goal.returns-then-is_empty

@@ -1,10 +1,8 @@
-use Rattle.std.proofs.Common.{◌≡◌, ◌∙◌, ◌∷◌, ◌+◌, [], List, ap, arith, length, length-append, subst, sym}
-use Rattle.im_run.specs.declared.sheet.Order.{Order}
-use Rattle.im_run.specs.Orders.{AreInTurn, intents_at}
+use Rattle.std.proofs.Common.{◌≡◌, ◌+◌, List, [], ◌∷◌, length, sym, ap, ◌∙◌, subst, arith, length-append}
 use Rattle.im_run.proofs.OrdersLemmas.{blank_more, turn_more}
-use Rattle.im_run.proofs.numbering.no_orders.Goals as goal
+use Rattle.im_run.specs.{declared.sheet.Order.Order, Orders.AreInTurn, Orders.intents_at}
 
-pub loop-element-preserved : goal.loop-element-preserved
+pub loop-element-preserved : Rattle.im_run.proofs.numbering.no_orders.Goals.loop-element-preserved
 loop-element-preserved c =
     let it = c.loop-element.invariant in
     let o = c.no_order.result in

@@ -1,8 +1,7 @@
 use Rattle.std.proofs.Common.{◌≡◌, ℕ, [], length}
 use Rattle.im_run.specs.Orders.{AreInTurn, intents_at}
-use Rattle.im_run.proofs.numbering.no_orders.Given as goal
 
-abbrev pub invariant-loop-element : goal.invariant-loop-element
+abbrev pub invariant-loop-element : Rattle.im_run.proofs.numbering.no_orders.Given.invariant-loop-element
 invariant-loop-element l = record {
   turn : AreInTurn 0 l.orders.items;
   none : (k : ℕ) → intents_at l.orders.items k ≡ [];

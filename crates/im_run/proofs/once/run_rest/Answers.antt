@@ -1,6 +1,5 @@
-use Rattle.std.proofs.Common.{inl, inr, refl}
-use Rattle.im_serial.specs.Asked.{wanted_of}
-use Rattle.im_serial.specs.Serving.{seen_by}
+use Rattle.std.proofs.Common.{refl, inl, inr}
+use Rattle.im_serial.specs.{Asked.wanted_of, Serving.seen_by}
 use Rattle.im_run.proofs.RestLemmas.{bases_rest, ready_rest, rest_by, unrun_by}
 use Rattle.im_run.proofs.once.run_rest.Goals as goal
 

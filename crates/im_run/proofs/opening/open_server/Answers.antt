@@ -1,6 +1,5 @@
-use Rattle.std.proofs.Common.{◌∙◌, ap}
-use Rattle.im_session.specs.Kept.{SessionState}
-use Rattle.im_serial.proofs.OnceLemmas.{ready_of}
+use Rattle.std.proofs.Common.{ap, ◌∙◌}
+use Rattle.{im_session.specs.Kept.SessionState, im_serial.proofs.OnceLemmas.ready_of}
 use Rattle.im_run.proofs.opening.open_server.Goals as goal
 
 pub returns-in-Ok-open-clause-nothing : goal.returns-in-Ok-open-clause-nothing

@@ -1,9 +1,7 @@
-use Rattle.std.proofs.Common.{◌≡◌, arith, length}
-use Rattle.std.proofs.lemmas.Option.{slice_get_read}
+use Rattle.std.proofs.{Common.◌≡◌, Common.length, Common.arith, lemmas.Option.slice_get_read}
 use Rattle.im_run.proofs.OrdersLemmas.{added_at, on_ok_map}
-use Rattle.im_run.proofs.orders.add_intent.Goals as goal
 
-pub returns : goal.returns
+pub returns : Rattle.im_run.proofs.orders.add_intent.Goals.returns
 returns c =
     let orders = c.args.orders.now.items in
     let o = c.index_mut.result.now in

@@ -1,4 +1,4 @@
-use Rattle.std.proofs.Common.{◌∷◌, [], sym}
+use Rattle.std.proofs.Common.{[], ◌∷◌, sym}
 use Rattle.im_serial.proofs.ScriptedLemmas.{unserved}
 use Rattle.im_run.proofs.OrdersLemmas.{on_ok_map}
 use Rattle.im_run.proofs.orders.make_block.Goals as goal

@@ -1,11 +1,10 @@
-use Rattle.std.proofs.Common.{◌≡◌, ◌∙◌, List, [], ℕ, ap, map, subst}
-use Rattle.im_types.specs.Contents.{Contents}
-use Rattle.im_serial.specs.Serving.{seen_by}
-use Rattle.im_serial.proofs.ScriptedLemmas.{has_served, unserved}
-use Rattle.im_run.specs.Orders.{HasReadTo, IsOfAll, ask_of, asks_among, asks_in, first_asked, script_heard}
-use Rattle.im_run.specs.Orders.{settled_by, settled_when}
+use Rattle.std.proofs.Common.{◌≡◌, ℕ, List, [], map, ap, ◌∙◌, subst}
+use Rattle.im_types.specs.Types.{Contents}
+use Rattle.im_serial.{proofs.ScriptedLemmas.has_served, proofs.ScriptedLemmas.unserved, specs.Serving.seen_by}
 use Rattle.im_run.proofs.BlocksLemmas.{ends_as, passes_as}
 use Rattle.im_run.proofs.OrdersLemmas.{if_ok_map, if_ok_of, on_ok_map, orders_read}
+use Rattle.im_run.specs.Orders.{ask_of, asks_among, asks_in, first_asked, HasReadTo, IsOfAll, script_heard, settled_by}
+use Rattle.im_run.specs.Orders.{settled_when}
 use Rattle.im_run.proofs.orders.read_orders.Goals as goal
 
 pub returns-in_default-clause-served : goal.returns-in_default-clause-served

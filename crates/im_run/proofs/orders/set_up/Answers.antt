@@ -1,5 +1,4 @@
-use Rattle.im_run.proofs.BlocksLemmas.{flushed}
-use Rattle.im_run.proofs.OrdersLemmas.{ok_if}
+use Rattle.im_run.proofs.{BlocksLemmas.flushed, OrdersLemmas.ok_if}
 use Rattle.im_run.proofs.orders.set_up.Goals as goal
 
 pub returns-in-Ok-clause-served : goal.returns-in-Ok-clause-served

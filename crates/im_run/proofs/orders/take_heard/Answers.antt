@@ -1,8 +1,7 @@
 use Rattle.std.proofs.Common.{ap}
-use Rattle.im_script.specs.declared.script.Heard.{Heard}
+use Rattle.im_script.specs.declared.Heard.{Heard}
+use Rattle.im_run.proofs.{BlocksLemmas.unchanged, OrdersLemmas.heard_glance, OrdersLemmas.on_ok_map}
 use Rattle.im_run.specs.Orders.{line_blocks, settled_by}
-use Rattle.im_run.proofs.BlocksLemmas.{unchanged}
-use Rattle.im_run.proofs.OrdersLemmas.{heard_glance, on_ok_map}
 use Rattle.im_run.proofs.orders.take_heard.Goals as goal
 
 pub returns-in-Glances-clause-served : goal.returns-in-Glances-clause-served

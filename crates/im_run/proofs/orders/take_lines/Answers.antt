@@ -1,12 +1,11 @@
-use Rattle.std.proofs.Common.{[], List, ℕ, ap₂, refl, subst}
+use Rattle.std.proofs.Common.{ℕ, List, [], refl, subst, ap₂}
 use Rattle.std.specs.Option.{option_map_or}
 use Rattle.im_script.specs.Script.{Draft, draft_of, lines_of}
-use Rattle.im_serial.specs.Serving.{seen_by}
 use Rattle.im_serial.proofs.OnceLemmas.{part_ends, part_serves}
-use Rattle.im_serial.proofs.ScriptedLemmas.{ends_here, has_served}
-use Rattle.im_run.specs.Orders.{ArePartsThere, blocks_of, lines_heard, script_heard, settled_by}
+use Rattle.im_serial.{proofs.ScriptedLemmas.ends_here, proofs.ScriptedLemmas.has_served, specs.Serving.seen_by}
 use Rattle.im_run.proofs.BlocksLemmas.{blocks_line, blocks_none, blocks_some, blocks_start}
 use Rattle.im_run.proofs.OrdersLemmas.{read_line, read_none, rest_none, rest_some, there_end, there_line, there_start}
+use Rattle.im_run.specs.Orders.{ArePartsThere, blocks_of, lines_heard, script_heard, settled_by}
 use Rattle.im_run.proofs.orders.take_lines.Goals as goal
 
 pub loop-number-init : goal.loop-number-init

@@ -1,11 +1,9 @@
-use Rattle.std.specs.Prelude.{[]}
-use Rattle.std.specs.Option.{option_map_or}
+use Rattle.std.{proofs.Common.[], specs.Option.option_map_or}
 use Rattle.im_script.specs.Script.{draft_of, lines_of}
 use Rattle.im_serial.specs.Serving.{Passes, seen_by}
-use Rattle.im_run.specs.Orders.{HasMissed, HasReadTo, blocks_of, lines_heard, script_heard, settled_by}
-use Rattle.im_run.proofs.orders.take_lines.Given as goal
+use Rattle.im_run.specs.Orders.{blocks_of, HasMissed, HasReadTo, lines_heard, script_heard, settled_by}
 
-abbrev pub invariant-loop-number : goal.invariant-loop-number
+abbrev pub invariant-loop-number : Rattle.im_run.proofs.orders.take_lines.Given.invariant-loop-number
 invariant-loop-number g l = record {
   served : Passes (blocks_of (settled_by l.fn.sheet.past) (script_heard l.script)) l.fn.server.bases.items
       (blocks_of (settled_by l.sheet.past)

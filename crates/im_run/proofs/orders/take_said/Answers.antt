@@ -1,12 +1,9 @@
-use Rattle.std.proofs.Common.{◌∙◌, ap, refl}
-use Rattle.im_script.specs.declared.script.Heard.TheVariants.{Says}
-use Rattle.im_script.specs.declared.script.Said.{Said}
-use Rattle.im_serial.specs.Asked.{wanted_by}
-use Rattle.im_serial.specs.Had.{news}
-use Rattle.im_serial.proofs.ScriptedLemmas.{quiet}
-use Rattle.im_run.specs.Orders.{blocks_among, line_blocks, settled_by}
+use Rattle.std.proofs.Common.{refl, ap, ◌∙◌}
+use Rattle.im_script.specs.declared.{Heard.TheVariants.Says, Said.Said}
+use Rattle.im_serial.{proofs.ScriptedLemmas.quiet, specs.Asked.wanted_by, specs.Had.news}
 use Rattle.im_run.proofs.BlocksLemmas.{served_as, unchanged}
 use Rattle.im_run.proofs.OrdersLemmas.{heard_asked, heard_block, heard_from, heard_nothing, on_ok_map, prefix_same}
+use Rattle.im_run.specs.Orders.{blocks_among, line_blocks, settled_by}
 use Rattle.im_run.proofs.orders.take_said.Goals as goal
 
 pub returns-then-has-clause-served : goal.returns-then-has-clause-served

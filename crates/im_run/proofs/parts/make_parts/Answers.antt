@@ -1,8 +1,7 @@
-use Rattle.std.proofs.Common.{◌++◌, ◌∷◌, []}
+use Rattle.std.proofs.Common.{[], ◌∷◌, ◌++◌}
 use Rattle.im_run.proofs.DoingLemmas.{one_more, parts_step}
-use Rattle.im_run.proofs.parts.make_parts.Goals as goal
 
-pub loop-order-preserved : goal.loop-order-preserved
+pub loop-order-preserved : Rattle.im_run.proofs.parts.make_parts.Goals.loop-order-preserved
 loop-order-preserved g c =
     let it = c.loop-order.invariant in
     let o = c.in-Some.order in (

@@ -1,7 +1,6 @@
 use Rattle.std.proofs.Common.{◌≡◌, ◌++◌, drop}
 use Rattle.im_run.specs.Planned.{requests_from}
-use Rattle.im_run.proofs.planned.add_requests.Given as goal
 
-abbrev pub invariant-loop-intent : goal.invariant-loop-intent
+abbrev pub invariant-loop-intent : Rattle.im_run.proofs.planned.add_requests.Given.invariant-loop-intent
 invariant-loop-intent l = l.requests.items ++ requests_from l.element l.number (drop l.intent-index l.intents)
     ≡ l.fn.requests.items ++ requests_from l.order.element l.order.next l.order.intents.items

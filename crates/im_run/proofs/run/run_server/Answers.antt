@@ -1,19 +1,12 @@
-use Rattle.std.proofs.Common.{Bool, ◌∙◌, ◌++◌, [], ap, map, refl, subst, sym}
-use Rattle.std.specs.Prelude.{Some}
+use Rattle.std.proofs.Common.{Bool, [], ◌++◌, map, Some, sym, refl, ap, ◌∙◌, subst}
 use Rattle.im_session.specs.Kept.{SessionStart, SessionState, start_at}
-use Rattle.im_text.specs.declared.lines.Lines.{Lines}
-use Rattle.im_serial.specs.Asked.{standing}
-use Rattle.im_serial.specs.Noted.{notes}
+use Rattle.{im_text.specs.declared.Lines.Lines, im_serial.specs.Asked.standing, im_serial.specs.Noted.notes}
+use Rattle.im_serial.proofs.{AskedLemmas.named_here, AskedLemmas.stands_here, ScriptedLemmas.as_of}
 use Rattle.im_serial.specs.Serving.{EndedAt, GoingAt, seen_by, server_of}
-use Rattle.im_serial.proofs.AskedLemmas.{named_here, stands_here}
-use Rattle.im_serial.proofs.ScriptedLemmas.{as_of}
-use Rattle.im_run.specs.Once.{RunWhen}
-use Rattle.im_run.specs.Orders.{ask_of, asks_in, scope_when}
-use Rattle.im_run.specs.Running.{EndedOn}
-use Rattle.im_run.specs.Tracing.{TraceState}
 use Rattle.im_run.proofs.BlocksLemmas.{begun, names_made, sets_up, setup_course}
-use Rattle.im_run.proofs.OrdersLemmas.{if_ok_at, match_ok}
-use Rattle.im_run.proofs.RunningLemmas.{ended_run, halted_run}
+use Rattle.im_run.{proofs.OrdersLemmas.if_ok_at, proofs.OrdersLemmas.match_ok, proofs.RunningLemmas.ended_run}
+use Rattle.im_run.{proofs.RunningLemmas.halted_run, specs.Orders.ask_of, specs.Orders.asks_in, specs.Orders.scope_when}
+use Rattle.im_run.specs.{Once.RunWhen, Running.EndedOn, Tracing.TraceState}
 use Rattle.im_run.proofs.run.run_server.Goals as goal
 
 pub returns-in-Ok-clause-run : goal.returns-in-Ok-clause-run

@@ -1,13 +1,9 @@
-use Rattle.std.proofs.Common.{◌≡◌, ◌∙◌, inr, map, subst, sym}
-use Rattle.std.specs.Prelude.{IsOk}
-use Rattle.im_types.specs.Trace.{IsLegal}
+use Rattle.std.proofs.Common.{◌≡◌, map, IsOk, sym, ◌∙◌, subst, inr}
+use Rattle.{im_types.specs.Types.IsLegal, im_text.specs.declared.Lines.Lines}
 use Rattle.im_session.specs.Kept.{Kept, SessionState}
-use Rattle.im_text.specs.declared.lines.Lines.{Lines}
-use Rattle.im_run.specs.Orders.{ask_of, asks_in}
+use Rattle.im_run.proofs.{DoingLemmas.none_of_all, RunningLemmas.ended_weaker, RunningLemmas.kept_as}
+use Rattle.im_run.specs.{Orders.ask_of, Orders.asks_in, Running.Closes, Running.EndedOn, Running.ServersEnded}
 use Rattle.im_run.specs.Planned.{FitsIfNew, plan_of, planned_orders}
-use Rattle.im_run.specs.Running.{Closes, EndedOn, ServersEnded}
-use Rattle.im_run.proofs.DoingLemmas.{none_of_all}
-use Rattle.im_run.proofs.RunningLemmas.{ended_weaker, kept_as}
 use Rattle.im_run.proofs.run.serve_on.Goals as goal
 
 pub serve_opening-ending-requires-clause-plan : goal.serve_opening-ending-requires-clause-plan

@@ -1,17 +1,11 @@
-use Rattle.std.proofs.Common.{◌≡◌, ◌∙◌, ap, map, refl, subst}
-use Rattle.std.specs.Prelude.{IfSome, IsOk, None}
-use Rattle.im_types.specs.Contents.{Contents}
-use Rattle.im_engine.specs.State.{EngineState}
-use Rattle.im_run.specs.Alone.{is_strange}
-use Rattle.im_run.specs.Orders.{ask_of, asks_in}
-use Rattle.im_run.specs.Planned.{AreServed, plan_of, planned_orders}
-use Rattle.im_run.proofs.AloneLemmas.{none_strange, own_unmarked}
-use Rattle.im_run.proofs.DoingLemmas.{told_weaker}
+use Rattle.std.proofs.Common.{◌≡◌, map, IfSome, IsOk, None, refl, ap, ◌∙◌, subst}
+use Rattle.{im_types.specs.Types.Contents, im_engine.specs.State.EngineState}
+use Rattle.im_run.{proofs.AloneLemmas.none_strange, proofs.AloneLemmas.own_unmarked, proofs.DoingLemmas.told_weaker}
+use Rattle.im_run.{proofs.RunningLemmas.kept_by, specs.Alone.is_strange, specs.Orders.ask_of, specs.Orders.asks_in}
+use Rattle.im_run.{specs.Planned.AreServed, specs.Planned.plan_of, specs.Planned.planned_orders}
 use Rattle.im_run.proofs.PlannedLemmas.{ends_on_plan, plan_doubts, plan_ends, whole_served}
-use Rattle.im_run.proofs.RunningLemmas.{kept_by}
-use Rattle.im_run.proofs.run.serve_opening.Goals as goal
 
-pub returns-clause-ended : goal.returns-clause-ended
+pub returns-clause-ended : Rattle.im_run.proofs.run.serve_opening.Goals.returns-clause-ended
 returns-clause-ended g c =
     let s = c.serve_orders-session in
     let none = IsOk c.with_whole-done.result in

@@ -1,9 +1,7 @@
 -- Where the controller begins.
-use Rattle.std.specs.Prelude.{map}
+use Rattle.std.proofs.Common.{map}
 use Rattle.im_controller.specs.Kept.{origin_of}
-use Rattle.im_run.specs.Alone.{is_strange}
-use Rattle.im_run.specs.Orders.{ask_of}
-use Rattle.im_run.proofs.run.serve_opening.Given as goal
+use Rattle.im_run.specs.{Alone.is_strange, Orders.ask_of}
 
-abbrev pub ghosts-serve_orders : goal.ghosts-serve_orders
+abbrev pub ghosts-serve_orders : Rattle.im_run.proofs.run.serve_opening.Given.ghosts-serve_orders
 ghosts-serve_orders g a = record { origin = origin_of g.D.Disk (is_strange (map ask_of a.orders.items)) a.opening }

@@ -1,4 +1,2 @@
-use Rattle.im_run.proofs.script.run_on.Goals as goal
-
-pub returns-clause-run : goal.returns-clause-run
+pub returns-clause-run : Rattle.im_run.proofs.script.run_on.Goals.returns-clause-run
 returns-clause-run g c = c.run_script.ensures.run

@@ -1,6 +1,5 @@
-use Rattle.std.proofs.Common.{List, false, subst, ℕ}
-use Rattle.im_serial.specs.Once.{HasServedNothing}
-use Rattle.im_serial.specs.Serving.{seen_by}
+use Rattle.std.proofs.Common.{ℕ, false, List, subst}
+use Rattle.im_serial.specs.{Once.HasServedNothing, Serving.seen_by}
 use Rattle.im_run.proofs.script.run_opened.Goals as goal
 
 pub run_server-requires-clause-ready : goal.run_server-requires-clause-ready

@@ -1,7 +1,5 @@
-use Rattle.std.proofs.Common.{List, inl, inr, subst, ℕ}
-use Rattle.std.specs.Prelude.{Option}
-use Rattle.im_run.specs.Once.{EndsWhen}
-use Rattle.im_run.proofs.RestLemmas.{ends_honest}
+use Rattle.std.proofs.Common.{ℕ, List, Option, subst, inl, inr}
+use Rattle.im_run.{proofs.RestLemmas.ends_honest, specs.Once.EndsWhen}
 use Rattle.im_run.proofs.script.run_script.Goals as goal
 
 pub returns-in-Ok-clause-run : goal.returns-in-Ok-clause-run

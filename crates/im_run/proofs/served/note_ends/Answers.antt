@@ -1,7 +1,6 @@
-use Rattle.std.proofs.Common.{◌∙◌, ◌++◌, ◌∷◌, [], ap, sym}
+use Rattle.std.proofs.Common.{[], ◌∷◌, ◌++◌, sym, ap, ◌∙◌}
+use Rattle.im_run.proofs.{AloneLemmas.quiet_next, DoingLemmas.noted_step, DoingLemmas.one_more}
 use Rattle.im_run.specs.Doing.{elements_at_end}
-use Rattle.im_run.proofs.AloneLemmas.{quiet_next}
-use Rattle.im_run.proofs.DoingLemmas.{noted_step, one_more}
 use Rattle.im_run.proofs.served.note_ends.Goals as goal
 
 pub take-requires : goal.take-requires

@@ -1,12 +1,8 @@
-use Rattle.std.proofs.Common.{◌≡◌, ◌++◌, List}
-use Rattle.std.specs.Prelude.{None}
-use Rattle.im_types.specs.declared.commands.Line.{Line}
-use Rattle.im_serving.specs.Elements.{End}
-use Rattle.im_run.specs.Alone.{AreQuiet, AreQuietAtEnd}
-use Rattle.im_run.specs.Doing.{AreAllNoted, HaveSeen, elements_at_end}
-use Rattle.im_run.proofs.served.note_ends.Given as goal
+use Rattle.std.proofs.Common.{◌≡◌, List, ◌++◌, None}
+use Rattle.{im_types.specs.Types.Line, im_serving.specs.Elements.End}
+use Rattle.im_run.specs.{Alone.AreQuiet, Alone.AreQuietAtEnd, Doing.AreAllNoted, Doing.elements_at_end, Doing.HaveSeen}
 
-abbrev pub invariant-loop-done : goal.invariant-loop-done
+abbrev pub invariant-loop-done : Rattle.im_run.proofs.served.note_ends.Given.invariant-loop-done
 invariant-loop-done g l = (l.notes.refused ≡ None → l.fn.notes.refused ≡ None)
     × ((elements_at_end l.done-iterator.rest.items ≡ l.rest)
     × ((before : List End) × ((before ++ l.done-iterator.rest.items ≡ l.fn.all.items)

@@ -1,11 +1,7 @@
-use Rattle.std.proofs.Common.{◌≡◌, map, subst, sym}
-use Rattle.std.specs.Prelude.{None, count_by}
-use Rattle.im_trace.specs.Ends.{RecordingState}
-use Rattle.im_controller.specs.Kept.{IsSessionOf}
-use Rattle.im_run.specs.Doing.{AreAllTold}
-use Rattle.im_run.specs.Orders.{ask_of}
-use Rattle.im_run.proofs.AloneLemmas.{none_marked}
-use Rattle.im_run.proofs.DoingLemmas.{told_weaker}
+use Rattle.std.proofs.Common.{◌≡◌, map, None, count_by, sym, subst}
+use Rattle.{im_trace.specs.Ends.RecordingState, im_controller.specs.Kept.IsSessionOf}
+use Rattle.im_run.proofs.{AloneLemmas.none_marked, DoingLemmas.told_weaker}
+use Rattle.im_run.specs.{Doing.AreAllTold, Orders.ask_of}
 use Rattle.im_run.proofs.served.serve_orders.Goals as goal
 
 pub returns-clause-told : goal.returns-clause-told

@@ -1,9 +1,6 @@
-use Rattle.std.proofs.Common.{◌≡◌, ◌∙◌, map, sym}
-use Rattle.std.specs.Prelude.{None}
-use Rattle.im_run.specs.Orders.{ask_of}
-use Rattle.im_run.proofs.AloneLemmas.{on_err_map, quiet_by}
-use Rattle.im_run.proofs.DoingLemmas.{all_told_by, elements_end}
-use Rattle.im_run.proofs.OrdersLemmas.{if_ok_map}
+use Rattle.std.proofs.Common.{◌≡◌, map, None, sym, ◌∙◌}
+use Rattle.im_run.proofs.{AloneLemmas.on_err_map, AloneLemmas.quiet_by, OrdersLemmas.if_ok_map}
+use Rattle.im_run.{proofs.DoingLemmas.all_told_by, proofs.DoingLemmas.elements_end, specs.Orders.ask_of}
 use Rattle.im_run.proofs.served.serve_parts.Goals as goal
 
 pub note_all-requires : goal.note_all-requires

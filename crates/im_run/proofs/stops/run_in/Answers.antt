@@ -1,7 +1,6 @@
 use Rattle.im_run.proofs.LeavingLemmas.{once_keeps}
-use Rattle.im_run.proofs.stops.run_in.Goals as goal
 
-pub returns-clause-keeps : goal.returns-clause-keeps
+pub returns-clause-keeps : Rattle.im_run.proofs.stops.run_in.Goals.returns-clause-keeps
 returns-clause-keeps g c = λ honest.
     let r = c.run_once_on-status in
     once_keeps g.D.Disk c.args.asked.planned c.args.asked.script.now (g.W.Write.contents c.args.out.now)

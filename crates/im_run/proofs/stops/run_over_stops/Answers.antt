@@ -1,11 +1,8 @@
-use Rattle.std.proofs.Common.{List, ap, subst, sym, ℕ}
-use Rattle.im_disk.specs.Fuse.{Fused}
-use Rattle.im_disk.specs.Recording.{Recording}
-use Rattle.im_disk.specs.Since.{LeavesNow}
-use Rattle.im_serial.proofs.KeepsLemmas.{crashed_keeps}
-use Rattle.im_run.proofs.stops.run_over_stops.Goals as goal
+use Rattle.std.proofs.Common.{ℕ, List, sym, ap, subst}
+use Rattle.im_disk.specs.{Fuse.Fused, Recording.Recording, Since.LeavesNow}
+use Rattle.{im_session.specs.Carrying.LedBy, im_serial.proofs.KeepsLemmas.crashed_keeps}
 use Rattle.im_run.specs.Stops.{HasRunByPlan, LeadTo}
-use Rattle.im_session.specs.Carrying.{LedBy}
+use Rattle.im_run.proofs.stops.run_over_stops.Goals as goal
 
 pub loop-at-preserved : goal.loop-at-preserved
 loop-at-preserved g c =

@@ -1,7 +1,5 @@
-use Rattle.std.proofs.Common.{◌++◌, ℕ, List, refl, ap, subst}
-use Rattle.std.specs.Prelude.{slice_get}
-use Rattle.im_text.specs.Printing.{Prints}
-use Rattle.im_text.proofs.TextLemmas.{written_none, written_more}
+use Rattle.std.proofs.Common.{ℕ, List, ◌++◌, slice_get, refl, ap, subst}
+use Rattle.im_text.{proofs.TextLemmas.written_more, proofs.TextLemmas.written_none, specs.Printing.Prints}
 use Rattle.im_run.specs.Running.{final_line, finals}
 use Rattle.im_run.proofs.telling.print_finals.Goals as goal
 

@@ -1,9 +1,7 @@
-use Rattle.std.proofs.Common.{◌++◌, arith, subst}
-use Rattle.std.specs.Prelude.{Option}
-use Rattle.im_types.specs.declared.commands.Line.{Line}
-use Rattle.im_text.specs.Printing.{PrintsMore}
-use Rattle.im_run.specs.Tracing.{marked_line}
+use Rattle.std.proofs.Common.{◌++◌, Option, subst, arith}
+use Rattle.{im_types.specs.Types.Line, im_text.specs.Printing.PrintsMore}
 use Rattle.im_run.proofs.TracingLemmas.{all_printed, begins_on, begins_with, none_printed, one_printed}
+use Rattle.im_run.specs.Tracing.{marked_line}
 use Rattle.im_run.proofs.tracing.print_lines.Goals as goal
 
 pub loop-at-init : goal.loop-at-init

@@ -1,7 +1,6 @@
-use Rattle.std.proofs.Common.{◌∙◌, [], ap}
-use Rattle.std.specs.Prelude.{if◌then◌else◌}
-use Rattle.im_run.specs.Tracing.{TraceState}
+use Rattle.std.proofs.Common.{[], if◌then◌else◌, ap, ◌∙◌}
 use Rattle.im_run.proofs.TracingLemmas.{marked_all, marked_some, none_begun, on_ok_both}
+use Rattle.im_run.specs.Tracing.{TraceState}
 use Rattle.im_run.proofs.tracing.write_lines.Goals as goal
 
 pub returns-in_default-clause-begins : goal.returns-in_default-clause-begins

@@ -1,7 +1,7 @@
-use Rattle.std.proofs.Common.{[], List, ℕ, ap₂}
+use Rattle.std.proofs.Common.{ℕ, List, [], ap₂}
 use Rattle.im_script.specs.Script.{Draft, draft_of, lines_of}
-use Rattle.im_run.specs.Orders.{lines_heard, script_heard}
 use Rattle.im_run.proofs.OrdersLemmas.{read_line, read_none, rest_none, rest_some}
+use Rattle.im_run.specs.Orders.{lines_heard, script_heard}
 use Rattle.im_run.proofs.whole.add_lines.Goals as goal
 
 pub loop-number-init : goal.loop-number-init

@@ -1,9 +1,7 @@
-use Rattle.std.specs.Prelude.{[]}
-use Rattle.std.specs.Option.{option_map_or}
+use Rattle.std.{proofs.Common.[], specs.Option.option_map_or}
 use Rattle.im_script.specs.Script.{draft_of, lines_of}
 use Rattle.im_run.specs.Orders.{HasReadTo, lines_heard, script_heard}
-use Rattle.im_run.proofs.whole.add_lines.Given as goal
 
-abbrev pub invariant-loop-number : goal.invariant-loop-number
+abbrev pub invariant-loop-number : Rattle.im_run.proofs.whole.add_lines.Given.invariant-loop-number
 invariant-loop-number l = HasReadTo [] (script_heard l.script) l.fn.orders.items []
     (option_map_or (λ text. lines_heard (draft_of l.reader) (lines_of text.now)) l.rest []) l.bases l.orders.items

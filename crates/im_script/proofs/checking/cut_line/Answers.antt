@@ -1,7 +1,5 @@
-use Rattle.std.proofs.Common.{arith, length, take_all}
-use Rattle.std.proofs.lemmas.Bool.{eqb-true}
-use Rattle.std.proofs.lemmas.List.{take_rest}
-use Rattle.std.proofs.lemmas.List.Splits.{slice_split_none}
+use Rattle.std.proofs.Common.{length, arith, take_all, eqb-true}
+use Rattle.std.proofs.lemmas.List.{Splits.slice_split_none, take_rest}
 use Rattle.im_script.proofs.ScriptLemmas.{none_before, part_ends}
 use Rattle.im_script.proofs.checking.cut_line.Goals as goal
 

@@ -1,8 +1,7 @@
-use Rattle.std.proofs.Common.{rules, arith, ◌≡◌, ◌+◌, ap, sym, refl}
-use Rattle.std.specs.Prelude.{None, Some, Err}
-use Rattle.im_script.specs.Script.{Draft, draft_of, lines_of}
+use Rattle.std.proofs.Common.{◌≡◌, ◌+◌, Some, None, Err, sym, refl, ap, arith, rules}
 use Rattle.im_script.proofs.ScriptLemmas.{few_left, line_follows, line_here, line_inside, lines_behind, lines_here}
 use Rattle.im_script.proofs.ScriptLemmas.{none_left, passes_bad, passes_first, passes_size, script_is}
+use Rattle.im_script.specs.Script.{Draft, draft_of, lines_of}
 use Rattle.im_script.proofs.checking.read_lines.Goals as goal
 
 first : goal.returns-in_err-hear-clause-first

@@ -1,5 +1,4 @@
-use Rattle.std.proofs.Common.{◌≡◌, ◌≤◌, ◌+◌, [], length, take, drop}
-use Rattle.std.specs.Prelude.{Some}
+use Rattle.std.proofs.Common.{◌≡◌, ◌+◌, ◌≤◌, [], length, take, drop, Some}
 use Rattle.std.specs.Option.{option_map_or}
 use Rattle.im_script.specs.Script.{draft_of, lines_after, lines_of, new_draft}
 use Rattle.im_script.proofs.checking.read_lines.Given as goal

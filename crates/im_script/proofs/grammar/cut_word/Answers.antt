@@ -1,6 +1,5 @@
-use Rattle.std.proofs.Common.{rules, arith, ◌∙◌, ◌≡◌, true, get_or, sym}
-use Rattle.std.specs.Char.{is_ascii}
-use Rattle.std.proofs.lemmas.List.{take_all, take_rest}
+use Rattle.std.proofs.Common.{◌≡◌, true, get_or, sym, ◌∙◌, arith, take_all, rules}
+use Rattle.std.{proofs.lemmas.List.take_rest, specs.Char.is_ascii}
 use Rattle.im_script.proofs.ScriptLemmas.{no_end}
 use Rattle.im_script.proofs.WordLemmas.{plain_all, plain_cut, plain_more, words_cut, words_end}
 use Rattle.im_script.proofs.grammar.cut_word.Goals as goal

@@ -1,10 +1,8 @@
-use Rattle.std.proofs.Common.{◌≡◌, ◌==◌, false, drop, take, All}
-use Rattle.std.specs.Char.{is_ascii}
-use Rattle.std.specs.List.{list_all}
-use Rattle.im_script.proofs.grammar.cut_word.Given as goal
+use Rattle.std.proofs.Common.{◌≡◌, false, take, drop, ◌==◌, All}
+use Rattle.std.specs.{Char.is_ascii, List.list_all}
 
 -- no word ends before this byte, and all bytes before it are ASCII
-abbrev pub invariant-loop-at : goal.invariant-loop-at
+abbrev pub invariant-loop-at : Rattle.im_script.proofs.grammar.cut_word.Given.invariant-loop-at
 invariant-loop-at l = record {
   none : All (λ byte. (byte == 32) ≡ false) (take l.at l.line);
   plain : list_all is_ascii (drop l.at l.line) ≡ list_all is_ascii l.line;

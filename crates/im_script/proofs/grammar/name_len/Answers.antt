@@ -1,9 +1,7 @@
-use Rattle.std.proofs.Common.{rules, ◌≡◌, ◌==◌, arith}
-use Rattle.std.specs.List.{position}
-use borrow.Author.Tests.{tests}
-use Rattle.std.proofs.lemmas.Iterator.{YieldsList-from_slice}
-use Rattle.std.proofs.lemmas.Iterator.Search.{position_from_yields_List}
+use Rattle.std.proofs.Common.{◌≡◌, ◌==◌, position, arith, rules}
+use Rattle.std.proofs.lemmas.Iterator.{Search.position_from_yields_List, YieldsList-from_slice}
 use Rattle.im_script.proofs.PlaceLemmas.{position_found, position_missing}
+use borrow.Author.Tests.{tests}
 use Rattle.im_script.proofs.grammar.name_len.Goals as goal
 
 pub returns-in-Some : goal.returns-in-Some

@@ -1,8 +1,7 @@
-use Rattle.std.proofs.Common.{rules, arith, ◌≡◌, ◌∙◌, [], ap, refl, sym}
-use Rattle.std.specs.Prelude.{None, is_some}
+use Rattle.std.proofs.Common.{◌≡◌, [], is_some, None, sym, refl, ap, ◌∙◌, arith, rules}
 use Rattle.std.specs.Option.{option_map_or}
-use Rattle.im_script.specs.Grammar.{texts, words_of}
 use Rattle.im_script.proofs.WordLemmas.{left_plain, next_words, none_plain, none_words}
+use Rattle.im_script.specs.Grammar.{texts, words_of}
 use Rattle.im_script.proofs.grammar.put_first_words.Goals as goal
 
 pub returns-in_err-part-clause-plain : goal.returns-in_err-part-clause-plain

@@ -1,7 +1,5 @@
-use Rattle.std.proofs.Common.{◌≡◌, ◌+◌, ◌++◌, [], length, take, true}
-use Rattle.std.specs.Char.{is_ascii}
-use Rattle.std.specs.List.{list_all}
-use Rattle.std.specs.Option.{option_map_or}
+use Rattle.std.proofs.Common.{◌≡◌, ◌+◌, true, [], ◌++◌, length, take}
+use Rattle.std.specs.{Char.is_ascii, List.list_all, Option.option_map_or}
 use Rattle.im_script.specs.Grammar.{texts, words_of}
 use Rattle.im_script.proofs.grammar.put_first_words.Given as goal
 

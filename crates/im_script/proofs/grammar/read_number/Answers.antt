@@ -1,10 +1,7 @@
-use Rattle.std.proofs.Common.{rules, arith, ◌≡◌, ◌∙◌, sym, get_or}
-use Rattle.std.specs.Prelude.{None}
-use Rattle.im_script.specs.Grammar.{digit_after}
-use Rattle.im_script.proofs.NumberLemmas.{number_stops}
-use Rattle.im_script.proofs.grammar.read_number.Goals as goal
+use Rattle.std.proofs.Common.{◌≡◌, get_or, None, sym, ◌∙◌, arith, rules}
+use Rattle.im_script.{proofs.NumberLemmas.number_stops, specs.Grammar.digit_after}
 
-pub returns-in_err-number : goal.returns-in_err-number
+pub returns-in_err-number : Rattle.im_script.proofs.grammar.read_number.Goals.returns-in_err-number
 returns-in_err-number c =
     let none : digit_after c.loop-digit.number (get_or c.args.text.now c.loop-digit.digit-index 0)
     ≡ None = search rules in

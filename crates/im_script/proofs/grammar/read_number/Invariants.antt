@@ -1,6 +1,5 @@
 use Rattle.std.proofs.Common.{◌≡◌, drop}
 use Rattle.im_script.proofs.NumberLemmas.{number_past}
-use Rattle.im_script.proofs.grammar.read_number.Given as goal
 
-abbrev pub invariant-loop-digit : goal.invariant-loop-digit
+abbrev pub invariant-loop-digit : Rattle.im_script.proofs.grammar.read_number.Given.invariant-loop-digit
 invariant-loop-digit l = number_past l.most l.number (drop l.digit-index l.text) ≡ number_past l.most 0 l.text

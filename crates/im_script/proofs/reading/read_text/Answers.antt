@@ -1,6 +1,5 @@
 use Rattle.std.proofs.Common.{rules}
-use Rattle.im_script.specs.declared.TheConstants.{MAX_SCRIPT}
-use Rattle.im_script.proofs.TextLemmas.{read_more, read_whole}
+use Rattle.im_script.{proofs.TextLemmas.read_more, proofs.TextLemmas.read_whole, specs.declared.TheConstants.MAX_SCRIPT}
 use Rattle.im_script.proofs.reading.read_text.Goals as goal
 
 pub returns-then-len-gt-MAX_SCRIPT-clause-full : goal.returns-then-len-gt-MAX_SCRIPT-clause-full

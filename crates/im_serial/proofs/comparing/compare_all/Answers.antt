@@ -1,7 +1,7 @@
 use Rattle.std.proofs.Common.{[]}
 use Rattle.im_script.specs.Script.{draft_of, lines_of}
-use Rattle.im_serial.specs.Asked.{wanted_in, wanted_of}
 use Rattle.im_serial.proofs.FittingLemmas.{compared_none, compared_some, line_compared, line_wrong}
+use Rattle.im_serial.specs.Asked.{wanted_in, wanted_of}
 use Rattle.im_serial.proofs.comparing.compare_all.Goals as goal
 
 pub returns-in-None-clause-fits : goal.returns-in-None-clause-fits

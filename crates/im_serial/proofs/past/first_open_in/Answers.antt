@@ -1,4 +1,4 @@
-use Rattle.std.proofs.Common.{◌∙◌, ap, arith, sym}
+use Rattle.std.proofs.Common.{sym, ap, ◌∙◌, arith}
 use Rattle.im_serial.proofs.SettledLemmas.{is_unsettled, settled_first, settled_here, settled_last, settled_more}
 use Rattle.im_serial.proofs.past.first_open_in.Goals as goal
 

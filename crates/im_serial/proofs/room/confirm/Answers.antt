@@ -1,4 +1,4 @@
-use Rattle.im_types.specs.declared.commands.Command.TheVariants.{Confirm}
+use Rattle.im_types.specs.Types.{Confirm}
 use Rattle.im_session.proofs.ServedLemmas.{command_refused, command_served, refused_behind, rests_refused}
 use Rattle.im_session.proofs.ServedLemmas.{served_behind}
 use Rattle.im_serial.proofs.room.confirm.Goals as goal

@@ -1,7 +1,6 @@
-use Rattle.std.proofs.Common.{◌∙◌, ap, inr, subst}
+use Rattle.std.proofs.Common.{ap, ◌∙◌, subst, inr}
 use Rattle.im_session.specs.Kept.{SessionState}
-use Rattle.im_serial.specs.Once.{ServedOnce}
-use Rattle.im_serial.proofs.OnceLemmas.{ready_of}
+use Rattle.im_serial.{proofs.OnceLemmas.ready_of, specs.Once.ServedOnce}
 use Rattle.im_serial.proofs.serial.open_and_serve_once.Goals as goal
 
 pub serve_once_on-requires : goal.serve_once_on-requires

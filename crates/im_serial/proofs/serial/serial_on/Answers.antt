@@ -1,4 +1,4 @@
-use Rattle.std.proofs.Common.{inr, subst}
+use Rattle.std.proofs.Common.{subst, inr}
 use Rattle.im_serial.specs.Serving.{ServedScript}
 use Rattle.im_serial.proofs.serial.serial_on.Goals as goal
 

@@ -1,7 +1,6 @@
 use Rattle.im_serial.proofs.KeepsLemmas.{keeps_on}
-use Rattle.im_serial.proofs.serial.serial_once_on.Goals as goal
 
-pub returns-clause-keeps : goal.returns-clause-keeps
+pub returns-clause-keeps : Rattle.im_serial.proofs.serial.serial_once_on.Goals.returns-clause-keeps
 returns-clause-keeps g c = λ honest limits before.
     let r = c.open_and_serve_once.result in
     keeps_on g.D.Disk limits c.args.script.now c.args.disk r.1 _ _ r.0 before honest

@@ -1,16 +1,12 @@
-use Rattle.std.proofs.Common.{◌∙◌, [], ap, length, subst, sym}
-use Rattle.std.specs.Prelude.{Some}
-use Rattle.im_engine.specs.State.{EngineState}
+use Rattle.std.proofs.Common.{[], length, Some, sym, ap, ◌∙◌, subst}
+use Rattle.{im_engine.specs.State.EngineState, im_text.proofs.PrintingLemmas.on_ok_by}
 use Rattle.im_session.specs.Kept.{SessionStart, SessionState}
-use Rattle.im_text.specs.declared.lines.Lines.{Lines}
-use Rattle.im_text.specs.Printing.{PrintsMore, PrintsNows, nows}
-use Rattle.im_text.proofs.PrintingLemmas.{on_ok_by}
+use Rattle.im_text.specs.{declared.Lines.Lines, Printing.nows, Printing.PrintsMore, Printing.PrintsNows}
+use Rattle.im_serial.proofs.ScriptedLemmas.{as_of, closed, ends_served, going_first}
 use Rattle.im_serial.specs.Asked.{standing, wanted_of, whole_course}
 use Rattle.im_serial.specs.Serving.{EndedAt, GoingAt, ServedScript, server_of}
-use Rattle.im_serial.proofs.ScriptedLemmas.{as_of, closed, ends_served, going_first}
-use Rattle.im_serial.proofs.serial.serve_on.Goals as goal
 
-pub returns-clause-served : goal.returns-clause-served
+pub returns-clause-served : Rattle.im_serial.proofs.serial.serve_on.Goals.returns-clause-served
 returns-clause-served g c =
     let was = c.args.session in
     let held = g.W.Write.contents c.args.out.now in

@@ -1,17 +1,11 @@
-use Rattle.std.proofs.Common.{◌∙◌, ap, length, subst, sym}
-use Rattle.im_engine.specs.State.{EngineState}
+use Rattle.std.proofs.Common.{length, sym, ap, ◌∙◌, subst}
+use Rattle.{im_engine.specs.State.EngineState, im_text.proofs.PrintingLemmas.on_ok_by}
 use Rattle.im_session.specs.Kept.{SessionStart, SessionState}
-use Rattle.im_text.specs.declared.lines.Lines.{Lines}
-use Rattle.im_text.specs.Printing.{PrintsMore, PrintsNows, nows}
-use Rattle.im_text.proofs.PrintingLemmas.{on_ok_by}
-use Rattle.im_serial.specs.Asked.{wanted_of}
-use Rattle.im_serial.specs.Once.{DoneOnce, EndedOnce, ServedOnce}
-use Rattle.im_serial.specs.Serving.{server_of}
-use Rattle.im_serial.proofs.OnceLemmas.{closed_once}
-use Rattle.im_serial.proofs.ScriptedLemmas.{as_of}
-use Rattle.im_serial.proofs.serial.serve_once_on.Goals as goal
+use Rattle.im_text.specs.{declared.Lines.Lines, Printing.nows, Printing.PrintsMore, Printing.PrintsNows}
+use Rattle.im_serial.proofs.{OnceLemmas.closed_once, ScriptedLemmas.as_of}
+use Rattle.im_serial.specs.{Asked.wanted_of, Once.DoneOnce, Once.EndedOnce, Once.ServedOnce, Serving.server_of}
 
-pub returns-clause-served : goal.returns-clause-served
+pub returns-clause-served : Rattle.im_serial.proofs.serial.serve_once_on.Goals.returns-clause-served
 returns-clause-served g c =
     let held = g.W.Write.contents c.args.out.now in
     let script = wanted_of c.args.script.now in

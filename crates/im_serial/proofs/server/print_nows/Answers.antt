@@ -1,7 +1,6 @@
-use Rattle.std.proofs.Common.{◌++◌, ℕ, List, refl, ap, subst}
-use Rattle.std.specs.Prelude.{slice_get}
-use Rattle.im_text.specs.Printing.{Prints, now_line, nows}
-use Rattle.im_text.proofs.TextLemmas.{written_none, written_more}
+use Rattle.std.proofs.Common.{ℕ, List, ◌++◌, slice_get, refl, ap, subst}
+use Rattle.im_text.proofs.TextLemmas.{written_more, written_none}
+use Rattle.im_text.specs.Printing.{now_line, nows, Prints}
 use Rattle.im_serial.proofs.server.print_nows.Goals as goal
 
 pub loop-at-init : goal.loop-at-init

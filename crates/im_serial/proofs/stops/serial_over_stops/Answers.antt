@@ -1,12 +1,8 @@
-use Rattle.std.proofs.Common.{ap, subst, sym}
-use Rattle.im_disk.specs.Fuse.{Fused}
-use Rattle.im_disk.specs.Recording.{Recording}
-use Rattle.im_disk.specs.Since.{LeavesNow}
-use Rattle.im_serial.specs.Asked.{wanted_of}
-use Rattle.im_serial.proofs.KeepsLemmas.{crashed_keeps}
-use Rattle.im_serial.proofs.stops.serial_over_stops.Goals as goal
-use Rattle.im_serial.specs.Begun.{HasComeTo}
+use Rattle.std.proofs.Common.{sym, ap, subst}
+use Rattle.im_disk.specs.{Fuse.Fused, Recording.Recording, Since.LeavesNow}
 use Rattle.im_session.specs.Carrying.{LedBy}
+use Rattle.im_serial.{proofs.KeepsLemmas.crashed_keeps, specs.Asked.wanted_of, specs.Begun.HasComeTo}
+use Rattle.im_serial.proofs.stops.serial_over_stops.Goals as goal
 
 pub loop-at-preserved : goal.loop-at-preserved
 loop-at-preserved g c = λ limits before.

@@ -1,8 +1,7 @@
-use Rattle.std.proofs.Common.{◌≡◌, arith, subst, ℕ}
+use Rattle.std.proofs.Common.{◌≡◌, ℕ, subst, arith}
 use Rattle.im_serial.specs.Noted.{Learns}
-use Rattle.im_serial.proofs.waits.learn.Goals as goal
 
-pub returns-clause-learnt : goal.returns-clause-learnt
+pub returns-clause-learnt : Rattle.im_serial.proofs.waits.learn.Goals.returns-clause-learnt
 returns-clause-learnt g c = λ low.
     let at_end : c.loop-number.number ≡ c.args.numbers.2 =
     omega (arith, low, c.loop-number-test.false, c.loop-number.auto.number-end) in

@@ -1,8 +1,6 @@
-use Rattle.std.proofs.Common.{◌≡◌}
-use Rattle.std.specs.Prelude.{map}
+use Rattle.std.proofs.Common.{◌≡◌, map}
 use Rattle.im_text.specs.Printing.{who_of}
 use Rattle.im_serial.specs.Noted.{Learns}
-use Rattle.im_serial.proofs.waits.learn.Given as goal
 
-abbrev pub invariant-loop-number : goal.invariant-loop-number
+abbrev pub invariant-loop-number : Rattle.im_serial.proofs.waits.learn.Given.invariant-loop-number
 invariant-loop-number g l = (map who_of l.waited ≡ map who_of l.fn.waited) × Learns l.memory.contents l.element l.base l.number l.fn.places.marks.items l.fn.waited l.places.marks.items l.waited

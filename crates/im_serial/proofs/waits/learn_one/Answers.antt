@@ -1,6 +1,5 @@
-use Rattle.std.proofs.Common.{◌≡◌, ◌∙◌, length, sym, subst, Some, None}
-use Rattle.im_types.specs.declared.operations.Waiter.{Waiter}
-use Rattle.im_types.specs.Contents.{Contents, kept_for}
+use Rattle.std.proofs.Common.{◌≡◌, length, Some, None, sym, ◌∙◌, subst}
+use Rattle.im_types.specs.Types.{Waiter, Contents, kept_for}
 use Rattle.im_laws.proofs.MemoryLemmas.{after-memory}
 use Rattle.im_serial.proofs.NotedLemmas.{noted_learnt, noted_none}
 use Rattle.im_serial.proofs.waits.learn_one.Goals as goal

@@ -1,9 +1,7 @@
-use Rattle.std.proofs.Common.{◌∙◌, ap, arith}
-use Rattle.std.proofs.Math.Seq.{map-set_same}
-use Rattle.im_types.specs.declared.operations.Waiter.{Waiter}
-use Rattle.im_text.specs.Printing.{who_of}
-use Rattle.im_serial.specs.Noted.{with_entry}
+use Rattle.std.proofs.{Common.ap, Common.◌∙◌, Common.arith, Math.Seq.map-set_same}
+use Rattle.{im_types.specs.Types.Waiter, im_text.specs.Printing.who_of}
 use Rattle.im_serial.proofs.NotedLemmas.{entered_past, entered_set, entered_who}
+use Rattle.im_serial.specs.Noted.{with_entry}
 use Rattle.im_serial.proofs.waits.set_entry.Goals as goal
 
 pub returns-then-at-waited-clause-names : goal.returns-then-at-waited-clause-names

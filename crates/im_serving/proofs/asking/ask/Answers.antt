@@ -1,6 +1,5 @@
-use Rattle.std.proofs.Common.{rules, ◌∙◌, sym}
-use Rattle.im_serving.proofs.AnswerLemmas.{asked_by}
-use Rattle.im_serving.proofs.GlanceLemmas.{glanced_asked, glanced_more}
+use Rattle.std.proofs.Common.{sym, ◌∙◌, rules}
+use Rattle.im_serving.proofs.{AnswerLemmas.asked_by, GlanceLemmas.glanced_asked, GlanceLemmas.glanced_more}
 use Rattle.im_serving.proofs.asking.ask.Goals as goal
 
 pub returns-in-Ok-entry_of-clause-seen : goal.returns-in-Ok-entry_of-clause-seen

@@ -1,11 +1,8 @@
-use Rattle.std.proofs.Common.{ℕ, rules, subst, sym}
+use Rattle.std.proofs.Common.{ℕ, sym, subst, rules}
+use Rattle.im_types.specs.Types.{Confirm, Commands}
+use Rattle.im_controller.specs.{Log.plain, State.PortState}
+use Rattle.im_serving.proofs.{AnswerLemmas.receipt_longer, CallsLemmas.makes_after, CallsLemmas.makes_again}
 use mathlib.Core.List.{IsPrefix}
-use Rattle.im_types.specs.declared.commands.Call.TheVariants.{Command as Commands}
-use Rattle.im_types.specs.declared.commands.Command.TheVariants.{Confirm}
-use Rattle.im_controller.specs.Log.{plain}
-use Rattle.im_controller.specs.State.{PortState}
-use Rattle.im_serving.proofs.AnswerLemmas.{receipt_longer}
-use Rattle.im_serving.proofs.CallsLemmas.{makes_after, makes_again}
 use Rattle.im_serving.proofs.asking.confirm.Goals as goal
 
 pub loop-preserved : goal.loop-preserved

@@ -1,8 +1,7 @@
 use Rattle.std.proofs.Common.{◌≡◌}
-use mathlib.Core.List.{IsPrefix}
-use Rattle.im_types.specs.declared.commands.Call.TheVariants.{Command as Commands}
-use Rattle.im_types.specs.declared.commands.Command.TheVariants.{Confirm}
+use Rattle.im_types.specs.Types.{Confirm, Commands}
 use Rattle.im_serving.specs.Calls.{MakesOnly}
+use mathlib.Core.List.{IsPrefix}
 use Rattle.im_serving.proofs.asking.confirm.Given as goal
 
 abbrev pub invariant-loop : goal.invariant-loop

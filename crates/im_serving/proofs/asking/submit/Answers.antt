@@ -1,11 +1,9 @@
-use Rattle.std.proofs.Common.{ℕ, rules, subst, sym}
-use mathlib.Core.List.{IsPrefix}
-use Rattle.im_types.specs.declared.commands.Call.TheVariants.{Command as Commands}
-use Rattle.im_types.specs.declared.commands.Command.TheVariants.{Request as Asks}
-use Rattle.im_controller.specs.Log.{plain}
-use Rattle.im_controller.specs.State.{PortState}
+use Rattle.std.proofs.Common.{ℕ, sym, subst, rules}
+use Rattle.im_types.specs.Types.{Asks, Commands}
+use Rattle.im_controller.specs.{Log.plain, State.PortState}
 use Rattle.im_serving.proofs.AnswerLemmas.{receipt_line, receipt_longer}
 use Rattle.im_serving.proofs.CallsLemmas.{makes_after, makes_again}
+use mathlib.Core.List.{IsPrefix}
 use Rattle.im_serving.proofs.asking.submit.Goals as goal
 
 pub returns-in-Ok-clause-order : goal.returns-in-Ok-clause-order

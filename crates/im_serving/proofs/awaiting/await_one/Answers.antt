@@ -1,6 +1,5 @@
 use Rattle.std.proofs.Common.{refl}
-use Rattle.im_types.specs.Trace.{told}
-use Rattle.im_controller.specs.Waits.{found_entry}
+use Rattle.{im_types.specs.Types.told, im_controller.specs.Waits.found_entry}
 use Rattle.im_serving.proofs.AnswerLemmas.{looked_found, looked_none, looked_same, sees_found, sees_longer}
 use Rattle.im_serving.proofs.CallsLemmas.{own_look}
 use Rattle.im_serving.proofs.awaiting.await_one.Goals as goal

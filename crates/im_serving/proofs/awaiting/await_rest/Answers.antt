@@ -1,7 +1,6 @@
-use Rattle.std.proofs.Common.{◌∙◌, [], refl}
+use Rattle.std.proofs.Common.{[], refl, ◌∙◌}
 use Rattle.im_serving.proofs.AnswerLemmas.{looked_none, looked_then}
-use Rattle.im_serving.proofs.CallsLemmas.{at_most, own_then}
-use Rattle.im_serving.proofs.ToldLemmas.{same_none, same_then}
+use Rattle.im_serving.proofs.{CallsLemmas.at_most, CallsLemmas.own_then, ToldLemmas.same_none, ToldLemmas.same_then}
 use Rattle.im_serving.proofs.awaiting.await_rest.Goals as goal
 
 pub loop-number-init : goal.loop-number-init

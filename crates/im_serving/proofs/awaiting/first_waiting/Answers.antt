@@ -1,6 +1,5 @@
-use Rattle.std.proofs.Common.{◌∙◌, [], refl}
-use Rattle.im_serving.proofs.AnswerLemmas.{looked_then}
-use Rattle.im_serving.proofs.CallsLemmas.{own_then}
+use Rattle.std.proofs.Common.{[], refl, ◌∙◌}
+use Rattle.im_serving.proofs.{AnswerLemmas.looked_then, CallsLemmas.own_then}
 use Rattle.im_serving.proofs.ToldLemmas.{tells_then, untold_grows}
 use Rattle.im_serving.proofs.awaiting.first_waiting.Goals as goal
 

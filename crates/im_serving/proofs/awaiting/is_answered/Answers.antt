@@ -1,9 +1,8 @@
 use Rattle.std.proofs.Common.{refl}
-use Rattle.im_types.specs.Trace.{told}
-use Rattle.im_controller.specs.Waits.{found_entry}
+use Rattle.{im_types.specs.Types.told, im_controller.specs.Waits.found_entry}
 use Rattle.im_serving.proofs.AnswerLemmas.{looked_found, looked_none, looked_same, sees_found, sees_longer}
-use Rattle.im_serving.proofs.ToldLemmas.{same_none, tells_as, tells_next, tells_none}
 use Rattle.im_serving.proofs.CallsLemmas.{own_look}
+use Rattle.im_serving.proofs.ToldLemmas.{same_none, tells_as, tells_next, tells_none}
 use Rattle.im_serving.proofs.awaiting.is_answered.Goals as goal
 
 pub returns-then-is_told-clause-looked : goal.returns-then-is_told-clause-looked

@@ -1,7 +1,6 @@
-use Rattle.std.proofs.Common.{rules, [], arith, refl}
+use Rattle.std.proofs.Common.{[], refl, arith, rules}
 use Rattle.im_serving.proofs.AnswerLemmas.{looked_none, looked_on}
-use Rattle.im_serving.proofs.CallsLemmas.{own_confirm, own_then}
-use Rattle.im_serving.proofs.GlanceLemmas.{glanced_more}
+use Rattle.im_serving.proofs.{CallsLemmas.own_confirm, CallsLemmas.own_then, GlanceLemmas.glanced_more}
 use Rattle.im_serving.proofs.ToldLemmas.{same_none, tells_as, tells_confirmed, tells_none}
 use Rattle.im_serving.proofs.awaiting.make_place.Goals as goal
 

@@ -1,9 +1,8 @@
 use Rattle.std.proofs.Common.{subst}
-use Rattle.im_serving.specs.Elements.{Asked, Deeds, ServesIntents, HasStopped}
-use Rattle.im_serving.proofs.ElementLemmas.{settled, sent_by}
-use Rattle.im_serving.proofs.ending.end.Goals as goal
+use Rattle.im_serving.proofs.ElementLemmas.{sent_by, settled}
+use Rattle.im_serving.specs.Elements.{Asked, Deeds, HasStopped, ServesIntents}
 
-pub returns-in-Ok : goal.returns-in-Ok
+pub returns-in-Ok : Rattle.im_serving.proofs.ending.end.Goals.returns-in-Ok
 returns-in-Ok g c =
     let part = c.running.inside.part.value in
     let outlet = c.join-stopped.result.outlet in

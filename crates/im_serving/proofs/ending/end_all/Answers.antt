@@ -1,7 +1,7 @@
-use Rattle.std.proofs.Common.{◌≡◌, ◌∙◌, ◌++◌, ◌∷◌, [], List, ℕ, ◌≤◌, ◌<◌, length, sym, ap, subst, arith}
-use Rattle.std.proofs.lemmas.List.{append_assoc, length-append}
-use Rattle.im_serving.specs.Elements.{Asked, End, AreEnded}
-use Rattle.im_serving.proofs.ElementLemmas.{ended_more, ended_length}
+use Rattle.std.proofs.Common.{◌≡◌, ℕ, ◌<◌, ◌≤◌, List, [], ◌∷◌, ◌++◌, length, sym, ap, ◌∙◌, subst, append_assoc, arith}
+use Rattle.std.proofs.Common.{length-append}
+use Rattle.im_serving.proofs.ElementLemmas.{ended_length, ended_more}
+use Rattle.im_serving.specs.Elements.{AreEnded, Asked, End}
 use Rattle.im_serving.proofs.ending.end_all.Goals as goal
 
 -- behind some and one more come the rest

@@ -1,9 +1,7 @@
-use Rattle.std.proofs.Common.{◌≡◌, ◌++◌, List}
-use Rattle.std.specs.Prelude.{vec_capacity}
-use Rattle.im_serving.specs.Elements.{Asked, AreEnded}
-use Rattle.im_serving.proofs.ending.end_all.Given as goal
+use Rattle.std.proofs.Common.{◌≡◌, List, ◌++◌, vec_capacity}
+use Rattle.im_serving.specs.Elements.{AreEnded, Asked}
 
-abbrev pub invariant-loop-running : goal.invariant-loop-running
+abbrev pub invariant-loop-running : Rattle.im_serving.proofs.ending.end_all.Given.invariant-loop-running
 invariant-loop-running g l =
     ((before : List Asked)
     × ((before ++ l.running-iterator.rest.items ≡ l.fn.all.items)

@@ -1,8 +1,7 @@
-use Rattle.std.proofs.Common.{rules, ◌≡◌, ◌∙◌, ◌++◌, ◌∷◌, [], subst, sym}
-use Rattle.im_serving.specs.Serving.{AreDone}
-use Rattle.im_serving.proofs.CallsLemmas.{alone_as, alone_then}
-use Rattle.im_serving.proofs.GlanceLemmas.{begun_all, begun_then, counted_same, counted_then, done_then, few_by, few_then}
-use Rattle.im_serving.proofs.GlanceLemmas.{glanced_then}
+use Rattle.std.proofs.Common.{◌≡◌, [], ◌∷◌, ◌++◌, sym, ◌∙◌, subst, rules}
+use Rattle.im_serving.{proofs.CallsLemmas.alone_as, proofs.CallsLemmas.alone_then, specs.Serving.AreDone}
+use Rattle.im_serving.proofs.GlanceLemmas.{begun_all, begun_then, counted_same, counted_then, done_then, few_by}
+use Rattle.im_serving.proofs.GlanceLemmas.{few_then, glanced_then}
 use Rattle.im_serving.proofs.ToldLemmas.{tells_then, untold_grows}
 use Rattle.im_serving.proofs.server.serve_all.Goals as goal
 

@@ -1,7 +1,6 @@
 use Rattle.std.proofs.Common.{◌≡◌, ◌+◌, false, length}
-use Rattle.im_serving.specs.Calls.{IsOwnCall, MakesOnly}
+use Rattle.im_serving.specs.{Calls.IsOwnCall, Calls.MakesOnly, Told.TellsEarlier}
 use Rattle.im_serving.specs.Serving.{AreDone, AreGlanced, ops_of}
-use Rattle.im_serving.specs.Told.{TellsEarlier}
 use Rattle.im_serving.proofs.server.serve_all.Given as goal
 
 abbrev pub invariant-loop : goal.invariant-loop

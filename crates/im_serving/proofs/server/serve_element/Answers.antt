@@ -1,10 +1,8 @@
-use Rattle.std.proofs.Common.{subst, sym}
+use Rattle.std.proofs.Common.{sym, subst}
 use Rattle.im_controller.specs.State.{PortState}
-use Rattle.im_serving.specs.Elements.{ServesOn, deeds_of}
-use Rattle.im_serving.specs.Told.{TellsEarlier}
-use Rattle.im_serving.proofs.server.serve_element.Goals as goal
+use Rattle.im_serving.specs.{Elements.deeds_of, Elements.ServesOn, Told.TellsEarlier}
 
-pub returns : goal.returns
+pub returns : Rattle.im_serving.proofs.server.serve_element.Goals.returns
 returns g c =
     let s = c.serve_to_end-done in
     record {

@@ -1,7 +1,6 @@
-use Rattle.std.proofs.Common.{rules, refl}
-use Rattle.im_serving.proofs.CallsLemmas.{intent_alone}
+use Rattle.std.proofs.Common.{refl, rules}
+use Rattle.im_serving.proofs.{CallsLemmas.intent_alone, ToldLemmas.tells_none}
 use Rattle.im_serving.proofs.GlanceLemmas.{done_glance, done_refused, done_request, glanced_by, unglanced}
-use Rattle.im_serving.proofs.ToldLemmas.{tells_none}
 use Rattle.im_serving.proofs.server.serve_intent.Goals as goal
 
 pub returns-in-Request-clause-done : goal.returns-in-Request-clause-done

@@ -1,9 +1,7 @@
-use Rattle.std.proofs.Common.{rules, ◌≡◌, ℕ, [], append-nil, arith, refl, subst, sym}
-use Rattle.std.specs.Prelude.{Some, slice_get}
+use Rattle.std.proofs.Common.{◌≡◌, ℕ, [], slice_get, Some, sym, refl, subst, append-nil, arith, rules}
 use Rattle.im_serving.proofs.AnswerLemmas.{asked_as, found_length, looked_count, looked_few, looked_on}
 use Rattle.im_serving.proofs.CallsLemmas.{makes_more, own_ask, own_then}
-use Rattle.im_serving.proofs.GlanceLemmas.{glanced_then}
-use Rattle.im_serving.proofs.ToldLemmas.{tells_as, tells_kept}
+use Rattle.im_serving.proofs.{GlanceLemmas.glanced_then, ToldLemmas.tells_as, ToldLemmas.tells_kept}
 use Rattle.im_serving.proofs.server.serve_one.Goals as goal
 
 pub returns-in-Ok-answer-clause-seen : goal.returns-in-Ok-answer-clause-seen

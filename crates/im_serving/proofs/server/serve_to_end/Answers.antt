@@ -1,9 +1,8 @@
-use Rattle.std.proofs.Common.{◌∙◌, [], append-nil, arith, refl}
-use Rattle.im_serving.specs.Serving.{ops_of}
-use Rattle.im_serving.proofs.AnswerLemmas.{found_length}
+use Rattle.std.proofs.Common.{[], refl, ◌∙◌, append-nil, arith}
+use Rattle.im_serving.proofs.{AnswerLemmas.found_length, ToldLemmas.tells_as}
 use Rattle.im_serving.proofs.CallsLemmas.{at_most, makes_more, ops_longer, own_then}
 use Rattle.im_serving.proofs.GlanceLemmas.{always, begun_more, done_on, few_more, still_counted, still_few}
-use Rattle.im_serving.proofs.ToldLemmas.{tells_as}
+use Rattle.im_serving.specs.Serving.{ops_of}
 use Rattle.im_serving.proofs.server.serve_to_end.Goals as goal
 
 pub returns-in-Ok : goal.returns-in-Ok

@@ -1,6 +1,6 @@
-use Rattle.std.proofs.Common.{◌≡◌, ◌∙◌, sym, ap, subst}
-use Rattle.im_serving.specs.Elements.{Asked, Deeds, IsUnserved}
+use Rattle.std.proofs.Common.{◌≡◌, sym, ap, ◌∙◌, subst}
 use Rattle.im_serving.proofs.ElementLemmas.{unserved_part}
+use Rattle.im_serving.specs.Elements.{Asked, Deeds, IsUnserved}
 use Rattle.im_serving.proofs.starting.begin.Goals as goal
 
 pub invariant_of-result : goal.invariant_of-result

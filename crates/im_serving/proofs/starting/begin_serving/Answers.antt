@@ -1,10 +1,8 @@
-use Rattle.std.proofs.Common.{rules}
+use Rattle.std.proofs.{Common.rules, Crossing.crosses}
+use Rattle.im_serving.proofs.Crosses.{Controller-row-sync, Outlet-row-send, Server-row-send, Stopped-row-send}
+use Rattle.im_serving.proofs.ElementLemmas.{unserved}
 use denote.Param.{param}
 use denote.Param.Send.{sendable}
-use Rattle.std.proofs.Crossing.{crosses}
-use Rattle.im_serving.proofs.Crosses.{Controller-row-sync, Server-row-send, Stopped-row-send}
-use Rattle.im_serving.proofs.Crosses.{Outlet-row-send}
-use Rattle.im_serving.proofs.ElementLemmas.{unserved}
 use Rattle.im_serving.proofs.starting.begin_serving.Goals as goal
 
 pub spawn_with-requires-send-F : goal.spawn_with-requires-send-F

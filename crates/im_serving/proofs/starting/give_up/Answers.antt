@@ -1,10 +1,8 @@
-use Rattle.std.proofs.Common.{rules}
-use Rattle.std.specs.Prelude.{Err}
-use Rattle.im_types.specs.declared.refusals.Refusal.TheVariants.{NoMemory}
+use Rattle.std.proofs.Common.{Err, rules}
+use Rattle.im_types.specs.Types.{NoMemory}
 use Rattle.im_serving.proofs.ElementLemmas.{given_up}
-use Rattle.im_serving.proofs.starting.give_up.Goals as goal
 
-pub returns : goal.returns
+pub returns : Rattle.im_serving.proofs.starting.give_up.Goals.returns
 returns g c = given_up g.K.Name.origin.memory g.K.Name.origin.marks c.args.server (record {
   deeds = record {
     port = c.retire.new.self;

@@ -1,9 +1,7 @@
 use Rattle.std.proofs.Common.{subst}
-use Rattle.im_serving.specs.Elements.{Deeds, HasStopped}
-use Rattle.im_serving.proofs.ElementLemmas.{has_stopped}
-use Rattle.im_serving.proofs.starting.serve_part.Goals as goal
+use Rattle.im_serving.{proofs.ElementLemmas.has_stopped, specs.Elements.Deeds, specs.Elements.HasStopped}
 
-pub returns-clause-stopped : goal.returns-clause-stopped
+pub returns-clause-stopped : Rattle.im_serving.proofs.starting.serve_part.Goals.returns-clause-stopped
 returns-clause-stopped g c =
     let new = c.serve_element-done.new in
     let said = c.serve_element-done.ensures.done in

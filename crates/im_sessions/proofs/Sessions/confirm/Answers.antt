@@ -1,5 +1,5 @@
 use Rattle.std.proofs.Common.{arith}
-use Rattle.im_sessions.proofs.WindowsLemmas.{confirm-windows, confirm-ok, confirm-err}
+use Rattle.im_sessions.proofs.WindowsLemmas.{confirm-err, confirm-ok, confirm-windows}
 use Rattle.im_sessions.proofs.Sessions.confirm.Goals as goal
 
 pub invariant_of-self : goal.invariant_of-self

@@ -1,5 +1,4 @@
 use Rattle.im_sessions.proofs.WindowsLemmas.{AreWindows-set}
-use Rattle.im_sessions.proofs.Sessions.note.Goals as goal
 
-pub invariant_of-self : goal.invariant_of-self
+pub invariant_of-self : Rattle.im_sessions.proofs.Sessions.note.Goals.invariant_of-self
 invariant_of-self c = AreWindows-set c.self.inside.windows.items _ c.note.new.self c.self.invariant c.note.ensures.bounds

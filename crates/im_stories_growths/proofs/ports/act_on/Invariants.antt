@@ -1,8 +1,7 @@
 -- Where the controller begins, over a disk that is always honest.
-use Rattle.std.specs.Prelude.{false, length}
-use Rattle.im_stories_growths.proofs.ports.act_on.Given as goal
+use Rattle.std.proofs.Common.{false, length}
 
-abbrev pub ghosts-act_under : goal.ghosts-act_under
+abbrev pub ghosts-act_under : Rattle.im_stories_growths.proofs.ports.act_on.Given.ghosts-act_under
 ghosts-act_under g a = let s = a.opening.session in record {
   origin = record {
     memory = s.engine.memory;

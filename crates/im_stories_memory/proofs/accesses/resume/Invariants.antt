@@ -1,7 +1,5 @@
-use Rattle.std.proofs.Common.{◌<◌, List, Option, length}
-use Rattle.im_cell.specs.declared.slots.Slot.{Slot}
-use Rattle.im_arena.specs.Lists.{list_at}
-use Rattle.im_istore.specs.Agreement.{AgreeBut}
+use Rattle.std.proofs.Common.{◌<◌, List, length, Option}
+use Rattle.{im_arena.specs.Lists.list_at, im_cell.specs.declared.Slot.Slot, im_istore.specs.Agreement.AgreeBut}
 use Rattle.im_stories_memory.proofs.accesses.resume.Given as goal
 
 abbrev pub invariant-loop-reader : goal.invariant-loop-reader

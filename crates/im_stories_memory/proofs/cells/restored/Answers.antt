@@ -1,6 +1,6 @@
-use Rattle.std.proofs.Common.{◌≡◌, map, length, ap, sym, ◌∙◌, subst, arith}
+use Rattle.std.proofs.Common.{◌≡◌, map, length, sym, ap, ◌∙◌, subst, arith}
 use Rattle.std.proofs.lemmas.List.{length-map}
-use Rattle.im_cell.specs.Slots.{shown_slot, HoldsBlocks}
+use Rattle.im_cell.specs.Slots.{HoldsBlocks, shown_slot}
 use Rattle.im_stories_memory.proofs.cells.restored.Goals as goal
 
 pub restore-requires-clause-few : goal.restore-requires-clause-few

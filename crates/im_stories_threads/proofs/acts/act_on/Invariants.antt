@@ -1,8 +1,7 @@
 -- Where the controller begins, over a disk that is always honest.
-use Rattle.std.specs.Prelude.{false, length}
-use Rattle.im_stories_threads.proofs.acts.act_on.Given as goal
+use Rattle.std.proofs.Common.{false, length}
 
-abbrev pub ghosts-act_named : goal.ghosts-act_named
+abbrev pub ghosts-act_named : Rattle.im_stories_threads.proofs.acts.act_on.Given.ghosts-act_named
 ghosts-act_named g a = let s = a.opening.session in record {
   origin = record {
     memory = s.engine.memory;

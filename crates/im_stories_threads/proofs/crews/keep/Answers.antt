@@ -2,9 +2,8 @@ use denote.Param.{param}
 use denote.Param.Send.{sendable}
 use Rattle.std.proofs.Crossing.{crosses}
 use Rattle.im_serving.proofs.Crosses.{Controller-row-sync}
-use Rattle.im_stories_threads.proofs.crews.keep.Goals as goal
 
-pub spawn-keeper-requires-send-F : goal.spawn-keeper-requires-send-F
+pub spawn-keeper-requires-send-F : Rattle.im_stories_threads.proofs.crews.keep.Goals.spawn-keeper-requires-send-F
 spawn-keeper-requires-send-F g c κs within =
     let controller = Controller-row-sync (param 1 g.row.D) (param 2 g.row.K) g.D.Disk g.K.Name c.type_bounds.send-D in
     let r = c.type_bounds.sync-R in search (sendable, crosses) depth 40

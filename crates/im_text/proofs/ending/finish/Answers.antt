@@ -1,7 +1,5 @@
-use Rattle.std.proofs.Common.{inl, refl, sym, subst, List, ℕ, [], ◌++◌}
-use Rattle.std.proofs.lemmas.List.{append-nil}
-use Rattle.im_text.specs.Printing.{Prints}
-use Rattle.im_text.proofs.PrintingLemmas.{prints_all}
+use Rattle.std.proofs.Common.{ℕ, List, [], ◌++◌, sym, refl, subst, inl, append-nil}
+use Rattle.im_text.{proofs.PrintingLemmas.prints_all, specs.Printing.Prints}
 use Rattle.im_text.proofs.ending.finish.Goals as goal
 
 pub returns-in-Ok-flush-clause-whole : goal.returns-in-Ok-flush-clause-whole

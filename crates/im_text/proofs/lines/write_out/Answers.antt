@@ -1,10 +1,8 @@
-use Rattle.std.proofs.Common.{◌-◌, ◌++◌, length, take, drop, sym, ap, subst, ◌∙◌, arith, length-take}
+use Rattle.std.proofs.Common.{◌-◌, ◌++◌, length, take, drop, sym, ap, ◌∙◌, subst, arith, length-take}
+use Rattle.std.{proofs.KnownBytes.Appends-trans, specs.Io.KnownBytes.Appends}
 use lib.Seq.{take-add, take-take}
-use Rattle.std.specs.Io.KnownBytes.{Appends}
-use Rattle.std.proofs.KnownBytes.{Appends-trans}
-use Rattle.im_text.proofs.lines.write_out.Goals as goal
 
-pub loop-turn-preserved : goal.loop-turn-preserved
+pub loop-turn-preserved : Rattle.im_text.proofs.lines.write_out.Goals.loop-turn-preserved
 loop-turn-preserved g c =
     let done = c.loop-turn.written in
     let n = c.in-Ok.count in

@@ -30,15 +30,13 @@ use denote.Triple.Spec.{Meets, triple_of}
 use denote.Triple.Table.{entered}
 use denote.Triple.Walked.{Stays, stay_ref, walk_of, ends_at, Goes-ref, walk_Meets}
 use contract.CodeStep
+use Rattle.core.proofs.ledger.{Sums.Audited, Walks.hears, Walks.hears_last, Walks.tells_all}
 use Rattle.core.specs.Sync.Ledger.{book_owns, share_owns}
 use Rattle.std.specs.declared.sync.ledger.Ledger.{Ghosts}
+use Rattle.im_trace.specs.contracts.books.note.{clauses, ended, Key.name as #self}
 use Rattle.std.specs.contracts.sync.ledger.Book as book
 use Rattle.std.specs.contracts.sync.ledger.Share as share
-use Rattle.core.proofs.ledger.Sums.{Audited}
 use Rattle.core.proofs.ledger.Steps as steps
-use Rattle.core.proofs.ledger.Walks.{hears, hears_last, tells_all}
-use Rattle.im_trace.specs.contracts.books.note.{ended, clauses}
-use Rattle.im_trace.specs.contracts.books.note.Key.{name as #self}
 use Rattle.im_trace.proofs.books.note.Statement as stated
 use Rattle.im_trace.proofs.books.note.Code as code
 

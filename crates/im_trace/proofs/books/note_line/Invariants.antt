@@ -1,4 +1,2 @@
-use Rattle.im_trace.proofs.books.note_line.Given as goal
-
-abbrev pub ghost-note : goal.ghost-note
+abbrev pub ghost-note : Rattle.im_trace.proofs.books.note_line.Given.ghost-note
 ghost-note g a = g.plus

@@ -1,7 +1,6 @@
-use Rattle.std.proofs.Common.{sym, ◌∙◌, ap, subst, List}
+use Rattle.std.proofs.Common.{List, sym, ap, ◌∙◌, subst}
+use Rattle.im_trace.{proofs.ChainLemmas.look_moves, proofs.ChainLemmas.prefix-trans, specs.declared.rule.Link.Link}
 use mathlib.Core.List.{IsPrefix}
-use Rattle.im_trace.specs.declared.rule.Link.{Link}
-use Rattle.im_trace.proofs.ChainLemmas.{look_moves, prefix-trans}
 use Rattle.im_trace.proofs.chain.look.Goals as goal
 
 pub compare_exchange-zero-requires : goal.compare_exchange-zero-requires

@@ -1,8 +1,7 @@
-use Rattle.std.proofs.Common.{sym, ◌∙◌, ap}
+use Rattle.std.proofs.Common.{sym, ap, ◌∙◌}
 use Rattle.im_trace.proofs.ChainLemmas.{grow_moves}
-use Rattle.im_trace.proofs.chain.new_pen.Goals as goal
 
-pub compare_exchange-zero-requires : goal.compare_exchange-zero-requires
+pub compare_exchange-zero-requires : Rattle.im_trace.proofs.chain.new_pen.Goals.compare_exchange-zero-requires
 compare_exchange-zero-requires c =
     let h = c.requires in
     let offer = c.plain-offer.ensures in

@@ -1,8 +1,7 @@
-use Rattle.std.proofs.Common.{◌≡◌, ◌∙◌, sym, ap, List, ℕ, Bor}
-use Rattle.std.specs.Prelude.{Option, Some, None}
-use Rattle.std.specs.Option.{option_map, option_map_or}
-use Rattle.clap.specs.Words.{Text, first_of, found_of, rows_of}
+use Rattle.std.proofs.Common.{◌≡◌, ℕ, List, Some, None, Option, option_map, sym, ap, ◌∙◌, Bor}
 use Rattle.clap.proofs.WalkLemmas.{first_value-rows}
+use Rattle.clap.specs.Words.{first_of, found_of, rows_of, Text}
+use Rattle.std.specs.Option.{option_map_or}
 use Rattle.im_words.specs.Words.{given_number}
 use Rattle.im_words.proofs.copy_words.number_given.Goals as goal
 

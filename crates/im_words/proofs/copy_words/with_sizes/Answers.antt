@@ -1,8 +1,7 @@
-use Rattle.std.proofs.Common.{◌∙◌, ap, ap₂}
+use Rattle.std.proofs.Common.{ap, ◌∙◌, ap₂}
 use Rattle.clap.specs.Words.{with_rule}
-use Rattle.im_words.proofs.copy_words.with_sizes.Goals as goal
 
-pub returns-clause-app : goal.returns-clause-app
+pub returns-clause-app : Rattle.im_words.proofs.copy_words.with_sizes.Goals.returns-clause-app
 returns-clause-app c =
     let one = c.in_ok-one.ensures.shape c.number_option-cells.ensures.local ∙ ap (with_rule _)
     c.number_option-cells.ensures.rule in

@@ -1,8 +1,7 @@
 use Rattle.std.proofs.Common.{◌∙◌, ap₂}
 use Rattle.clap.specs.Words.{with_rule}
-use Rattle.im_words.proofs.format_words.format_command.Goals as goal
 
-pub returns-clause-app : goal.returns-clause-app
+pub returns-clause-app : Rattle.im_words.proofs.format_words.format_command.Goals.returns-clause-app
 returns-clause-app c =
     let one = c.in_ok-one.ensures.shape c.number_option-cells.ensures.local ∙ ap₂ with_rule c.in_ok-image.ensures.app c.number_option-cells.ensures.rule in
     let two = c.in_ok-two.ensures.shape c.number_option-elements.ensures.local ∙ ap₂ with_rule one c.number_option-elements.ensures.rule in

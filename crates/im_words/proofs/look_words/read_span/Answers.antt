@@ -1,6 +1,5 @@
 use Rattle.std.proofs.Common.{◌∙◌, ap₂}
-use Rattle.im_words.specs.Words.{span_between}
-use Rattle.im_words.proofs.SpanLemmas.{span_found, span_none}
+use Rattle.im_words.{proofs.SpanLemmas.span_found, proofs.SpanLemmas.span_none, specs.Words.span_between}
 use Rattle.im_words.proofs.look_words.read_span.Goals as goal
 
 pub returns-in-Some : goal.returns-in-Some

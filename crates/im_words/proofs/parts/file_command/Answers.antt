@@ -1,9 +1,8 @@
-use Rattle.std.proofs.Common.{rules, ◌≡◌, ◌∙◌, ap₂, codes}
+use Rattle.std.proofs.Common.{◌≡◌, codes, ◌∙◌, ap₂, rules}
 use Rattle.clap.specs.Words.{app_of, new_app, with_rule}
 use Rattle.im_words.specs.Words.{flag_rule, wait_rule}
-use Rattle.im_words.proofs.parts.file_command.Goals as goal
 
-pub returns-clause-app : goal.returns-clause-app
+pub returns-clause-app : Rattle.im_words.proofs.parts.file_command.Goals.returns-clause-app
 returns-clause-app c =
     let empty : app_of c.after_help-empty.result ≡ new_app c.args.name.now = search rules in
     let one : app_of c.in_ok-one.one ≡ with_rule (new_app c.args.name.now) (flag_rule (codes "statuses")) = c.in_ok-one.ensures.shape c.statuses_option-statuses.ensures.local ∙ ap₂ with_rule empty c.statuses_option-statuses.ensures.rule in

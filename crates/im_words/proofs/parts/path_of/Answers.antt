@@ -1,8 +1,6 @@
-use Rattle.std.proofs.Common.{◌≡◌, ◌∙◌, sym, ap, List, [], ℕ, Bor}
-use Rattle.std.specs.Prelude.{Option, Some, None, unwrap_or}
-use Rattle.std.specs.Option.{option_map}
-use Rattle.clap.specs.Words.{Text, first_of, found_of, rows_of}
+use Rattle.std.proofs.Common.{◌≡◌, ℕ, List, [], Some, None, Option, option_map, unwrap_or, sym, ap, ◌∙◌, Bor}
 use Rattle.clap.proofs.WalkLemmas.{first_value-rows}
+use Rattle.clap.specs.Words.{first_of, found_of, rows_of, Text}
 use Rattle.im_words.proofs.parts.path_of.Goals as goal
 
 pub returns-in-Some : goal.returns-in-Some

@@ -1,8 +1,7 @@
-use Rattle.std.proofs.Common.{◌∙◌, ap, ap₂}
+use Rattle.std.proofs.Common.{ap, ◌∙◌, ap₂}
 use Rattle.clap.specs.Words.{App, with_subcommand}
-use Rattle.im_words.proofs.reading.imem_command.Goals as goal
 
-pub returns : goal.returns
+pub returns : Rattle.im_words.proofs.reading.imem_command.Goals.returns
 returns c =
     let one = c.in_ok-one.ensures.shape c.in_ok-format.ensures.local
     ∙ ap₂ with_subcommand c.top_command-empty.ensures.app (ap (λ (a : App). a.top) c.in_ok-format.ensures.app) in

@@ -1,8 +1,7 @@
 use Rattle.std.proofs.Common.{◌∙◌, ap₂}
 use Rattle.clap.specs.Words.{with_rule}
-use Rattle.im_words.proofs.script_words.run_command.Goals as goal
 
-pub returns-clause-app : goal.returns-clause-app
+pub returns-clause-app : Rattle.im_words.proofs.script_words.run_command.Goals.returns-clause-app
 returns-clause-app c =
     let flag = c.flag_option-planned in
     let path = c.value_option-trace in

@@ -1,8 +1,7 @@
 use Rattle.std.proofs.Common.{◌∙◌, ap₂}
 use Rattle.clap.specs.Words.{with_rule}
-use Rattle.im_words.proofs.script_words.script_command.Goals as goal
 
-pub returns-clause-app : goal.returns-clause-app
+pub returns-clause-app : Rattle.im_words.proofs.script_words.script_command.Goals.returns-clause-app
 returns-clause-app c =
     let path = c.path_argument-script in
     let quiet = c.flag_option-quiet in

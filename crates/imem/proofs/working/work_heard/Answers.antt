@@ -1,11 +1,8 @@
-use Rattle.std.proofs.Common.{List, ℕ, subst}
-use Rattle.std.specs.Prelude.{Option}
-use Rattle.im_disk.specs.contracts.file.FileDiskDisk.TheImpl.{ghosts}
-use Rattle.im_program.specs.Ending.{EndedOn}
+use Rattle.std.proofs.Common.{ℕ, List, Option, subst}
+use Rattle.{im_disk.specs.contracts.file.FileDiskDisk.TheImpl.ghosts, im_program.specs.Ending.EndedOn}
 use Rattle.imem.proofs.Heard.{heard_as}
-use Rattle.imem.proofs.working.work_heard.Goals as goal
 
-pub returns-clause-ended : goal.returns-clause-ended
+pub returns-clause-ended : Rattle.imem.proofs.working.work_heard.Goals.returns-clause-ended
 returns-clause-ended g c = subst
     (λ (known : Option (List ℕ)). EndedOn g.S.Start g.T.Start
     (ghosts g.row.S g.S.Start g.S.Start-dict g.S.Destruct-dict)

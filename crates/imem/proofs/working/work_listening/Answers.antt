@@ -1,4 +1,2 @@
-use Rattle.imem.proofs.working.work_listening.Goals as goal
-
-pub returns-clause-ended : goal.returns-clause-ended
+pub returns-clause-ended : Rattle.imem.proofs.working.work_listening.Goals.returns-clause-ended
 returns-clause-ended g c = rw c.listen-listener.ensures.bytes at c.work_heard.ensures.ended

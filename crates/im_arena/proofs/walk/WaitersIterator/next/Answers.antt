@@ -1,6 +1,5 @@
 use Rattle.std.proofs.Common.{◌∷◌, length, sym, ap, ◌∙◌, rules}
-use Rattle.im_arena.specs.Table.{waiters_from, next_of}
-use Rattle.im_arena.proofs.Walks.{walk-behind, first-left}
+use Rattle.im_arena.{proofs.Walks.first-left, proofs.Walks.walk-behind, specs.Table.next_of, specs.Table.waiters_from}
 use Rattle.im_arena.proofs.walk.WaitersIterator.next.Goals as goal
 
 pub invariant_of-self : goal.invariant_of-self

@@ -5,16 +5,13 @@ use denote.RawPtr.{Ptr}
 use denote.Struct.Struct.{exits_of}
 use denote.Struct.Owning.{shape, fields, to}
 use denote.Param.Send.{IsSend, AllSend, owning_send, struct_send, sendable}
-use Rattle.std.specs.Prelude.{None, Some}
-use Rattle.std.specs.declared.option.Option.{Option}
-use Rattle.std.specs.Global.{Global}
+use Rattle.std.{proofs.Common.Some, proofs.Common.None, proofs.Common.Global, specs.declared.option.Option.Option}
+use Rattle.std_alloc.proofs.SendSync.{lies, quiet}
+use Rattle.im_c.proofs.Crosses.{Image-row-send}
+use Rattle.im_c.specs.{contracts.image.LtImage.the_row, contracts.image.LtImage.the_type, Held.holds_image}
 use Rattle.std.proofs.Crossing as heap
-use Rattle.std_alloc.proofs.SendSync.{quiet, lies}
 use Rattle.std_heap.proofs.Global.TheSendSync as handle
 use Rattle.im_listed.specs.contracts.image.Image as Image
-use Rattle.im_c.specs.Held.{holds_image}
-use Rattle.im_c.specs.contracts.image.LtImage.{the_row, the_type}
-use Rattle.im_c.proofs.Crosses.{Image-row-send}
 
 held : (a : Global) (p : Ptr) (x : Option Image.the_row.Denot) → Keyless (holds_image a p x)
 held a p None = tt

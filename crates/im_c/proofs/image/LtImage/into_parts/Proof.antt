@@ -22,21 +22,18 @@ use denote.Steps.{nothing}
 use denote.Triple.Spec.{triple_of}
 use denote.Triple.Table.{entered}
 use denote.Triple.Walked.{says, Stays, stay_dropped, walk_of, ends_at, Goes-dropped, walk_Meets}
-use Rattle.std_alloc.proofs.BoxSteps.Form.{D, B, word, box_typed}
-use Rattle.std_alloc.proofs.BoxSteps.Steps.{box_out, box_in}
+use Rattle.std.proofs.{Common.IsSome, Common.Some, Common.None, Common.Global, lemmas.Bool.false≢true}
+use Rattle.std.specs.declared.option.Option.{Option}
+use Rattle.std_alloc.proofs.BoxSteps.{Form.B, Form.box_typed, Form.D, Form.word, Steps.box_in, Steps.box_out}
+use Rattle.im_c.proofs.AsImage.{E, FromHandle as From}
+use Rattle.im_c.specs.contracts.image.LtImage.into_parts.Key.{name as #self}
 use mathlib.Core.Path.{◌≡◌}
 use denote.Steps.{heard}
-use Rattle.std.proofs.lemmas.Bool.{false≢true}
 use denote.RawPtr.{Ptr}
 use types.Logic.{sem}
 use contract.Monad.{fact}
-use Rattle.std.specs.Prelude.{Some, None, IsSome}
-use Rattle.std.specs.declared.option.Option.{Option}
-use Rattle.std.specs.Global.{Global}
 use Rattle.im_c.specs.contracts.image.LtImage as Handle
-use Rattle.im_c.proofs.AsImage.{E, FromHandle as From}
 use Rattle.im_c.specs.contracts.image.LtImage.into_parts as F
-use Rattle.im_c.specs.contracts.image.LtImage.into_parts.Key.{name as #self}
 use Rattle.im_c.proofs.image.LtImage.into_parts.Statement as stated
 use Rattle.im_c.proofs.image.LtImage.into_parts.Code as code
 

@@ -5,16 +5,13 @@ use denote.RawPtr.{Ptr}
 use denote.Struct.Struct.{exits_of}
 use denote.Struct.Owning.{shape, fields, to}
 use denote.Param.Send.{IsSend, AllSend, owning_send, struct_send, sendable}
-use Rattle.std.specs.Prelude.{None, Some}
-use Rattle.std.specs.declared.option.Option.{Option}
-use Rattle.std.specs.Global.{Global}
+use Rattle.std.{proofs.Common.Some, proofs.Common.None, proofs.Common.Global, specs.declared.option.Option.Option}
+use Rattle.std_alloc.proofs.SendSync.{lies, quiet}
+use Rattle.im_c.proofs.Crosses.{Memory-row-send}
+use Rattle.im_c.specs.{contracts.memory.LtMemory.the_row, contracts.memory.LtMemory.the_type, Held.holds_memory}
 use Rattle.std.proofs.Crossing as heap
-use Rattle.std_alloc.proofs.SendSync.{quiet, lies}
 use Rattle.std_heap.proofs.Global.TheSendSync as handle
 use Rattle.im_memory.specs.contracts.memory.Memory as Memory
-use Rattle.im_c.specs.Held.{holds_memory}
-use Rattle.im_c.specs.contracts.memory.LtMemory.{the_row, the_type}
-use Rattle.im_c.proofs.Crosses.{Memory-row-send}
 
 held : (a : Global) (p : Ptr) (x : Option Memory.the_row.Denot) → Keyless (holds_memory a p x)
 held a p None = tt

@@ -22,12 +22,11 @@ use denote.Steps.{nothing}
 use denote.Triple.Spec.{triple_of}
 use denote.Triple.Table.{entered}
 use denote.Triple.Walked.{says, Stays, stay_dropped, walk_of, ends_at, Goes-dropped, walk_Meets}
-use Rattle.std_alloc.proofs.BoxSteps.Form.{D, B, word, box_typed}
-use Rattle.std_alloc.proofs.BoxSteps.Steps.{box_out, box_in}
-use Rattle.std.specs.Prelude.{Some}
+use Rattle.std.proofs.Common.{Some}
+use Rattle.std_alloc.proofs.BoxSteps.{Form.B, Form.box_typed, Form.D, Form.word, Steps.box_in, Steps.box_out}
 use Rattle.im_c.proofs.AsMemory.{E, FromParts as From}
-use Rattle.im_c.specs.contracts.memory.LtMemory.of_parts as F
 use Rattle.im_c.specs.contracts.memory.LtMemory.of_parts.Key.{name as #self}
+use Rattle.im_c.specs.contracts.memory.LtMemory.of_parts as F
 use Rattle.im_c.proofs.memory.LtMemory.of_parts.Statement as stated
 use Rattle.im_c.proofs.memory.LtMemory.of_parts.Code as code
 

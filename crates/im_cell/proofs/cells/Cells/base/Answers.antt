@@ -1,5 +1,5 @@
 use Rattle.std.proofs.Common.{arith}
-use Rattle.im_cell.proofs.Kept.{long-slots, some-inside, base-read}
+use Rattle.im_cell.proofs.Kept.{base-read, long-slots, some-inside}
 use Rattle.im_cell.proofs.cells.Cells.base.Goals as goal
 
 pub index-requires : goal.index-requires

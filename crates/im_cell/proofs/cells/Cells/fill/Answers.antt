@@ -1,11 +1,7 @@
-use Rattle.std.proofs.Common.{◌∙◌, ◌-◌, ap, subst, arith}
-use Rattle.std.proofs.lemmas.List.{with_items_is}
-use Rattle.im_types.specs.Place.{fill}
-use Rattle.im_cell.specs.declared.state.State.TheVariants.{Free}
-use Rattle.im_cell.specs.declared.state.TheConstants.{NOWHERE}
-use Rattle.im_cell.specs.Cells.{IsFilled}
-use Rattle.im_cell.specs.Units.{common_slot}
-use Rattle.im_cell.proofs.Kept.{long-slots, fill-slots}
+use Rattle.std.proofs.{Common.◌-◌, Common.ap, Common.◌∙◌, Common.subst, Common.arith, lemmas.List.with_items_is}
+use Rattle.im_types.specs.Types.{fill}
+use Rattle.im_cell.{proofs.Kept.fill-slots, proofs.Kept.long-slots, specs.Cells.IsFilled, specs.Units.common_slot}
+use Rattle.im_cell.specs.declared.state.{State.TheVariants.Free, TheConstants.NOWHERE}
 use Rattle.im_cell.proofs.cells.Cells.fill.Goals as goal
 
 pub fill_states-requires : goal.fill_states-requires

@@ -1,8 +1,6 @@
-use Rattle.std.proofs.Common.{◌∙◌, sym, arith}
-use Rattle.std.specs.Prelude.{is_none}
+use Rattle.std.proofs.Common.{is_none, sym, ◌∙◌, arith}
+use Rattle.im_cell.proofs.{Kept.long-slots, Kept.tested-read, Tables.none-is, Tables.none-some}
 use Rattle.im_cell.specs.Slots.{slot_at}
-use Rattle.im_cell.proofs.Kept.{long-slots, tested-read}
-use Rattle.im_cell.proofs.Tables.{none-is, none-some}
 use Rattle.im_cell.proofs.cells.Cells.is_free.Goals as goal
 
 pub returns-then-at-len-clause-held : goal.returns-then-at-len-clause-held

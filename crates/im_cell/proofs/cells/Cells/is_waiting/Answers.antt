@@ -1,6 +1,5 @@
 use Rattle.std.proofs.Common.{arith}
-use Rattle.im_cell.specs.Slots.{is_waiting_slot}
-use Rattle.im_cell.proofs.Kept.{long-slots, tested-read}
+use Rattle.im_cell.{proofs.Kept.long-slots, proofs.Kept.tested-read, specs.Slots.is_waiting_slot}
 use Rattle.im_cell.proofs.cells.Cells.is_waiting.Goals as goal
 
 pub index-requires : goal.index-requires

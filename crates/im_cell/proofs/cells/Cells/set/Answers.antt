@@ -1,7 +1,6 @@
-use Rattle.std.proofs.Common.{◌∙◌, ap, arith}
-use Rattle.im_cell.specs.Slots.{is_waiting_slot}
-use Rattle.im_cell.specs.Cells.{state_for}
-use Rattle.im_cell.proofs.Kept.{long-slots, some-inside, set-read, tested-read}
+use Rattle.std.proofs.Common.{ap, ◌∙◌, arith}
+use Rattle.im_cell.proofs.Kept.{long-slots, set-read, some-inside, tested-read}
+use Rattle.im_cell.specs.{Cells.state_for, Slots.is_waiting_slot}
 use Rattle.im_cell.proofs.cells.Cells.set.Goals as goal
 
 pub index-state-requires : goal.index-state-requires

@@ -1,6 +1,5 @@
-use Rattle.std.proofs.Common.{◌∙◌, ap, arith}
-use Rattle.im_cell.specs.Slots.{slot_at}
-use Rattle.im_cell.proofs.Kept.{long-slots, at-read}
+use Rattle.std.proofs.Common.{ap, ◌∙◌, arith}
+use Rattle.im_cell.{proofs.Kept.at-read, proofs.Kept.long-slots, specs.Slots.slot_at}
 use Rattle.im_cell.proofs.cells.Cells.slot.Goals as goal
 
 pub index-requires : goal.index-requires

@@ -1,6 +1,5 @@
-use Rattle.std.proofs.Common.{◌∙◌, get_or, ap, arith}
-use Rattle.im_types.specs.declared.TheConstants.{NONE}
-use Rattle.im_types.specs.declared.records.CellRecord.TheVariants.{Free as FreeCell}
+use Rattle.std.proofs.Common.{get_or, ap, ◌∙◌, arith}
+use Rattle.im_types.specs.Types.{NONE, FreeCell}
 use Rattle.im_cell.proofs.Rows.{long-rows, row-read}
 use Rattle.im_cell.proofs.row.CellRow.at.Goals as goal
 

@@ -1,6 +1,5 @@
 use Rattle.std.proofs.Common.{rules}
 use Rattle.im_cell.proofs.Rows.{rows-all}
-use Rattle.im_cell.proofs.row.CellRow.free.Goals as goal
 
-pub returns : goal.returns
+pub returns : Rattle.im_cell.proofs.row.CellRow.free.Goals.returns
 returns c = rows-all c.args.cells _ _ _ _ (search rules) (search rules) (search rules) (search rules)

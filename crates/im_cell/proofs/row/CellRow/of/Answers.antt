@@ -1,5 +1,4 @@
-use Rattle.std.proofs.Common.{◌∙◌, arith}
-use Rattle.std.proofs.lemmas.List.{take_all}
+use Rattle.std.proofs.Common.{◌∙◌, arith, take_all}
 use Rattle.im_cell.proofs.Blocks.{row-more}
 use Rattle.im_cell.proofs.row.CellRow.of.Goals as goal
 

@@ -1,5 +1,4 @@
 use Rattle.std.proofs.Common.{◌≡◌, take}
-use Rattle.im_cell.proofs.row.CellRow.of.Given as goal
 
-abbrev pub invariant-loop-cell : goal.invariant-loop-cell
+abbrev pub invariant-loop-cell : Rattle.im_cell.proofs.row.CellRow.of.Given.invariant-loop-cell
 invariant-loop-cell l = l.row ≡ take l.cell-index l.cells

@@ -1,9 +1,7 @@
-use Rattle.std.proofs.Common.{◌∙◌, ◌++◌, ◌∷◌, [], ap}
-use Rattle.im_cell.specs.Cells.{rows_in}
-use Rattle.im_cell.proofs.Rows.{rows-more}
-use Rattle.im_cell.proofs.row.CellRow.push.Goals as goal
+use Rattle.std.proofs.Common.{[], ◌∷◌, ◌++◌, ap, ◌∙◌}
+use Rattle.im_cell.{proofs.Rows.rows-more, specs.Cells.rows_in}
 
-pub returns : goal.returns
+pub returns : Rattle.im_cell.proofs.row.CellRow.push.Goals.returns
 returns c =
     rw (
       c.push_reserved.ensures.items,

@@ -1,10 +1,7 @@
-use Rattle.std.proofs.Common.{◌≡◌, ◌∙◌, ◌+◌, ◌-◌, ◌/◌, length, map, replicate, Some, ap, sym, subst, arith}
-use Rattle.im_cell.specs.declared.unit.TheConstants.{UNIT}
-use Rattle.im_cell.specs.declared.unit.Unit.TheVariants.{Each}
-use Rattle.im_cell.specs.Slots.{shown_slot, HoldsBlocks}
-use Rattle.im_cell.specs.Table.{IsTable}
-use Rattle.im_cell.proofs.Kept.{length-slots}
-use Rattle.im_cell.proofs.Rows.{long-rows, slots-shown}
+use Rattle.std.proofs.Common.{◌≡◌, ◌+◌, ◌-◌, ◌/◌, map, length, replicate, Some, sym, ap, ◌∙◌, subst, arith}
+use Rattle.im_cell.proofs.{Kept.length-slots, Rows.long-rows, Rows.slots-shown}
+use Rattle.im_cell.specs.declared.unit.{TheConstants.UNIT, Unit.TheVariants.Each}
+use Rattle.im_cell.specs.{Slots.HoldsBlocks, Slots.shown_slot, Table.IsTable}
 use Rattle.im_cell.proofs.table.CellTable.in_room.Goals as goal
 
 pub count_waiting-requires-clause-few : goal.count_waiting-requires-clause-few

@@ -1,11 +1,8 @@
-use Rattle.std.proofs.Common.{◌≡◌, ◌∙◌, take, drop, false, ap, sym, subst}
+use Rattle.std.proofs.Common.{◌≡◌, false, take, drop, sym, ap, ◌∙◌, subst}
 use Rattle.std.specs.List.{list_any}
-use Rattle.im_types.specs.Place.{fill, change_each}
-use Rattle.im_types.specs.declared.cells.Cell.TheVariants.{Empty}
-use Rattle.im_cell.specs.Slots.{with_cell, is_waiting_slot, length_of}
-use Rattle.im_cell.specs.Table.{IsTable}
-use Rattle.im_cell.proofs.Blocks.{IsBlock-at, emptied-fill}
-use Rattle.im_cell.proofs.Changed.{IsTable-emptied}
+use Rattle.im_types.specs.Types.{CellEmpty as Empty, fill, change_each}
+use Rattle.im_cell.proofs.{Blocks.emptied-fill, Blocks.IsBlock-at, Changed.IsTable-emptied}
+use Rattle.im_cell.specs.{Slots.is_waiting_slot, Slots.length_of, Slots.with_cell, Table.IsTable}
 use Rattle.im_cell.proofs.table.CellTable.reset.Goals as goal
 
 pub invariant_of-self : goal.invariant_of-self

@@ -1,11 +1,6 @@
-use Rattle.std.proofs.Common.{◌∙◌, ◌/◌, ap, sym, subst, length, arith}
-use Rattle.std.specs.Prelude.{IsSome}
-use Rattle.im_cell.specs.declared.unit.TheConstants.{UNIT}
-use Rattle.im_cell.specs.Slots.{slot_at}
-use Rattle.im_cell.specs.Table.{base_in}
-use Rattle.im_cell.specs.Units.{unit_at, slot_by}
-use Rattle.im_cell.proofs.Kept.{some-inside}
-use Rattle.im_cell.proofs.Seen.{length-shown, at-own, at-shown}
+use Rattle.std.proofs.Common.{◌/◌, length, IsSome, sym, ap, ◌∙◌, subst, arith}
+use Rattle.im_cell.proofs.{Kept.some-inside, Seen.at-own, Seen.at-shown, Seen.length-shown}
+use Rattle.im_cell.specs.{declared.unit.TheConstants.UNIT, Slots.slot_at, Table.base_in, Units.slot_by, Units.unit_at}
 use Rattle.im_cell.proofs.units.CellUnits.base.Goals as goal
 
 pub unit_of-requires : goal.unit_of-requires

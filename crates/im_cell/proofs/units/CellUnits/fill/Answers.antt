@@ -1,6 +1,5 @@
-use Rattle.std.proofs.Common.{length, ap, arith}
-use Rattle.std.proofs.lemmas.List.{with_items_is}
-use Rattle.im_cell.proofs.Seen.{length-shown, filled-long}
+use Rattle.std.proofs.{Common.length, Common.ap, Common.arith, lemmas.List.with_items_is}
+use Rattle.im_cell.proofs.Seen.{filled-long, length-shown}
 use Rattle.im_cell.proofs.units.CellUnits.fill.Goals as goal
 
 pub fill_shown-requires-clause-inside : goal.fill_shown-requires-clause-inside

@@ -1,9 +1,7 @@
-use Rattle.std.proofs.Common.{◌∙◌, ◌+◌, ◌-◌, ◌/◌, length, ap, arith}
+use Rattle.std.proofs.Common.{◌+◌, ◌-◌, ◌/◌, length, ap, ◌∙◌, arith}
 use Rattle.std.proofs.lemmas.List.{length-replicate}
-use Rattle.im_cell.specs.declared.unit.TheConstants.{UNIT}
-use Rattle.im_cell.specs.declared.unit.Unit.TheVariants.{Each}
-use Rattle.im_cell.specs.Units.{unit_at}
-use Rattle.im_cell.proofs.Seen.{shown-plain, all-each}
+use Rattle.im_cell.proofs.Seen.{all-each, shown-plain}
+use Rattle.im_cell.specs.{declared.unit.TheConstants.UNIT, declared.unit.Unit.TheVariants.Each, Units.unit_at}
 use Rattle.im_cell.proofs.units.CellUnits.over.Goals as goal
 
 pub invariant_of-result : goal.invariant_of-result

@@ -1,11 +1,8 @@
-use Rattle.std.proofs.Common.{◌∙◌, ◌/◌, set, ap, sym, subst, arith, length}
-use Rattle.std.specs.Prelude.{IsSome}
+use Rattle.std.proofs.Common.{◌/◌, length, set, IsSome, sym, ap, ◌∙◌, subst, arith}
 use Rattle.std.proofs.lemmas.List.{with_items_is}
-use Rattle.im_cell.specs.declared.unit.TheConstants.{UNIT}
-use Rattle.im_cell.specs.Slots.{slot_at, with_cell, is_waiting_slot}
-use Rattle.im_cell.specs.Units.{shown_units}
-use Rattle.im_cell.proofs.Kept.{some-inside}
-use Rattle.im_cell.proofs.Seen.{length-shown, at-own, own-read, shown-set, set-long}
+use Rattle.im_cell.{proofs.Kept.some-inside, specs.Slots.is_waiting_slot, specs.Slots.slot_at, specs.Slots.with_cell}
+use Rattle.im_cell.proofs.Seen.{at-own, length-shown, own-read, set-long, shown-set}
+use Rattle.im_cell.specs.{declared.unit.TheConstants.UNIT, Units.shown_units}
 use Rattle.im_cell.proofs.units.CellUnits.set.Goals as goal
 
 pub unit_of-requires : goal.unit_of-requires

@@ -1,8 +1,7 @@
-use Rattle.std.proofs.Common.{◌∙◌, ◌/◌, ap, sym, arith}
-use Rattle.im_cell.specs.declared.unit.TheConstants.{UNIT}
-use Rattle.im_cell.specs.Slots.{slot_at}
-use Rattle.im_cell.specs.Units.{unit_at, is_own, common_slot}
-use Rattle.im_cell.proofs.Seen.{past-shown, at-own, at-common, own-read}
+use Rattle.std.proofs.Common.{◌/◌, sym, ap, ◌∙◌, arith}
+use Rattle.im_cell.proofs.Seen.{at-common, at-own, own-read, past-shown}
+use Rattle.im_cell.specs.{declared.unit.TheConstants.UNIT, Slots.slot_at}
+use Rattle.im_cell.specs.Units.{common_slot, is_own, unit_at}
 use Rattle.im_cell.proofs.units.CellUnits.slot.Goals as goal
 
 pub returns-then-at-len : goal.returns-then-at-len

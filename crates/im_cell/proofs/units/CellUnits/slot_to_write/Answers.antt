@@ -1,7 +1,5 @@
-use Rattle.std.proofs.Common.{◌∙◌, ap, sym, arith}
-use Rattle.std.proofs.lemmas.List.{with_items_is}
-use Rattle.im_cell.specs.Slots.{slot_at}
-use Rattle.im_cell.proofs.Seen.{past-shown, same-long}
+use Rattle.std.proofs.{Common.sym, Common.ap, Common.◌∙◌, Common.arith, lemmas.List.with_items_is}
+use Rattle.im_cell.{proofs.Seen.past-shown, proofs.Seen.same-long, specs.Slots.slot_at}
 use Rattle.im_cell.proofs.units.CellUnits.slot_to_write.Goals as goal
 
 pub returns-then-at-len-clause-slot : goal.returns-then-at-len-clause-slot

@@ -1,14 +1,10 @@
-use Rattle.std.proofs.Common.{◌≡◌, ◌≤◌, ◌+◌, ℕ, List, [], Bool, length, sym, ◌∙◌, ap, subst, arith}
-use Rattle.std.specs.List.{Contains}
-use Rattle.im_memory.specs.Covering.{most_pages, IsOfBlock, IsAlone}
-use Rattle.im_pages.specs.PageSets.{size_of, IsWithin, pages_from}
-use Rattle.im_checkpoint.specs.Copied.{copy_of}
-use Rattle.im_checkpoint.specs.Step.{PagedCheckpoint, left_in}
-use Rattle.im_checkpoint.proofs.Adding.{own_of}
-use Rattle.im_checkpoint.proofs.Copying.{left_none}
-use Rattle.im_checkpoint.proofs.checkpoint.Checkpoint.before.Goals as goal
+use Rattle.std.proofs.Common.{◌≡◌, ℕ, ◌+◌, ◌≤◌, Bool, List, [], length, Contains, sym, ap, ◌∙◌, subst, arith}
+use Rattle.im_pages.specs.PageSets.{IsWithin, pages_from, size_of}
+use Rattle.im_memory.specs.Covering.{IsAlone, IsOfBlock, most_pages}
+use Rattle.im_checkpoint.proofs.{Adding.own_of, Copying.left_none}
+use Rattle.im_checkpoint.specs.{Copied.copy_of, Step.left_in, Step.PagedCheckpoint}
 
-pub returns-in_default : goal.returns-in_default
+pub returns-in_default : Rattle.im_checkpoint.proofs.checkpoint.Checkpoint.before.Goals.returns-in_default
 returns-in_default c =
     let e = c.self.inside in
     let m = c.args.memory.now in

@@ -1,21 +1,14 @@
-use Rattle.std.proofs.Common.{◌≡◌, ⊎_elim, ◌+◌, ◌<◌, ◌≤◌, ℕ, List, Bool, false, length, replicate, refl, sym, ◌∙◌, ap}
-use Rattle.std.proofs.Common.{subst, arith}
+use Rattle.std.proofs.Common.{◌≡◌, ℕ, ◌+◌, ◌<◌, ◌≤◌, Bool, false, List, length, replicate, sym, refl, ap, ◌∙◌, subst}
+use Rattle.std.proofs.Common.{⊎_elim, arith}
 use Rattle.std.proofs.lemmas.List.{length-replicate}
-use Rattle.im_types.specs.declared.TheConstants.{LAST}
-use Rattle.im_types.specs.Layout.{Sizes, layout_in_use, area_pages}
-use Rattle.im_types.specs.Header.{Header}
-use Rattle.im_types.specs.Pages.{Records, ShowsRecords}
-use Rattle.im_pages.specs.PageSets.{union, pages_from}
-use Rattle.im_pages.proofs.SetLemmas.{length-union, few-from}
-use Rattle.im_image.specs.Headers.{seen}
-use Rattle.im_image.specs.Encoding.{AreCounted}
-use Rattle.im_image.proofs.Encoding.{counted}
-use Rattle.im_checkpoint.specs.declared.checkpoint.Phase.{Phase}
-use Rattle.im_checkpoint.specs.Step.{Step, PagedCheckpoint, pages_step, step_by_phase, turns_left, left_in, HasNext}
-use Rattle.im_checkpoint.specs.Keeping.{Paged, paged, IsKept}
-use Rattle.im_checkpoint.proofs.PageLists.{union_none, left_with, kept_none}
-use Rattle.im_checkpoint.proofs.Fitting.{turns_with}
-use Rattle.im_checkpoint.proofs.Turning.{begun_kept}
+use Rattle.im_types.specs.Types.{LAST, layout_in_use, Sizes, area_pages, Header, Records, ShowsRecords}
+use Rattle.im_pages.proofs.SetLemmas.{few-from, length-union}
+use Rattle.im_pages.specs.PageSets.{pages_from, union}
+use Rattle.im_image.{proofs.Encoding.counted, specs.Encoding.AreCounted, specs.Headers.seen}
+use Rattle.im_checkpoint.proofs.{Fitting.turns_with, Turning.begun_kept}
+use Rattle.im_checkpoint.proofs.PageLists.{kept_none, left_with, union_none}
+use Rattle.im_checkpoint.specs.{declared.checkpoint.Phase.Phase, Keeping.IsKept, Keeping.Paged, Keeping.paged}
+use Rattle.im_checkpoint.specs.Step.{HasNext, left_in, PagedCheckpoint, pages_step, Step, step_by_phase, turns_left}
 use Rattle.im_checkpoint.proofs.checkpoint.Checkpoint.begin.Goals as goal
 
 pub union_with-requires-2 : goal.union_with-requires-2

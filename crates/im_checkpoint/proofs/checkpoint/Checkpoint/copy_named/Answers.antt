@@ -1,20 +1,15 @@
-use Rattle.std.proofs.Common.{◌≡◌, ◌+◌, ◌<◌, ◌≤◌, ℕ, List, Bool, true, false, length, replicate, sym, ◌∙◌, ap, subst}
-use Rattle.std.proofs.Common.{arith}
-use Rattle.std.specs.List.{Contains}
+use Rattle.std.proofs.Common.{◌≡◌, ℕ, ◌+◌, ◌<◌, ◌≤◌, Bool, true, false, List, length, replicate, Contains, sym, ap, ◌∙◌}
+use Rattle.std.proofs.Common.{subst, arith}
 use Rattle.std.proofs.lemmas.List.{length-replicate}
-use Rattle.im_types.specs.Layout.{layout_in_use, area_pages}
-use Rattle.im_types.specs.Header.{Header}
-use Rattle.im_memory.specs.Covering.{most_pages, IsOfBlock, IsAlone}
-use Rattle.im_pages.specs.PageSets.{has, size_of, union, pages_from}
+use Rattle.im_types.specs.Types.{layout_in_use, area_pages, Header}
 use Rattle.im_pages.proofs.SetLemmas.{length-union, listed}
-use Rattle.im_image.specs.Headers.{seen}
-use Rattle.im_image.specs.Encoding.{IsAreaPage}
-use Rattle.im_checkpoint.specs.Copied.{copy_of}
-use Rattle.im_checkpoint.specs.Step.{PagedCheckpoint, Changed, changed_in, left_in}
-use Rattle.im_checkpoint.specs.Turns.{AddsPages}
-use Rattle.im_checkpoint.proofs.Adding.{adds_named}
-use Rattle.im_checkpoint.proofs.Copying.{out_of_union, new_in_union}
-use Rattle.im_checkpoint.proofs.PageLists.{header_is, step_left}
+use Rattle.im_pages.specs.PageSets.{has, pages_from, size_of, union}
+use Rattle.im_memory.specs.Covering.{IsAlone, IsOfBlock, most_pages}
+use Rattle.im_image.specs.{Encoding.IsAreaPage, Headers.seen}
+use Rattle.im_checkpoint.proofs.{Adding.adds_named, PageLists.header_is, PageLists.step_left}
+use Rattle.im_checkpoint.proofs.Copying.{new_in_union, out_of_union}
+use Rattle.im_checkpoint.specs.{Copied.copy_of, Turns.AddsPages}
+use Rattle.im_checkpoint.specs.Step.{Changed, changed_in, left_in, PagedCheckpoint}
 use Rattle.im_checkpoint.proofs.checkpoint.Checkpoint.copy_named.Goals as goal
 
 pub invariant_of-self : goal.invariant_of-self

@@ -1,13 +1,8 @@
-use Rattle.std.proofs.Common.{List, ℕ, ◌-◌, subst, sym}
-use Rattle.im_journal.specs.Holding.{JournalState, Holds}
-use Rattle.im_types.specs.Header.{Header}
-use Rattle.im_types.specs.Journal.{IsBoundary}
-use Rattle.im_pages.specs.PageSets.{pages_from}
-use Rattle.im_image.specs.Headers.{seen}
-use Rattle.im_checkpoint.specs.Step.{NoCheckpoint}
-use Rattle.im_checkpoint.specs.Turns.{begun_at}
-use Rattle.im_checkpoint.specs.Keeping.{Paged, IsKept}
+use Rattle.std.proofs.Common.{ℕ, ◌-◌, List, sym, subst}
+use Rattle.{im_types.specs.Types.Header, im_types.specs.Types.IsBoundary, im_pages.specs.PageSets.pages_from}
+use Rattle.{im_journal.specs.Holding.Holds, im_journal.specs.Holding.JournalState, im_image.specs.Headers.seen}
 use Rattle.im_checkpoint.proofs.PageLists.{kept_synced}
+use Rattle.im_checkpoint.specs.{Keeping.IsKept, Keeping.Paged, Step.NoCheckpoint, Turns.begun_at}
 use Rattle.im_checkpoint.proofs.checkpoint.Checkpoint.put_in_force.Goals as goal
 
 pub returns-in-Err-clause-keeps : goal.returns-in-Err-clause-keeps

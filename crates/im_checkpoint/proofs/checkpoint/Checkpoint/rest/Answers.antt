@@ -1,7 +1,6 @@
 use Rattle.im_disk.proofs.SinceLemmas.{leaves_start}
+use Rattle.im_checkpoint.proofs.{Moments.means_left, Sweeping.all_hold}
 use Rattle.im_checkpoint.specs.Keeping.{MeansWith, paged}
-use Rattle.im_checkpoint.proofs.Moments.{means_left}
-use Rattle.im_checkpoint.proofs.Sweeping.{all_hold}
 use Rattle.im_checkpoint.proofs.checkpoint.Checkpoint.rest.Goals as goal
 
 pub sweep-requires-clause-holds : goal.sweep-requires-clause-holds

@@ -1,9 +1,8 @@
-use Rattle.std.proofs.Common.{◌≡◌, ◌∙◌, sym, ap, refl, subst, arith}
-use Rattle.im_checkpoint.specs.declared.checkpoint.Phase.{Phase}
+use Rattle.std.proofs.Common.{◌≡◌, sym, refl, ap, ◌∙◌, subst, arith}
 use Rattle.im_pages.specs.PageSets.{pages_from}
-use Rattle.im_checkpoint.specs.Step.{Step, PagedCheckpoint, NoCheckpoint, step_by_phase}
-use Rattle.im_checkpoint.specs.Turns.{swept_at_once, calls_to_sweep, MakesSweep}
-use Rattle.im_checkpoint.proofs.Sweeping.{none_more, none_under_way, kept_still}
+use Rattle.im_checkpoint.proofs.Sweeping.{kept_still, none_more, none_under_way}
+use Rattle.im_checkpoint.specs.{declared.checkpoint.Phase.Phase, Step.NoCheckpoint, Step.PagedCheckpoint, Step.Step}
+use Rattle.im_checkpoint.specs.{Step.step_by_phase, Turns.calls_to_sweep, Turns.MakesSweep, Turns.swept_at_once}
 use Rattle.im_checkpoint.proofs.checkpoint.Checkpoint.sweep.Goals as goal
 
 pub returns-in-NoCheckpoint-clause-keeps : goal.returns-in-NoCheckpoint-clause-keeps

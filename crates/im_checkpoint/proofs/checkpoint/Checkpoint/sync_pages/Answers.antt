@@ -1,5 +1,4 @@
-use Rattle.im_pages.specs.PageSets.{pages_from}
-use Rattle.im_image.specs.Headers.{seen}
+use Rattle.{im_pages.specs.PageSets.pages_from, im_image.specs.Headers.seen}
 use Rattle.im_checkpoint.proofs.PageLists.{kept_done}
 use Rattle.im_checkpoint.proofs.checkpoint.Checkpoint.sync_pages.Goals as goal
 

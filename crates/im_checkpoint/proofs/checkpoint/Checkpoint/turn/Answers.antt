@@ -1,15 +1,10 @@
-use Rattle.std.proofs.Common.{rules, ◌*◌, ◌+◌, sym, ◌∙◌, ap, subst}
-use Rattle.im_disk.specs.Gate.{IsClosed}
-use Rattle.im_types.specs.Header.{Header}
-use Rattle.im_meaning.specs.Images.{other}
-use Rattle.im_pages.specs.PageSets.{pages_from}
-use Rattle.im_image.specs.Headers.{seen}
-use Rattle.im_checkpoint.specs.declared.checkpoint.Phase.{Phase}
-use Rattle.im_checkpoint.specs.Step.{PagedCheckpoint, PagesLeft, step_by_phase, IsPagesLeft, IsPagesDone, IsSynced}
-use Rattle.im_pages.proofs.SetLemmas.{step_in}
-use Rattle.im_checkpoint.proofs.PageLists.{mark_left, step_left, step_done, step_synced, header_is, kept_synced}
-use Rattle.im_checkpoint.proofs.Turning.{other_closed}
-use Rattle.im_checkpoint.proofs.Fitting.{once_more, comes_rest, comes_page, comes_synced, comes_in_force}
+use Rattle.std.proofs.Common.{◌+◌, ◌*◌, sym, ap, ◌∙◌, subst, rules}
+use Rattle.{im_types.specs.Types.Header, im_pages.proofs.SetLemmas.step_in, im_pages.specs.PageSets.pages_from}
+use Rattle.{im_disk.specs.Gate.IsClosed, im_meaning.specs.Images.other, im_image.specs.Headers.seen}
+use Rattle.im_checkpoint.proofs.Fitting.{comes_in_force, comes_page, comes_rest, comes_synced, once_more}
+use Rattle.im_checkpoint.proofs.PageLists.{header_is, kept_synced, mark_left, step_done, step_left, step_synced}
+use Rattle.im_checkpoint.{proofs.Turning.other_closed, specs.declared.checkpoint.Phase.Phase}
+use Rattle.im_checkpoint.specs.Step.{IsPagesDone, IsPagesLeft, IsSynced, PagedCheckpoint, PagesLeft, step_by_phase}
 use Rattle.im_checkpoint.proofs.checkpoint.Checkpoint.turn.Goals as goal
 
 pub returns-in-NoCheckpoint-clause-turned : goal.returns-in-NoCheckpoint-clause-turned

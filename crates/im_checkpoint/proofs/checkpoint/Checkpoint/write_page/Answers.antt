@@ -1,12 +1,8 @@
-use Rattle.std.proofs.Common.{◌+◌, ◌*◌, ◌∷◌, ℕ, List, ap, subst, sym, refl}
-use Rattle.im_pages.specs.PageSets.{pages_from}
-use Rattle.im_image.specs.Headers.{seen}
-use Rattle.im_checkpoint.specs.Step.{Step, PagesLeft, CheckpointState}
-use Rattle.im_checkpoint.specs.Keeping.{Paged, IsKept}
-use Rattle.im_checkpoint.proofs.Copies.{IsPageFor}
-use Rattle.im_pages.proofs.SetLemmas.{step_in}
-use Rattle.im_checkpoint.proofs.PageLists.{mark_left, kept_left}
-use Rattle.im_checkpoint.proofs.Moments.{page_now, page_leaves, page_done}
+use Rattle.std.proofs.Common.{ℕ, ◌+◌, ◌*◌, List, ◌∷◌, sym, refl, ap, subst}
+use Rattle.{im_pages.proofs.SetLemmas.step_in, im_pages.specs.PageSets.pages_from, im_image.specs.Headers.seen}
+use Rattle.im_checkpoint.proofs.{Copies.IsPageFor, PageLists.kept_left, PageLists.mark_left}
+use Rattle.im_checkpoint.proofs.Moments.{page_done, page_leaves, page_now}
+use Rattle.im_checkpoint.specs.{Keeping.IsKept, Keeping.Paged, Step.CheckpointState, Step.PagesLeft, Step.Step}
 use Rattle.im_checkpoint.proofs.checkpoint.Checkpoint.write_page.Goals as goal
 
 pub returns-in-Err-clause-keeps : goal.returns-in-Err-clause-keeps

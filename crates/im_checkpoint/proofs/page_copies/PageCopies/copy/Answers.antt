@@ -1,8 +1,8 @@
 use Rattle.std.proofs.Common.{◌≡◌, ◌<◌, length, sym, ap, ◌∙◌, arith}
 use Rattle.std.proofs.lemmas.List.{get_or_default, length-map}
-use Rattle.im_checkpoint.specs.declared.page_copies.CopyPlace.TheVariants.{Nowhere, At}
-use Rattle.im_checkpoint.specs.Copied.{blank_page, copy_at, copy_place}
 use Rattle.im_checkpoint.proofs.Copied.{copy-is}
+use Rattle.im_checkpoint.specs.Copied.{blank_page, copy_at, copy_place}
+use Rattle.im_checkpoint.specs.declared.page_copies.CopyPlace.TheVariants.{At, Nowhere}
 use Rattle.im_checkpoint.proofs.page_copies.PageCopies.copy.Goals as goal
 
 pub index-requires-in-At : goal.index-requires-in-At

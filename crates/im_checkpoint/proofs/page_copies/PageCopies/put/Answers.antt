@@ -1,9 +1,9 @@
-use Rattle.std.proofs.Common.{[], ◌∷◌, ◌++◌, vec_capacity, ◌≡◌, ◌<◌, ℕ, List, length, set, map, sym, ap, subst, ◌∙◌}
+use Rattle.std.proofs.Common.{◌≡◌, ℕ, ◌<◌, List, [], ◌∷◌, ◌++◌, map, length, set, vec_capacity, sym, ap, ◌∙◌, subst}
 use Rattle.std.proofs.Common.{arith}
 use Rattle.std.proofs.lemmas.List.{get_or_default, length-map}
-use Rattle.im_checkpoint.specs.declared.page_copies.CopyPlace.TheVariants.{Nowhere, At}
-use Rattle.im_checkpoint.specs.Copied.{copy_at, copy_place, AreCopies}
-use Rattle.im_checkpoint.proofs.Copied.{over-view, behind-kept, behind-view, has-room}
+use Rattle.im_checkpoint.proofs.Copied.{behind-kept, behind-view, has-room, over-view}
+use Rattle.im_checkpoint.specs.Copied.{AreCopies, copy_at, copy_place}
+use Rattle.im_checkpoint.specs.declared.page_copies.CopyPlace.TheVariants.{At, Nowhere}
 use Rattle.im_checkpoint.proofs.page_copies.PageCopies.put.Goals as goal
 
 pub index_mut-requires : goal.index_mut-requires

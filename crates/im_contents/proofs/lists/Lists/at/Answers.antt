@@ -1,6 +1,6 @@
 use Rattle.std.proofs.Common.{◌≡◌, ◌-◌, List, length, take, drop, sym, ap, ◌∙◌, arith}
-use Rattle.im_types.specs.declared.operations.Waiter.{Waiter}
-use Rattle.im_contents.proofs.RowLemmas.{spread-behind, stands_at, Stands}
+use Rattle.im_types.specs.Types.{Waiter}
+use Rattle.im_contents.proofs.RowLemmas.{spread-behind, Stands, stands_at}
 use Rattle.im_contents.proofs.lists.Lists.at.Goals as goal
 
 pub returns-then-cell-len : goal.returns-then-cell-len

@@ -1,11 +1,8 @@
-use Rattle.std.proofs.Common.{◌≡◌, ℕ, List, length, sym, ap, ◌∙◌, arith}
-use Rattle.std.specs.Prelude.{◌==◌}
-use Rattle.std.specs.List.{sum_by}
-use Rattle.im_types.specs.declared.operations.Waiter.{Waiter}
+use Rattle.std.proofs.Common.{◌≡◌, ℕ, List, length, ◌==◌, sum_by, sym, ap, ◌∙◌, arith}
+use Rattle.im_types.specs.Types.{Waiter}
 use Rattle.im_contents.proofs.RowLemmas.{sum-spread}
-use Rattle.im_contents.proofs.lists.Lists.has_nobody.Goals as goal
 
-pub returns : goal.returns
+pub returns : Rattle.im_contents.proofs.lists.Lists.has_nobody.Goals.returns
 returns c =
     let i = c.self.inside in
     let all : sum_by length (c.args.self.now) ≡ i.waiters.len =

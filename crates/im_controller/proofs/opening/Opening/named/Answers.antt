@@ -1,14 +1,9 @@
-use Rattle.std.proofs.Common.{◌≡◌, ◌∙◌, List, Option, ap, rules, subst, sym}
-use Rattle.im_types.specs.declared.commands.Line.{Line}
-use Rattle.im_types.specs.declared.commands.Request.{Request}
-use Rattle.im_types.specs.Contents.{Contents}
-use Rattle.im_engine.specs.State.{EngineState}
-use Rattle.im_trace.specs.Books.{BookNames}
-use Rattle.im_trace.specs.Chains.{IsOpened}
-use Rattle.im_controller.specs.Planned.{StartsBy, KeepsTo}
-use Rattle.im_controller.specs.State.{OpeningState}
-use Rattle.im_controller.proofs.PlannedLemmas.{keeps-start}
+use Rattle.std.proofs.Common.{◌≡◌, List, Option, sym, ap, ◌∙◌, subst, rules}
+use Rattle.{im_types.specs.Types.Request, im_types.specs.Types.Line, im_types.specs.Types.Contents}
+use Rattle.{im_engine.specs.State.EngineState, im_trace.specs.Books.BookNames, im_trace.specs.Chains.IsOpened}
 use Rattle.im_controller.proofs.KeptLemmas.{origin-by, session_first, times_first}
+use Rattle.im_controller.proofs.PlannedLemmas.{keeps-start}
+use Rattle.im_controller.specs.{Planned.KeepsTo, Planned.StartsBy, State.OpeningState}
 use Rattle.im_controller.proofs.opening.Opening.named.Goals as goal
 
 pub named-log-requires : goal.named-log-requires

@@ -1,11 +1,8 @@
-use Rattle.std.proofs.Common.{true, false}
-use Rattle.std.specs.Prelude.{None}
-use Rattle.std.specs.Option.{option_map}
-use Rattle.im_dialogue.specs.Asking.{asked_of}
-use Rattle.im_dialogue.specs.Hearing.{asking, asked_after, left_behind, questions_in, questions_left}
-use Rattle.im_dialogue.specs.Talk.{outputs, with_left}
+use Rattle.std.proofs.Common.{true, false, None, option_map}
 use Rattle.im_dialogue.proofs.HearingLemmas.{asked_line, asked_nothing, left_one, left_zero, same_left}
 use Rattle.im_dialogue.proofs.TalkLemmas.{ends_after, from_left, left_as, talk_ends_here, to_left}
+use Rattle.im_dialogue.specs.{Asking.asked_of, Talk.outputs, Talk.with_left}
+use Rattle.im_dialogue.specs.Hearing.{asked_after, asking, left_behind, questions_in, questions_left}
 use Rattle.im_dialogue.proofs.serving.Dialogue.serve_alone.Goals as goal
 
 pub returns-in-Err-clause-talks : goal.returns-in-Err-clause-talks

@@ -1,14 +1,10 @@
-use Rattle.std.proofs.Common.{rules, ◌≡◌, ◌∙◌, true, List, ap, subst, sym}
-use Rattle.std.specs.Prelude.{None, Some}
+use Rattle.std.proofs.Common.{◌≡◌, true, List, Some, None, sym, ap, ◌∙◌, subst, rules}
 use Rattle.im_session.specs.Kept.{SessionState}
-use Rattle.im_dialogue.specs.Backups.{Backup}
-use Rattle.im_dialogue.specs.declared.asking.Question.{Question}
-use Rattle.im_dialogue.specs.Hearing.{asking, is_quit, left_behind}
-use Rattle.im_dialogue.specs.Talk.{TalkEnds, outputs, with_left}
-use Rattle.im_dialogue.specs.Watching.{told_by, told_with}
-use Rattle.im_dialogue.proofs.HearingLemmas.{hears_line, hears_quit}
+use Rattle.im_dialogue.proofs.{HearingLemmas.hears_line, HearingLemmas.hears_quit, WatchLemmas.line_is}
 use Rattle.im_dialogue.proofs.TalkLemmas.{halts_talk, not_quit, quit_talk, talk_ends, talk_ends_here, talks_on}
-use Rattle.im_dialogue.proofs.WatchLemmas.{line_is}
+use Rattle.im_dialogue.specs.{Backups.Backup, declared.asking.Question.Question, Watching.told_by, Watching.told_with}
+use Rattle.im_dialogue.specs.Hearing.{asking, is_quit, left_behind}
+use Rattle.im_dialogue.specs.Talk.{outputs, TalkEnds, with_left}
 use Rattle.im_dialogue.proofs.serving.Dialogue.serve_asked.Goals as goal
 
 pub returns-in-Err-clause-talks : goal.returns-in-Err-clause-talks

@@ -1,8 +1,7 @@
-use Rattle.std.specs.Prelude.{None}
-use Rattle.im_dialogue.specs.Hearing.{as_asked}
-use Rattle.im_dialogue.specs.Talk.{outputs, with_left}
+use Rattle.std.proofs.Common.{None}
 use Rattle.im_dialogue.proofs.HearingLemmas.{asks_same, front_few, hears_front}
 use Rattle.im_dialogue.proofs.TalkLemmas.{talk_ends_here}
+use Rattle.im_dialogue.specs.{Hearing.as_asked, Talk.outputs, Talk.with_left}
 use Rattle.im_dialogue.proofs.serving.Dialogue.serve_group.Goals as goal
 
 pub returns-in-Ok-clause-few : goal.returns-in-Ok-clause-few

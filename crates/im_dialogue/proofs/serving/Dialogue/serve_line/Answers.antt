@@ -1,10 +1,7 @@
-use Rattle.std.proofs.Common.{◌≡◌, rules, subst, sym}
-use Rattle.std.specs.Prelude.{None, Option, Some}
-use Rattle.im_dialogue.specs.declared.asking.Question.{Question}
-use Rattle.im_dialogue.specs.Asking.{asked_of}
-use Rattle.im_dialogue.specs.Hearing.{asking}
-use Rattle.im_dialogue.specs.Talk.{TalksLine, outputs, with_left}
+use Rattle.std.proofs.Common.{◌≡◌, Some, None, Option, sym, subst, rules}
 use Rattle.im_dialogue.proofs.TalkLemmas.{talk_ends_here}
+use Rattle.im_dialogue.specs.{Asking.asked_of, declared.asking.Question.Question, Hearing.asking}
+use Rattle.im_dialogue.specs.Talk.{outputs, TalksLine, with_left}
 use Rattle.im_dialogue.proofs.serving.Dialogue.serve_line.Goals as goal
 
 pub returns-in-Err-clause-talks : goal.returns-in-Err-clause-talks

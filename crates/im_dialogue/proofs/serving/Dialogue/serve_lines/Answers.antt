@@ -1,10 +1,8 @@
-use Rattle.std.proofs.Common.{◌∙◌, subst, ap, refl}
-use Rattle.std.specs.Prelude.{None}
-use Rattle.im_dialogue.specs.declared.serving.Setting.{Setting}
-use Rattle.im_dialogue.specs.Hearing.{asked_after, questions_left}
-use Rattle.im_dialogue.specs.Talk.{TalkEnds, TalksOn, outputs, with_input, with_left}
+use Rattle.std.proofs.Common.{None, refl, ap, ◌∙◌, subst}
 use Rattle.im_dialogue.proofs.HearingLemmas.{left_some, same_left}
 use Rattle.im_dialogue.proofs.TalkLemmas.{end_here, ends_after, goes_talk, nothing_said, on_after, to_left}
+use Rattle.im_dialogue.specs.{declared.serving.Setting.Setting, Hearing.asked_after, Hearing.questions_left}
+use Rattle.im_dialogue.specs.Talk.{outputs, TalkEnds, TalksOn, with_input, with_left}
 use Rattle.im_dialogue.proofs.serving.Dialogue.serve_lines.Goals as goal
 
 pub loop-served-init : goal.loop-served-init

@@ -1,8 +1,7 @@
 use Rattle.std.proofs.Common.{◌≡◌}
-use Rattle.im_dialogue.specs.Talk.{TalksOn, outputs, with_input}
-use Rattle.im_dialogue.proofs.serving.Dialogue.serve_lines.Given as goal
+use Rattle.im_dialogue.specs.Talk.{outputs, TalksOn, with_input}
 
-abbrev pub invariant-loop-served : goal.invariant-loop-served
+abbrev pub invariant-loop-served : Rattle.im_dialogue.proofs.serving.Dialogue.serve_lines.Given.invariant-loop-served
 invariant-loop-served g l = TalksOn l.fn.self.setting.watch l.fn.self.session
     (with_input (g.R.Read.remaining l.fn.input)
     (outputs (g.W.Write.contents l.fn.out) (g.B.Backups.kept l.fn.backups))) l.self.session

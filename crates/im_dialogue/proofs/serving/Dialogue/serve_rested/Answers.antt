@@ -1,11 +1,9 @@
-use Rattle.std.proofs.Common.{subst, sym}
-use Rattle.std.specs.Prelude.{None, MatchResult}
-use Rattle.im_dialogue.specs.declared.serving.Setting.{Setting}
-use Rattle.im_dialogue.specs.Hearing.{asked_after, questions_left}
-use Rattle.im_dialogue.specs.Talk.{TalkEnds, TalksOn, outputs, with_left}
+use Rattle.std.proofs.Common.{None, MatchResult, sym, subst}
 use Rattle.im_dialogue.proofs.HearingLemmas.{left_some, on_default, same_left}
 use Rattle.im_dialogue.proofs.TalkLemmas.{ends_after, goes_quiet, halts_talk, on_after, rests_halts, taken_said}
 use Rattle.im_dialogue.proofs.TalkLemmas.{then_talks, to_left}
+use Rattle.im_dialogue.specs.{declared.serving.Setting.Setting, Hearing.asked_after, Hearing.questions_left}
+use Rattle.im_dialogue.specs.Talk.{outputs, TalkEnds, TalksOn, with_left}
 use Rattle.im_dialogue.proofs.serving.Dialogue.serve_rested.Goals as goal
 
 pub returns-in-Err-clause-talks : goal.returns-in-Err-clause-talks

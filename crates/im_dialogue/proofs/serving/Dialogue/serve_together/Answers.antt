@@ -1,11 +1,9 @@
-use Rattle.std.proofs.Common.{◌≡◌, ◌≤◌, ◌∙◌, ap, arith, length, List, ℕ}
-use Rattle.std.specs.Prelude.{None}
-use Rattle.im_dialogue.specs.declared.buffer.InBuffer.{InBuffer}
-use Rattle.im_dialogue.specs.Hearing.{end_at, left_at, questions_left}
-use Rattle.im_dialogue.specs.Talk.{outputs, with_left}
+use Rattle.std.proofs.Common.{◌≡◌, ℕ, ◌≤◌, List, length, None, ap, ◌∙◌, arith}
 use Rattle.im_dialogue.proofs.HearingLemmas.{kept_left, on_default, queue_hears, queue_left}
 use Rattle.im_dialogue.proofs.TalkLemmas.{ends_after, goes_talk, halts_talk, left_as, on_after, rests_halts, taken_room}
 use Rattle.im_dialogue.proofs.TalkLemmas.{taken_said, talk_ends_here, to_left}
+use Rattle.im_dialogue.specs.{declared.buffer.InBuffer.InBuffer, Talk.outputs, Talk.with_left}
+use Rattle.im_dialogue.specs.Hearing.{end_at, left_at, questions_left}
 use Rattle.im_dialogue.proofs.serving.Dialogue.serve_together.Goals as goal
 
 pub returns-in-Err-clause-talks : goal.returns-in-Err-clause-talks

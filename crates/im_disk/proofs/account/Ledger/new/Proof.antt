@@ -21,9 +21,8 @@ use denote.Triple.Entry.{on_entry}
 use denote.Triple.Spec.{Meets, triple_of}
 use denote.Triple.Table.{entered}
 use denote.Triple.Walked.{says, ends_at, walked, walk_Meets}
-use Rattle.im_disk.specs.declared.account.Ledger.{Ledger}
+use Rattle.im_disk.specs.{contracts.account.Ledger.new.Key.name as #it, declared.account.Ledger.Ledger}
 use Rattle.im_disk.specs.contracts.account.Ledger as T
-use Rattle.im_disk.specs.contracts.account.Ledger.new.Key.{name as #it}
 use Rattle.im_disk.specs.contracts.account.Ledger.new as it
 use Rattle.im_disk.proofs.account.Ledger.new.Statement as stated
 use Rattle.im_disk.proofs.account.Ledger.new.Code as code

@@ -1,5 +1,7 @@
 -- An empty body. The borrow is opened and closed at another ghost value.
-use Rattle.std.proofs.Common.{ℕ, List, [], ◌∷◌, refl, MutBor}
+use Rattle.std.proofs.Common.{ℕ, ◌^◌, ◌<◌, List, [], ◌∷◌, length, refl, MutBor}
+use Rattle.im_disk.specs.Account.{accounted_call}
+use Rattle.im_disk.specs.{contracts.account.Ledger.note.Key.name as #it, declared.account.Ledger.Ledger}
 use seplogic.Ra.Ura.{Ura}
 use mir.Syntax.{named}
 use mir.Val.{Val, vunit, vptr}
@@ -26,10 +28,7 @@ use denote.Triple.Entry.{on_entry}
 use denote.Triple.Spec.{Meets, triple_of}
 use denote.Triple.Table.{entered}
 use denote.Triple.Walked.{says, Stays, stay_ref, walk_of, AllGo, Goes-ref, Walks, ends_at, walked, walk_Meets}
-use Rattle.im_disk.specs.declared.account.Ledger.{Ledger}
-use Rattle.im_disk.specs.Account.{accounted_call}
 use Rattle.im_disk.specs.contracts.account.Ledger as T
-use Rattle.im_disk.specs.contracts.account.Ledger.note.Key.{name as #it}
 use Rattle.im_disk.specs.contracts.account.Ledger.note as it
 use Rattle.im_disk.proofs.account.Ledger.note.Statement as stated
 use Rattle.im_disk.proofs.account.Ledger.note.Code as code
@@ -38,7 +37,6 @@ use denote.Builtin.{u8, u64}
 use denote.Exit.{yes}
 use denote.Slice.{ShrSlice, slice_val, shr_slice_vals, shr_slice_Tells}
 use denote.Triple.Walked.{stay_none_slice, Goes-none_slice}
-use Rattle.std.proofs.Common.{◌<◌, ◌^◌, length}
 
 abbrev Arg : Type 0
 Arg = MutBor Ledger × (Bor (List ℕ) × (Bor (List ℕ) × Unit {0}))

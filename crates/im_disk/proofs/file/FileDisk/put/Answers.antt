@@ -1,11 +1,8 @@
-use Rattle.std.proofs.Common.{inr, subst, sym, ap, length}
-use Rattle.std.specs.Prelude.{List, IsTrue}
-use Rattle.im_disk.specs.Moment.{Torn}
-use Rattle.im_disk.specs.Account.{AccountedCall, replay, first_outcome}
+use Rattle.std.proofs.Common.{List, length, IsTrue, sym, ap, subst, inr}
 use Rattle.im_disk.proofs.AccountLemmas.{torn_by_outcome}
-use Rattle.im_disk.proofs.file.FileDisk.put.Goals as goal
+use Rattle.im_disk.specs.{Account.AccountedCall, Account.first_outcome, Account.replay, Moment.Torn}
 
-pub returns-in-Err-clause-moment : goal.returns-in-Err-clause-moment
+pub returns-in-Err-clause-moment : Rattle.im_disk.proofs.file.FileDisk.put.Goals.returns-in-Err-clause-moment
 returns-in-Err-clause-moment g c = λ honest.
     let after = replay g.S.Start.path g.S.Start.first g.S.Start.outcomes in
     let before = after c.args.self.now.ledger.events in

@@ -1,11 +1,8 @@
-use Rattle.std.proofs.Common.{inr, subst, sym, ap}
-use Rattle.std.specs.Prelude.{List}
-use Rattle.im_disk.specs.Moment.{Shaken}
-use Rattle.im_disk.specs.Account.{AccountedCall, replay, first_outcome}
+use Rattle.std.proofs.Common.{List, sym, ap, subst, inr}
 use Rattle.im_disk.proofs.AccountLemmas.{shaken_by_outcome}
-use Rattle.im_disk.proofs.file.FileDiskDisk.sync.Goals as goal
+use Rattle.im_disk.specs.{Account.AccountedCall, Account.first_outcome, Account.replay, Moment.Shaken}
 
-pub returns-in-Err-clause-moment : goal.returns-in-Err-clause-moment
+pub returns-in-Err-clause-moment : Rattle.im_disk.proofs.file.FileDiskDisk.sync.Goals.returns-in-Err-clause-moment
 returns-in-Err-clause-moment g c = λ honest.
     let at = replay g.S.Start.path g.S.Start.first g.S.Start.outcomes in
     let before = at c.args.self.now.ledger.events in

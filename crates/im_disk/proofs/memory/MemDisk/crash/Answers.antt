@@ -1,8 +1,7 @@
-use Rattle.std.proofs.Common.{◌≡◌, ◌∙◌, sym, ap, subst, reverse, rules}
-use Rattle.im_disk.specs.Moment.{Left}
-use Rattle.im_disk.specs.Recording.{Recording, LeftBy, crashed}
-use Rattle.im_disk.specs.Record.{shown, moment_of, left_by}
-use Rattle.im_disk.proofs.RecordLemmas.{left_by_left, left_by_kind, sound_crashed, shown_crashed}
+use Rattle.std.proofs.Common.{◌≡◌, reverse, sym, ap, ◌∙◌, subst, rules}
+use Rattle.im_disk.proofs.RecordLemmas.{left_by_kind, left_by_left, shown_crashed, sound_crashed}
+use Rattle.im_disk.specs.{Moment.Left, Record.left_by, Record.moment_of, Record.shown}
+use Rattle.im_disk.specs.Recording.{crashed, LeftBy, Recording}
 use Rattle.im_disk.proofs.memory.MemDisk.crash.Goals as goal
 
 pub invariant_of-self : goal.invariant_of-self

@@ -1,8 +1,6 @@
-use Rattle.std.proofs.Common.{◌≡◌, ◌+◌, ◌≤◌, ap, subst, inl, length, rules, arith}
-use Rattle.im_disk.specs.Recording.{Recording, failed, ticked, scarred}
-use Rattle.im_disk.specs.Record.{shown}
-use Rattle.im_disk.proofs.RecordLemmas.{fails_scarred, fails_unscarred}
-use Rattle.im_disk.proofs.RecordingLemmas.{may_tick_torn}
+use Rattle.std.proofs.Common.{◌≡◌, ◌+◌, ◌≤◌, length, ap, subst, inl, arith, rules}
+use Rattle.im_disk.proofs.{RecordingLemmas.may_tick_torn, RecordLemmas.fails_scarred, RecordLemmas.fails_unscarred}
+use Rattle.im_disk.specs.{Record.shown, Recording.failed, Recording.Recording, Recording.scarred, Recording.ticked}
 use Rattle.im_disk.proofs.memory.MemDisk.fail_write.Goals as goal
 
 pub returns-in-Some-clause-record : goal.returns-in-Some-clause-record

@@ -1,10 +1,8 @@
-use Rattle.std.proofs.Common.{◌≡◌, ◌∙◌, ap, subst}
-use Rattle.im_disk.specs.Recording.{Recording, ticked}
-use Rattle.im_disk.specs.Record.{shown}
+use Rattle.std.proofs.Common.{◌≡◌, ap, ◌∙◌, subst}
 use Rattle.im_disk.proofs.RecordLemmas.{shown_read}
-use Rattle.im_disk.proofs.memory.MemDiskDisk.read.Goals as goal
+use Rattle.im_disk.specs.{Record.shown, Recording.Recording, Recording.ticked}
 
-pub returns-clause-answer : goal.returns-clause-answer
+pub returns-clause-answer : Rattle.im_disk.proofs.memory.MemDiskDisk.read.Goals.returns-clause-answer
 returns-clause-answer c =
     let b = c.self.inside.bytes.items in
     let more = c.note.new.calls.items in

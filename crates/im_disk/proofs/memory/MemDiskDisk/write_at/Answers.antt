@@ -1,11 +1,8 @@
-use Rattle.std.proofs.Common.{◌≡◌, ◌+◌, ◌≤◌, ◌∙◌, ap, subst, refl, length, rules, arith}
-use Rattle.im_disk.specs.Moment.{written}
-use Rattle.im_disk.specs.Recording.{Recording, ticked}
-use Rattle.im_disk.specs.Record.{shown}
+use Rattle.std.proofs.Common.{◌≡◌, ◌+◌, ◌≤◌, length, refl, ap, ◌∙◌, subst, arith, rules}
 use Rattle.im_disk.proofs.RecordLemmas.{shown_written}
-use Rattle.im_disk.proofs.memory.MemDiskDisk.write_at.Goals as goal
+use Rattle.im_disk.specs.{Moment.written, Record.shown, Recording.Recording, Recording.ticked}
 
-pub returns-clause-answer : goal.returns-clause-answer
+pub returns-clause-answer : Rattle.im_disk.proofs.memory.MemDiskDisk.write_at.Goals.returns-clause-answer
 returns-clause-answer c =
     let b = c.self.inside.bytes.items in
     let more = c.note.new.calls.items in

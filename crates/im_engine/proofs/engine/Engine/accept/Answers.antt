@@ -1,13 +1,11 @@
-use Rattle.std.proofs.Common.{◌≡◌, true, false, [], ◌∷◌, inl, sym, ◌∙◌, ap, subst}
-use Rattle.im_disk.specs.Since.{LeavesNow, LeavesOnly, CallsBy}
+use Rattle.std.proofs.Common.{◌≡◌, true, false, [], ◌∷◌, sym, ap, ◌∙◌, subst, inl}
+use Rattle.{im_types.specs.Types.step, im_types.specs.Types.is_accepted, im_journal.specs.Holding.MayAppend}
 use Rattle.im_disk.proofs.SinceLemmas.{leaves_start, only_weaker}
-use Rattle.im_types.specs.Step.{step, is_accepted}
-use Rattle.im_journal.specs.Holding.{MayAppend}
-use Rattle.im_engine.specs.State.{EngineState, MeansState, MeansEither, with_command}
-use Rattle.im_checkpoint.specs.Keeping.{paged, Fits}
-use Rattle.im_checkpoint.specs.Step.{CheckpointState}
-use Rattle.im_engine.proofs.Keeping.{accept_one, all_mean, all_hold, may_append_means, kept_prepared}
-use Rattle.im_engine.proofs.Serving.{fits_longer, kept_with_it, calls_after}
+use Rattle.im_disk.specs.Since.{CallsBy, LeavesNow, LeavesOnly}
+use Rattle.im_checkpoint.specs.{Keeping.Fits, Keeping.paged, Step.CheckpointState}
+use Rattle.im_engine.proofs.Keeping.{accept_one, all_hold, all_mean, kept_prepared, may_append_means}
+use Rattle.im_engine.proofs.Serving.{calls_after, fits_longer, kept_with_it}
+use Rattle.im_engine.specs.State.{EngineState, MeansEither, MeansState, with_command}
 use Rattle.im_engine.proofs.engine.Engine.accept.Goals as goal
 
 pub returns-then-room-eq0-clause-leaves : goal.returns-then-room-eq0-clause-leaves

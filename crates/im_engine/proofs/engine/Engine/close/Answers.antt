@@ -1,10 +1,8 @@
-use Rattle.std.proofs.Common.{◌∙◌, ap, subst}
-use Rattle.im_engine.specs.State.{EngineState, MeansState}
+use Rattle.std.proofs.Common.{ap, ◌∙◌, subst}
 use Rattle.im_checkpoint.specs.Keeping.{paged}
-use Rattle.im_engine.proofs.Keeping.{all_mean}
-use Rattle.im_engine.proofs.engine.Engine.close.Goals as goal
+use Rattle.im_engine.{proofs.Keeping.all_mean, specs.State.EngineState, specs.State.MeansState}
 
-pub returns-clause-means : goal.returns-clause-means
+pub returns-clause-means : Rattle.im_engine.proofs.engine.Engine.close.Goals.returns-clause-means
 returns-clause-means g c = λ h f file left.
     let e = c.self.inside in
     subst (λ (s : EngineState g.row.D.Denot). MeansState s file) c.self.view_is

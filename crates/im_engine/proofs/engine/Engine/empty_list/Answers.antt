@@ -1,9 +1,7 @@
 use Rattle.std.proofs.Common.{sym, subst}
-use Rattle.im_disk.specs.Moment.{Moment}
-use Rattle.im_checkpoint.specs.Keeping.{IsKept, paged}
-use Rattle.im_engine.proofs.engine.Engine.empty_list.Goals as goal
+use Rattle.{im_disk.specs.Moment.Moment, im_checkpoint.specs.Keeping.IsKept, im_checkpoint.specs.Keeping.paged}
 
-pub invariant_of-self : goal.invariant_of-self
+pub invariant_of-self : Rattle.im_engine.proofs.engine.Engine.empty_list.Goals.invariant_of-self
 invariant_of-self g c =
     let e = c.self.inside in (
       c.self.invariant.0,

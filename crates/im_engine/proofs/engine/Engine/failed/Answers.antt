@@ -1,11 +1,8 @@
 use Rattle.std.proofs.Common.{◌≡◌, false, subst}
-use Rattle.im_disk.specs.Since.{LeavesNow}
-use Rattle.im_engine.specs.State.{EngineState, MeansState}
-use Rattle.im_checkpoint.specs.Keeping.{paged}
-use Rattle.im_engine.proofs.Keeping.{all_mean}
-use Rattle.im_engine.proofs.engine.Engine.failed.Goals as goal
+use Rattle.{im_disk.specs.Since.LeavesNow, im_checkpoint.specs.Keeping.paged}
+use Rattle.im_engine.{proofs.Keeping.all_mean, specs.State.EngineState, specs.State.MeansState}
 
-pub returns-clause-means : goal.returns-clause-means
+pub returns-clause-means : Rattle.im_engine.proofs.engine.Engine.failed.Goals.returns-clause-means
 returns-clause-means g c =
     let e = c.self.inside in
     subst (λ (s : EngineState g.row.D.Denot). g.D.Disk.honest s.disk → s.failed ≡ false

@@ -1,12 +1,9 @@
-use Rattle.std.proofs.Common.{◌≡◌, true, ◌∙◌, sym, ap, subst}
-use Rattle.im_types.specs.Layout.{sizes_of}
-use Rattle.im_disk.specs.Since.{LeavesNow}
-use Rattle.im_disk.proofs.SinceLemmas.{left_settled}
-use Rattle.im_journal.specs.Holding.{JournalState}
-use Rattle.im_checkpoint.specs.Step.{CheckpointState}
-use Rattle.im_image.specs.Fresh.{new_header, new_image}
-use Rattle.im_engine.specs.State.{EngineState, IsNewImage}
+use Rattle.std.proofs.Common.{◌≡◌, true, sym, ap, ◌∙◌, subst}
+use Rattle.{im_types.specs.Types.sizes_of, im_journal.specs.Holding.JournalState, im_image.specs.Fresh.new_header}
+use Rattle.{im_image.specs.Fresh.new_image, im_checkpoint.specs.Step.CheckpointState}
+use Rattle.im_disk.{proofs.SinceLemmas.left_settled, specs.Since.LeavesNow}
 use Rattle.im_engine.proofs.Making.{first_pages, fresh_fits, fresh_kept}
+use Rattle.im_engine.specs.State.{EngineState, IsNewImage}
 use Rattle.im_engine.proofs.engine.Engine.format.Goals as goal
 
 pub started-requires-clause-fits : goal.started-requires-clause-fits

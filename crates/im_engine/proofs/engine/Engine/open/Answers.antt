@@ -1,13 +1,9 @@
 use Rattle.std.proofs.Common.{◌≡◌, false, Ok, sym, ap, subst}
-use Rattle.im_types.specs.Layout.{layout_in_use}
-use Rattle.im_types.specs.Header.{header_of}
-use Rattle.im_types.specs.Meaning.{Reads}
-use Rattle.im_disk.specs.Since.{LeavesNow}
-use Rattle.im_checkpoint.specs.Step.{NoCheckpoint, CheckpointState}
-use Rattle.im_checkpoint.specs.Keeping.{paged, IsKept}
-use Rattle.im_image.specs.Headers.{seen}
-use Rattle.im_engine.specs.State.{EngineState, IsFound, pages_at_first}
+use Rattle.im_types.specs.Types.{layout_in_use, header_of, Reads}
+use Rattle.{im_disk.specs.Since.LeavesNow, im_image.specs.Headers.seen}
+use Rattle.im_checkpoint.specs.{Keeping.IsKept, Keeping.paged, Step.CheckpointState, Step.NoCheckpoint}
 use Rattle.im_engine.proofs.Making.{first_pages}
+use Rattle.im_engine.specs.State.{EngineState, IsFound, pages_at_first}
 use Rattle.im_engine.proofs.engine.Engine.open.Goals as goal
 
 pub returns-in-Ok-idle-clause-found : goal.returns-in-Ok-idle-clause-found

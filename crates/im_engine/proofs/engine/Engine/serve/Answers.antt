@@ -1,13 +1,10 @@
-use Rattle.std.proofs.Common.{◌≡◌, true, false, Ok, inl, sym, ◌∙◌, ap, subst}
-use Rattle.im_disk.specs.Since.{LeavesNow, CallsBy}
-use Rattle.im_memory.specs.State.{MemoryState}
-use Rattle.im_types.specs.Step.{step, is_accepted}
-use Rattle.im_checkpoint.specs.Step.{changed_in}
-use Rattle.im_checkpoint.specs.Keeping.{paged, Fits, IsKept}
-use Rattle.im_engine.specs.State.{EngineState, MeansState, MeansEither, with_command}
-use Rattle.im_engine.specs.Answered.{calls_for}
-use Rattle.im_engine.proofs.Keeping.{all_mean}
+use Rattle.std.proofs.Common.{◌≡◌, true, false, Ok, sym, ap, ◌∙◌, subst, inl}
+use Rattle.{im_types.specs.Types.step, im_types.specs.Types.is_accepted, im_memory.specs.State.MemoryState}
+use Rattle.im_disk.specs.Since.{CallsBy, LeavesNow}
+use Rattle.im_checkpoint.specs.{Keeping.Fits, Keeping.IsKept, Keeping.paged, Step.changed_in}
+use Rattle.im_engine.{proofs.Keeping.all_mean, specs.Answered.calls_for}
 use Rattle.im_engine.proofs.Serving.{accepts, answered_unaccepted, calls_accepted, calls_none}
+use Rattle.im_engine.specs.State.{EngineState, MeansEither, MeansState, with_command}
 use Rattle.im_engine.proofs.engine.Engine.serve.Goals as goal
 
 pub invariant_of-self : goal.invariant_of-self

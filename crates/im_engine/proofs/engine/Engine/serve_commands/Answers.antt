@@ -1,10 +1,8 @@
 use Rattle.std.proofs.Common.{◌≤◌, List, take, subst, arith, length-take-le}
-use Rattle.im_types.specs.declared.commands.Command.{Command}
-use Rattle.im_groups.specs.Ahead.{AreAccepted, ServesPrefix}
-use Rattle.im_groups.specs.Commands.{places}
-use Rattle.im_engine.specs.State.{EngineState}
-use Rattle.im_engine.specs.Commands.{AreWhole, CommandsAnswered, ServesCommands}
-use Rattle.im_engine.proofs.Members.{whole_served, whole_begins}
+use Rattle.im_types.specs.Types.{Command}
+use Rattle.im_groups.specs.{Ahead.AreAccepted, Ahead.ServesPrefix, Commands.places}
+use Rattle.im_engine.proofs.Members.{whole_begins, whole_served}
+use Rattle.im_engine.specs.{Commands.AreWhole, Commands.CommandsAnswered, Commands.ServesCommands, State.EngineState}
 use Rattle.im_engine.proofs.engine.Engine.serve_commands.Goals as goal
 
 pub serve_whole-requires-clause-whole : goal.serve_whole-requires-clause-whole

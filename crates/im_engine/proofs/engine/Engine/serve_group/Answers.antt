@@ -1,12 +1,9 @@
-use Rattle.std.proofs.Common.{List, length, map, ◌∙◌, ap, subst}
-use Rattle.im_types.specs.declared.commands.Command.{Command}
-use Rattle.im_types.specs.declared.commands.Command.TheVariants.{Request as Asks}
-use Rattle.im_disk.proofs.SinceLemmas.{leaves_weaker}
-use Rattle.im_engine.specs.State.{EngineState, MeansEither}
-use Rattle.im_engine.specs.Groups.{GroupCalls, calls_for_group, after_group}
-use Rattle.im_engine.specs.Commands.{CommandsAnswered, ServesCommands, after_commands}
-use Rattle.im_engine.proofs.Requests.{all_served, put_is, means_requests, requests_answered}
-use Rattle.im_engine.proofs.Together.{counted_by}
+use Rattle.std.proofs.Common.{List, map, length, ap, ◌∙◌, subst}
+use Rattle.{im_types.specs.Types.Command, im_types.specs.Types.Asks, im_disk.proofs.SinceLemmas.leaves_weaker}
+use Rattle.im_engine.proofs.Requests.{all_served, means_requests, put_is, requests_answered}
+use Rattle.im_engine.{proofs.Together.counted_by, specs.State.EngineState, specs.State.MeansEither}
+use Rattle.im_engine.specs.Commands.{after_commands, CommandsAnswered, ServesCommands}
+use Rattle.im_engine.specs.Groups.{after_group, calls_for_group, GroupCalls}
 use Rattle.im_engine.proofs.engine.Engine.serve_group.Goals as goal
 
 pub returns-clause-answered : goal.returns-clause-answered

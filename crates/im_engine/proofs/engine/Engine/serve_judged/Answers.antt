@@ -1,19 +1,14 @@
-use Rattle.std.proofs.Common.{◌≡◌, ℕ, true, false, List, length, map, Result, Ok, Err, rules, sym, ◌∙◌, ap, subst}
-use Rattle.im_types.specs.declared.groups.Served.{Served}
-use Rattle.im_types.specs.declared.refusals.Refusal.TheVariants.{Device}
-use Rattle.im_types.specs.Contents.{Contents}
-use Rattle.im_types.specs.Groups.{as_served}
+use Rattle.std.proofs.Common.{◌≡◌, ℕ, true, false, List, map, length, Ok, Err, Result, sym, ap, ◌∙◌, subst, rules}
+use Rattle.im_types.specs.Types.{Served, Device, Contents, as_served}
 use Rattle.im_disk.proofs.SinceLemmas.{only_weaker}
-use Rattle.im_checkpoint.specs.Step.{changed_in}
-use Rattle.im_checkpoint.specs.Turns.{AddsAtMost}
-use Rattle.im_checkpoint.specs.Keeping.{paged, IsKept}
-use Rattle.im_groups.specs.Commands.{places, answers_with, contents_after_all, most_pages_with}
-use Rattle.im_engine.specs.State.{EngineState, engine_of, MeansEither}
-use Rattle.im_engine.specs.Commands.{AreWhole, AreParted, commands_put, CommandsAnswered, ServesCommands, after_commands}
-use Rattle.im_engine.proofs.Keeping.{all_mean, all_hold}
-use Rattle.im_engine.proofs.Members.{length_refused, length_answers}
-use Rattle.im_engine.proofs.Together.{room_for, last_for, accepts, means_group, group_done, group_failed}
-use Rattle.im_engine.proofs.Together.{calls_done, calls_failed, fits_group}
+use Rattle.im_groups.specs.Commands.{answers_with, contents_after_all, most_pages_with, places}
+use Rattle.im_checkpoint.specs.{Keeping.IsKept, Keeping.paged, Step.changed_in, Turns.AddsAtMost}
+use Rattle.im_engine.proofs.{Keeping.all_hold, Keeping.all_mean, Members.length_answers, Members.length_refused}
+use Rattle.im_engine.proofs.Together.{accepts, calls_done, calls_failed, fits_group, group_done, group_failed, last_for}
+use Rattle.im_engine.proofs.Together.{means_group, room_for}
+use Rattle.im_engine.specs.Commands.{after_commands, AreParted, AreWhole, commands_put, CommandsAnswered}
+use Rattle.im_engine.specs.Commands.{ServesCommands}
+use Rattle.im_engine.specs.State.{engine_of, EngineState, MeansEither}
 use Rattle.im_engine.proofs.engine.Engine.serve_judged.Goals as goal
 
 pub put_on-requires-clause-fits : goal.put_on-requires-clause-fits

@@ -1,6 +1,5 @@
 use Rattle.std.proofs.Common.{sym}
-use Rattle.im_groups.proofs.WholeLemmas.{whole-commands}
-use Rattle.im_groups.specs.Commands.{places}
+use Rattle.im_groups.{proofs.WholeLemmas.whole-commands, specs.Commands.places}
 use Rattle.im_engine.proofs.engine.Engine.serve_whole.Goals as goal
 
 pub serve_judged-requires-clause-members : goal.serve_judged-requires-clause-members

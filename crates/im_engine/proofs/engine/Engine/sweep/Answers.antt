@@ -1,11 +1,8 @@
-use Rattle.std.proofs.Common.{Result, ℕ, OnOk, subst, sym}
-use Rattle.im_types.specs.declared.refusals.Refusal.{Refusal}
+use Rattle.std.proofs.Common.{ℕ, OnOk, Result, sym, subst}
+use Rattle.{im_types.specs.Types.Refusal, im_journal.specs.Holding.JournalState}
 use Rattle.im_disk.specs.Since.{Leaves, LeavesNow}
-use Rattle.im_journal.specs.Holding.{JournalState}
-use Rattle.im_checkpoint.specs.Keeping.{paged, Fits, IsKept}
-use Rattle.im_checkpoint.proofs.Fitting.{room_fits}
-use Rattle.im_engine.specs.State.{EngineState, MeansState}
-use Rattle.im_engine.proofs.Keeping.{all_hold, all_mean}
+use Rattle.im_checkpoint.{proofs.Fitting.room_fits, specs.Keeping.Fits, specs.Keeping.IsKept, specs.Keeping.paged}
+use Rattle.im_engine.{proofs.Keeping.all_hold, proofs.Keeping.all_mean, specs.State.EngineState, specs.State.MeansState}
 use Rattle.im_engine.proofs.engine.Engine.sweep.Goals as goal
 
 pub sweep-requires : goal.sweep-requires

@@ -1,10 +1,7 @@
-use Rattle.std.proofs.Common.{Result, OnOk, subst}
-use Rattle.im_types.specs.declared.refusals.Refusal.{Refusal}
-use Rattle.im_disk.specs.Since.{Leaves, LeavesNow}
-use Rattle.im_checkpoint.specs.declared.checkpoint.TurnDone.{TurnDone}
-use Rattle.im_checkpoint.specs.Keeping.{paged, IsKept}
-use Rattle.im_engine.specs.State.{EngineState, MeansState}
-use Rattle.im_engine.proofs.Keeping.{all_mean}
+use Rattle.std.proofs.Common.{OnOk, Result, subst}
+use Rattle.{im_types.specs.Types.Refusal, im_disk.specs.Since.Leaves, im_disk.specs.Since.LeavesNow}
+use Rattle.im_checkpoint.specs.{declared.TurnDone.TurnDone, Keeping.IsKept, Keeping.paged}
+use Rattle.im_engine.{proofs.Keeping.all_mean, specs.State.EngineState, specs.State.MeansState}
 use Rattle.im_engine.proofs.engine.Engine.turn.Goals as goal
 
 pub turn-requires-clause-kept : goal.turn-requires-clause-kept

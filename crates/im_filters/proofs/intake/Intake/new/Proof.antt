@@ -21,9 +21,8 @@ use denote.Triple.Entry.{on_entry}
 use denote.Triple.Spec.{Meets, triple_of}
 use denote.Triple.Table.{entered}
 use denote.Triple.Walked.{says, ends_at, walked, walk_Meets}
-use Rattle.im_filters.specs.declared.intake.Intake.{Intake}
+use Rattle.im_filters.specs.{contracts.intake.Intake.new.Key.name as #it, declared.intake.Intake.Intake}
 use Rattle.im_filters.specs.contracts.intake.Intake as T
-use Rattle.im_filters.specs.contracts.intake.Intake.new.Key.{name as #it}
 use Rattle.im_filters.specs.contracts.intake.Intake.new as it
 use Rattle.im_filters.proofs.intake.Intake.new.Statement as stated
 use Rattle.im_filters.proofs.intake.Intake.new.Code as code

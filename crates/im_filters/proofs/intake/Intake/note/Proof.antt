@@ -1,5 +1,6 @@
 -- An empty body. The borrow is opened and closed at another ghost value.
-use Rattle.std.proofs.Common.{ℕ, List, [], ◌∷◌, ◌++◌, refl, MutBor}
+use Rattle.std.proofs.Common.{ℕ, ◌^◌, ◌<◌, List, [], ◌∷◌, ◌++◌, length, refl, MutBor}
+use Rattle.im_filters.specs.{contracts.intake.Intake.note.Key.name as #it, declared.intake.Intake.Intake}
 use seplogic.Ra.Ura.{Ura}
 use mir.Syntax.{named}
 use mir.Val.{Val, vunit, vptr}
@@ -26,9 +27,7 @@ use denote.Triple.Entry.{on_entry}
 use denote.Triple.Spec.{Meets, triple_of}
 use denote.Triple.Table.{entered}
 use denote.Triple.Walked.{says, Stays, stay_ref, walk_of, AllGo, Goes-ref, Walks, ends_at, walked, walk_Meets}
-use Rattle.im_filters.specs.declared.intake.Intake.{Intake}
 use Rattle.im_filters.specs.contracts.intake.Intake as T
-use Rattle.im_filters.specs.contracts.intake.Intake.note.Key.{name as #it}
 use Rattle.im_filters.specs.contracts.intake.Intake.note as it
 use Rattle.im_filters.proofs.intake.Intake.note.Statement as stated
 use Rattle.im_filters.proofs.intake.Intake.note.Code as code
@@ -37,7 +36,6 @@ use denote.Builtin.{u8}
 use denote.Exit.{yes}
 use denote.Slice.{ShrSlice, slice_val, shr_slice_vals, shr_slice_Tells}
 use denote.Triple.Walked.{stay_none_slice, Goes-none_slice}
-use Rattle.std.proofs.Common.{◌<◌, ◌^◌, length}
 
 abbrev Arg : Type 0
 Arg = MutBor Intake × (Bor (List ℕ) × Unit {0})

@@ -1,8 +1,7 @@
-use Rattle.std.proofs.Common.{sym, ◌∙◌, ap}
+use Rattle.std.proofs.Common.{sym, ap, ◌∙◌}
 use Rattle.im_glass.proofs.BookLemmas.{adds_moves}
-use Rattle.im_glass.proofs.book.Beginning.add.Goals as goal
 
-pub compare_exchange-found-requires : goal.compare_exchange-found-requires
+pub compare_exchange-found-requires : Rattle.im_glass.proofs.book.Beginning.add.Goals.compare_exchange-found-requires
 compare_exchange-found-requires g c =
     let h = c.book.invariant in
     let offer = c.plain-offer.ensures in

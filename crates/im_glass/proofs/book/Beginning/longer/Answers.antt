@@ -1,7 +1,7 @@
-use Rattle.std.proofs.Common.{◌≤◌, ap, subst, arith, length, List}
-use mathlib.Core.List.{IsPrefix}
-use Rattle.im_types.specs.declared.changes.Change.{Change}
+use Rattle.std.proofs.Common.{◌≤◌, List, length, ap, subst, arith}
+use Rattle.im_types.specs.Types.{Change}
 use Rattle.im_glass.proofs.PrefixLemmas.{prefix_shorter}
+use mathlib.Core.List.{IsPrefix}
 use Rattle.im_glass.proofs.book.Beginning.longer.Goals as goal
 
 pub returns-then-self-other-clause-this : goal.returns-then-self-other-clause-this

@@ -1,5 +1,5 @@
-use Rattle.std.proofs.Common.{◌∙◌, ◌<◌, ap, sym, subst, set, length, ℕ, List, Option, None, arith}
-use Rattle.im_glass.proofs.CellLemmas.{cells_length, cells_emptied}
+use Rattle.std.proofs.Common.{ℕ, ◌<◌, List, length, set, None, Option, sym, ap, ◌∙◌, subst, arith}
+use Rattle.im_glass.proofs.CellLemmas.{cells_emptied, cells_length}
 use Rattle.im_glass.proofs.cells.FullCells.empty.Goals as goal
 
 pub index_mut-requires : goal.index_mut-requires

@@ -1,6 +1,6 @@
-use Rattle.std.proofs.Common.{◌≡◌, ◌∙◌, ◌+◌, ap, suc, set, length, ℕ, List, Option, None, arith}
-use Rattle.im_types.specs.Place.{fill}
-use Rattle.im_glass.proofs.CellLemmas.{fill-none, fill-more, length-filled}
+use Rattle.std.proofs.Common.{◌≡◌, ℕ, suc, ◌+◌, List, length, set, None, Option, ap, ◌∙◌, arith}
+use Rattle.im_types.specs.Types.{fill}
+use Rattle.im_glass.proofs.CellLemmas.{fill-more, fill-none, length-filled}
 use Rattle.im_glass.proofs.cells.FullCells.empty_all.Goals as goal
 
 pub loop-i-init : goal.loop-i-init

@@ -1,5 +1,5 @@
-use Rattle.std.proofs.Common.{◌∙◌, ◌<◌, ap, sym, subst, set, length, ℕ, List, Option, Some, arith}
-use Rattle.im_glass.proofs.CellLemmas.{cells_length, cells_filled}
+use Rattle.std.proofs.Common.{ℕ, ◌<◌, List, length, set, Some, Option, sym, ap, ◌∙◌, subst, arith}
+use Rattle.im_glass.proofs.CellLemmas.{cells_filled, cells_length}
 use Rattle.im_glass.proofs.cells.FullCells.fill.Goals as goal
 
 pub index_mut-requires : goal.index_mut-requires

@@ -1,7 +1,6 @@
-use Rattle.std.proofs.Common.{rules, ◌≡◌, ◌∙◌, ◌<◌, ◌≤◌, ap, sym, length, get_or, ℕ, List, Option, Bool, true, false}
-use Rattle.std.proofs.Common.{Some, None, arith}
-use Rattle.im_glass.specs.Cells.{cell_seen}
-use Rattle.im_glass.proofs.CellLemmas.{cells_get, cells_past}
+use Rattle.std.proofs.Common.{◌≡◌, ℕ, ◌<◌, ◌≤◌, Bool, true, false, List, length, get_or, Some, None, Option, sym, ap}
+use Rattle.std.proofs.Common.{◌∙◌, arith, rules}
+use Rattle.im_glass.{proofs.CellLemmas.cells_get, proofs.CellLemmas.cells_past, specs.Cells.cell_seen}
 use Rattle.im_glass.proofs.cells.FullCells.get.Goals as goal
 
 pub returns-then-a-len : goal.returns-then-a-len

@@ -1,9 +1,7 @@
-use Rattle.std.proofs.Common.{rules, ◌≡◌, ◌∙◌, ap, replicate, false, ℕ, List, Bool}
-use Rattle.im_glass.specs.Cells.{cells_seen}
-use Rattle.im_glass.proofs.CellLemmas.{cells_new}
-use Rattle.im_glass.proofs.cells.FullCells.new.Goals as goal
+use Rattle.std.proofs.Common.{◌≡◌, ℕ, Bool, false, List, replicate, ap, ◌∙◌, rules}
+use Rattle.im_glass.{proofs.CellLemmas.cells_new, specs.Cells.cells_seen}
 
-pub returns : goal.returns
+pub returns : Rattle.im_glass.proofs.cells.FullCells.new.Goals.returns
 returns c =
     let fulls : c.in_ok-full.full.items ≡ replicate c.args.cells false = search rules in
     let values : c.in_ok-values.values.items ≡ replicate c.args.cells 0 = search rules in

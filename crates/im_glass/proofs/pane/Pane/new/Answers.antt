@@ -1,14 +1,10 @@
-use Rattle.std.proofs.Common.{◌≡◌, ◌∙◌, [], ap, sym, subst, arith, length, List, true}
-use Rattle.std.specs.List.{AllByRecursion}
+use Rattle.std.proofs.Common.{◌≡◌, true, List, [], length, sym, ap, ◌∙◌, subst, arith}
 use Rattle.logbook.specs.Pages.{Book}
-use Rattle.im_types.specs.declared.changes.Change.{Change}
-use Rattle.im_types.specs.Changes.{is_below}
-use Rattle.im_glass.specs.Copies.{CopyState}
-use Rattle.im_glass.specs.Rule.{copy_state}
-use Rattle.im_glass.proofs.CopyLemmas.{new-kept}
-use Rattle.im_glass.proofs.pane.Pane.new.Goals as goal
+use Rattle.std.specs.List.{AllByRecursion}
+use Rattle.im_types.specs.Types.{is_below, Change}
+use Rattle.im_glass.{proofs.CopyLemmas.new-kept, specs.Copies.CopyState, specs.Rule.copy_state}
 
-pub invariant_of-result : goal.invariant_of-result
+pub invariant_of-result : Rattle.im_glass.proofs.pane.Pane.new.Goals.invariant_of-result
 invariant_of-result g c =
     let w = c.in-Ok-copies.both in
     let now = w.desk.shown.value in

@@ -1,8 +1,7 @@
-use Rattle.std.proofs.Common.{◌≡◌, ◌∙◌, ◌++◌, ◌∷◌, [], ap, sym, arith, length, length-append, true}
-use Rattle.im_types.specs.Changes.{is_below}
-use Rattle.im_glass.specs.Panes.{PaneView, is_filled}
-use Rattle.im_glass.proofs.CopyLemmas.{below-more}
-use Rattle.im_glass.proofs.RoomLemmas.{not-filled}
+use Rattle.std.proofs.Common.{◌≡◌, true, [], ◌∷◌, ◌++◌, length, sym, ap, ◌∙◌, arith, length-append}
+use Rattle.im_types.specs.Types.{is_below}
+use Rattle.im_glass.proofs.{CopyLemmas.below-more, RoomLemmas.not-filled}
+use Rattle.im_glass.specs.Panes.{is_filled, PaneView}
 use Rattle.im_glass.proofs.pane.Pane.put_ahead.Goals as goal
 
 pub push_reserved-requires : goal.push_reserved-requires

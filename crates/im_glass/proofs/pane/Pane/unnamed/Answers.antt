@@ -1,10 +1,9 @@
-use Rattle.std.proofs.Common.{◌≡◌, ◌∙◌, ap, sym, subst, arith}
-use Rattle.std.specs.List.{AllByRecursion}
+use Rattle.std.proofs.Common.{◌≡◌, sym, ap, ◌∙◌, subst, arith}
 use Rattle.logbook.specs.Pages.{Book}
+use Rattle.std.specs.List.{AllByRecursion}
 use Rattle.im_glass.specs.Panes.{PaneView}
-use Rattle.im_glass.proofs.pane.Pane.unnamed.Goals as goal
 
-pub invariant_of-result : goal.invariant_of-result
+pub invariant_of-result : Rattle.im_glass.proofs.pane.Pane.unnamed.Goals.invariant_of-result
 invariant_of-result g c =
     let i = c.self.invariant in (
       i.1,

@@ -1,12 +1,10 @@
-use Rattle.std.proofs.Common.{◌≡◌, ◌∙◌, ap, sym, subst, arith, length, List, true}
-use Rattle.std.specs.List.{AllByRecursion}
+use Rattle.std.proofs.Common.{◌≡◌, true, List, length, sym, ap, ◌∙◌, subst, arith}
 use Rattle.logbook.specs.Pages.{Book}
-use Rattle.im_types.specs.declared.changes.Change.{Change}
-use Rattle.im_types.specs.Changes.{is_below}
+use Rattle.std.specs.List.{AllByRecursion}
+use Rattle.im_types.specs.Types.{is_below, Change}
 use Rattle.im_glass.specs.Panes.{UnnamedView}
-use Rattle.im_glass.proofs.unnamed.Unnamed.named.Goals as goal
 
-pub invariant_of-result : goal.invariant_of-result
+pub invariant_of-result : Rattle.im_glass.proofs.unnamed.Unnamed.named.Goals.invariant_of-result
 invariant_of-result g c =
     let i = c.self.invariant in
     let now = c.self.inside.both.desk.shown.value in

@@ -1,7 +1,5 @@
-use Rattle.std.proofs.Common.{Some, ap, sym, ◌∙◌, subst, length, arith}
-use Rattle.std.specs.Prelude.{IsSome}
-use Rattle.im_holes.specs.Holes.{holder_at, kept_at}
-use Rattle.im_holes.proofs.Kept.{number-inside, number-is}
+use Rattle.std.proofs.Common.{length, IsSome, Some, sym, ap, ◌∙◌, subst, arith}
+use Rattle.im_holes.{proofs.Kept.number-inside, proofs.Kept.number-is, specs.Holes.holder_at, specs.Holes.kept_at}
 use Rattle.im_holes.proofs.holes.Holes.number.Goals as goal
 
 pub tag-requires : goal.tag-requires

@@ -1,7 +1,6 @@
-use Rattle.std.proofs.Common.{Some, set, ap, sym, ◌∙◌, subst, arith}
-use Rattle.std.specs.Prelude.{IsSome}
+use Rattle.std.proofs.Common.{set, IsSome, Some, sym, ap, ◌∙◌, subst, arith}
+use Rattle.im_holes.proofs.Kept.{number-inside, numbered-cells, numbered-holes}
 use Rattle.im_holes.specs.Holes.{holder_at}
-use Rattle.im_holes.proofs.Kept.{number-inside, numbered-holes, numbered-cells}
 use Rattle.im_holes.proofs.holes.Holes.set_number.Goals as goal
 
 pub index_mut-requires : goal.index_mut-requires

@@ -1,7 +1,7 @@
-use Rattle.std.proofs.Common.{refl, sym, ◌∙◌}
+use Rattle.std.proofs.Common.{sym, refl, ◌∙◌}
 use Rattle.im_types.proofs.Tests.{false_true}
+use Rattle.im_image.proofs.Headers.{limits_of_spelled, no_some, spelled_is}
 use Rattle.im_image.specs.Headers.{seen}
-use Rattle.im_image.proofs.Headers.{limits_of_spelled, spelled_is, no_some}
 use Rattle.im_image.proofs.header.Header.read.Goals as goal
 
 pub returns-in_err-limits_in-clause-only : goal.returns-in_err-limits_in-clause-only

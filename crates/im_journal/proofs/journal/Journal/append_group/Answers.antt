@@ -1,6 +1,6 @@
 use Rattle.std.proofs.Common.{ℕ, ◌+◌, length, ap, rules}
-use Rattle.im_journal.specs.Holding.{JournalState, journal_state}
-use Rattle.im_journal.proofs.Appending.{next_of, bodies_leave, gate_leaves, group_adds}
+use Rattle.im_journal.proofs.Appending.{bodies_leave, gate_leaves, group_adds, next_of}
+use Rattle.im_journal.specs.Holding.{journal_state, JournalState}
 use Rattle.im_journal.proofs.journal.Journal.append_group.Goals as goal
 
 pub returns-in-Err-clause-runs : goal.returns-in-Err-clause-runs

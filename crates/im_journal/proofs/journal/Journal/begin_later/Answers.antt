@@ -1,6 +1,6 @@
 use Rattle.std.proofs.Common.{ap, subst}
-use Rattle.im_journal.specs.Holding.{JournalState, IsJournal, journal_state}
-use Rattle.im_journal.proofs.Beginning.{tail_begins_later, holds_later}
+use Rattle.im_journal.proofs.Beginning.{holds_later, tail_begins_later}
+use Rattle.im_journal.specs.Holding.{IsJournal, journal_state, JournalState}
 use Rattle.im_journal.proofs.journal.Journal.begin_later.Goals as goal
 
 pub returns-clause-holds : goal.returns-clause-holds

@@ -1,9 +1,8 @@
-use Rattle.std.proofs.Common.{◌<◌, [], arith, refl}
-use Rattle.im_types.specs.Journal.{Ring}
+use Rattle.std.proofs.Common.{◌<◌, [], refl, arith}
+use Rattle.im_types.specs.Types.{Ring}
 use Rattle.im_journal.proofs.Tails.{tail_closed}
-use Rattle.im_journal.proofs.journal.Journal.fresh.Goals as goal
 
-pub returns-clause-holds : goal.returns-clause-holds
+pub returns-clause-holds : Rattle.im_journal.proofs.journal.Journal.fresh.Goals.returns-clause-holds
 returns-clause-holds c = λ file size closed.
     let ring : Ring = record { base = c.journal_at.result; slots = c.args.limits.slots } in
     let some : 0 < c.args.limits.slots = omega (arith, c.args.limits.in_range.enough_slots) in

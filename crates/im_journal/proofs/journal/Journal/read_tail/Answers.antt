@@ -1,8 +1,6 @@
-use Rattle.std.proofs.Common.{◌≡◌, ℕ, ◌+◌, ◌*◌, ◌≤◌, ◌<◌, Err, length, take, drop, ap, ◌∙◌, sym, subst, arith, rules}
-use Rattle.im_types.specs.Journal.{Ring}
-use Rattle.im_journal.specs.Holding.{ring_in}
-use Rattle.im_journal.proofs.Tails.{tail_alone}
-use Rattle.im_journal.proofs.Sweeps.{behind_read}
+use Rattle.std.proofs.Common.{◌≡◌, ℕ, ◌+◌, ◌*◌, ◌<◌, ◌≤◌, length, take, drop, Err, sym, ap, ◌∙◌, subst, arith, rules}
+use Rattle.im_types.specs.Types.{Ring}
+use Rattle.im_journal.{proofs.Sweeps.behind_read, proofs.Tails.tail_alone, specs.Holding.ring_in}
 use Rattle.im_journal.proofs.journal.Journal.read_tail.Goals as goal
 
 pub returns-in-Err-tail_in-clause-bad : goal.returns-in-Err-tail_in-clause-bad

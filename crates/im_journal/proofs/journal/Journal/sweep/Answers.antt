@@ -1,6 +1,6 @@
 use Rattle.std.proofs.Common.{rules}
+use Rattle.im_journal.proofs.Sweeping.{no_more, sweep_leaves, sweeps, turn_of}
 use Rattle.im_journal.specs.Holding.{journal_state, to_sweep}
-use Rattle.im_journal.proofs.Sweeping.{no_more, turn_of, sweep_leaves, sweeps}
 use Rattle.im_journal.proofs.journal.Journal.sweep.Goals as goal
 
 pub returns-in-Err-clause-runs : goal.returns-in-Err-clause-runs

@@ -1,8 +1,8 @@
-use Rattle.std.proofs.Common.{ℕ, List, replicate, length, rules, ◌≡◌, ◌∙◌, ap}
+use Rattle.std.proofs.Common.{◌≡◌, ℕ, List, length, replicate, ap, ◌∙◌, rules}
 use Rattle.std.proofs.lemmas.List.{length-replicate}
-use Rattle.im_types.specs.Layout.{image_length, layout_in_use, sizes_of}
-use Rattle.im_listed.specs.Listing.{Listing, over}
+use Rattle.im_types.specs.Types.{layout_in_use, sizes_of, image_length}
 use Rattle.im_listed.proofs.ImageLemmas.{begun_with, right_length}
+use Rattle.im_listed.specs.Listing.{Listing, over}
 use Rattle.im_listed.proofs.image.Image.format.Goals as goal
 
 pub returns-in-Ok-format-clause-carried : goal.returns-in-Ok-format-clause-carried

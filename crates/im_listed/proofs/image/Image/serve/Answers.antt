@@ -1,9 +1,7 @@
-use Rattle.std.proofs.Common.{◌≡◌, inl, List, ℕ, false, sym, ◌∙◌, ap}
+use Rattle.std.proofs.Common.{◌≡◌, ℕ, false, List, sym, ap, ◌∙◌, inl}
 use Rattle.im_engine.specs.State.{EngineState, MeansEither, with_command}
-use Rattle.im_listed.specs.Listing.{Listing}
-use Rattle.im_listed.specs.Numbers.{told_number}
-use Rattle.im_listed.specs.Image.{ImageState, begun_in, tells_device}
-use Rattle.im_listed.proofs.ImageLemmas.{carries_on, start_of, alive_after, steady_after}
+use Rattle.im_listed.proofs.ImageLemmas.{alive_after, carries_on, start_of, steady_after}
+use Rattle.im_listed.specs.{Image.begun_in, Image.ImageState, Image.tells_device, Listing.Listing, Numbers.told_number}
 use Rattle.im_listed.proofs.image.Image.serve.Goals as goal
 
 pub invariant_of-self : goal.invariant_of-self

@@ -1,13 +1,10 @@
-use Rattle.std.proofs.Common.{◌≡◌, inl, List, ℕ, false, length, take, sym, ◌∙◌, ap, subst}
-use Rattle.im_groups.specs.Ahead.{ServesPrefix}
-use Rattle.im_engine.specs.State.{EngineState, MeansEither}
-use Rattle.im_engine.specs.Commands.{CommandsAnswered, commands_put, after_commands}
-use Rattle.im_listed.specs.Listing.{Listing}
-use Rattle.im_listed.specs.Image.{ImageState, begun_in}
+use Rattle.std.proofs.Common.{◌≡◌, ℕ, false, List, length, take, sym, ap, ◌∙◌, subst, inl}
+use Rattle.{im_groups.specs.Ahead.ServesPrefix, im_engine.specs.State.EngineState, im_engine.specs.State.MeansEither}
+use Rattle.im_engine.specs.Commands.{after_commands, commands_put, CommandsAnswered}
 use Rattle.im_listed.proofs.ImageLemmas.{carries_on, start_of}
-use Rattle.im_listed.proofs.image.Image.serve_commands.Goals as goal
+use Rattle.im_listed.specs.{Image.begun_in, Image.ImageState, Listing.Listing}
 
-pub returns-clause-served : goal.returns-clause-served
+pub returns-clause-served : Rattle.im_listed.proofs.image.Image.serve_commands.Goals.returns-clause-served
 returns-clause-served c = λ alive.
     let s = c.empty_list.new.self in
     let e = c.self.inside.engine in

@@ -1,12 +1,9 @@
-use Rattle.std.proofs.Common.{◌≡◌, List, ℕ, false, sym, ◌∙◌, ap}
+use Rattle.std.proofs.Common.{◌≡◌, ℕ, false, List, sym, ap, ◌∙◌}
 use Rattle.im_engine.specs.State.{EngineState, MeansState}
-use Rattle.im_listed.specs.Listing.{Listing}
-use Rattle.im_listed.specs.Numbers.{told_number}
-use Rattle.im_listed.specs.Image.{ImageState, begun_in}
 use Rattle.im_listed.proofs.ImageLemmas.{carries_on, start_of, steady_sweep}
-use Rattle.im_listed.proofs.image.Image.sweep.Goals as goal
+use Rattle.im_listed.specs.{Image.begun_in, Image.ImageState, Listing.Listing, Numbers.told_number}
 
-pub returns-clause-carried : goal.returns-clause-carried
+pub returns-clause-carried : Rattle.im_listed.proofs.image.Image.sweep.Goals.returns-clause-carried
 returns-clause-carried c = λ alive.
     let s = c.empty_list.new.self in
     let e = c.self.inside.engine in

@@ -1,12 +1,9 @@
-use Rattle.std.proofs.Common.{ℕ, ◌+◌, false, List, ◌++◌, length, take, drop, sym, ◌∙◌, ap, subst}
+use Rattle.std.proofs.Common.{ℕ, ◌+◌, false, List, ◌++◌, length, take, drop, sym, ap, ◌∙◌, subst}
 use Rattle.im_disk.specs.Moment.{written}
-use Rattle.im_listed.specs.declared.calls.ListedCall.{ListedCall}
-use Rattle.im_listed.specs.History.{history_of, later}
-use Rattle.im_listed.specs.Listing.{Puts, Agrees}
-use Rattle.im_listed.proofs.StepLemmas.{agrees_more}
-use Rattle.im_listed.proofs.listed.ListedDisk.write_at.Goals as goal
+use Rattle.im_listed.{proofs.StepLemmas.agrees_more, specs.History.history_of, specs.History.later}
+use Rattle.im_listed.specs.{declared.calls.ListedCall.ListedCall, Listing.Agrees, Listing.Puts}
 
-pub invariant_of-self-2 : goal.invariant_of-self-2
+pub invariant_of-self-2 : Rattle.im_listed.proofs.listed.ListedDisk.write_at.Goals.invariant_of-self-2
 invariant_of-self-2 c =
     let at = c.args.at in
     let part = c.args.bytes.now in

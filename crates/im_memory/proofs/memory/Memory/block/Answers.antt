@@ -1,11 +1,8 @@
 use Rattle.std.proofs.Common.{sym, ap, ◌∙◌, arith}
-use Rattle.im_types.specs.Contents.{block_at}
-use Rattle.im_cell.specs.Slots.{slot_block as block_in_slots}
-use Rattle.im_memory.proofs.CellsLemmas.{block_at-cells}
-use Rattle.im_memory.specs.State.{MemoryState}
-use Rattle.im_memory.proofs.memory.Memory.block.Goals as goal
+use Rattle.{im_types.specs.Types.block_at, im_cell.specs.Slots.slot_block as block_in_slots}
+use Rattle.im_memory.{proofs.CellsLemmas.block_at-cells, specs.State.MemoryState}
 
-pub returns : goal.returns
+pub returns : Rattle.im_memory.proofs.memory.Memory.block.Goals.returns
 returns c =
     let m = c.self.inside in
     c.block_of.ensures.block ∙ ap (block_in_slots m.table) (omega arith)

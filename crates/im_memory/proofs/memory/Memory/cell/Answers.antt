@@ -1,11 +1,8 @@
 use Rattle.std.proofs.Common.{ap, ◌∙◌}
-use Rattle.im_types.specs.Contents.{held_at}
-use Rattle.im_types.specs.Presences.{presence_in}
-use Rattle.im_memory.proofs.PresenceLemmas.{presence-at}
-use Rattle.im_memory.specs.State.{MemoryState}
-use Rattle.im_memory.proofs.memory.Memory.cell.Goals as goal
+use Rattle.im_types.specs.Types.{held_at, presence_in}
+use Rattle.im_memory.{proofs.PresenceLemmas.presence-at, specs.State.MemoryState}
 
-pub returns : goal.returns
+pub returns : Rattle.im_memory.proofs.memory.Memory.cell.Goals.returns
 returns c =
     let m = c.self.inside in
     c.get.ensures ∙ presence-at m.table m.arena c.self.invariant.agree c.args.a

@@ -1,9 +1,7 @@
-use Rattle.std.proofs.Common.{ap, ◌≡◌, ◌∙◌, false}
-use Rattle.im_types.specs.declared.commands.Command.TheVariants.{Confirm}
-use Rattle.im_types.specs.Step.{is_accepted}
-use Rattle.im_memory.specs.State.{MemoryState, memory_state}
-use Rattle.im_memory.proofs.MakesLemmas.{makes-confirmed}
-use Rattle.im_memory.proofs.Unaccepted.{windows_stay}
+use Rattle.std.proofs.Common.{◌≡◌, false, ap, ◌∙◌}
+use Rattle.im_types.specs.Types.{Confirm, is_accepted}
+use Rattle.im_memory.proofs.{MakesLemmas.makes-confirmed, Unaccepted.windows_stay}
+use Rattle.im_memory.specs.State.{memory_state, MemoryState}
 use Rattle.im_memory.proofs.memory.Memory.confirm.Goals as goal
 
 pub invariant_of-self : goal.invariant_of-self

@@ -1,7 +1,6 @@
 use Rattle.std.proofs.Common.{arith}
 use Rattle.im_laws.proofs.MemoryLemmas.{empty-memory}
-use Rattle.im_memory.proofs.MakesLemmas.{makes-empty, contents_of-empty}
-use Rattle.im_memory.proofs.RecordLemmas.{empty-records}
+use Rattle.im_memory.proofs.{MakesLemmas.contents_of-empty, MakesLemmas.makes-empty, RecordLemmas.empty-records}
 use Rattle.im_memory.proofs.memory.Memory.new.Goals as goal
 
 pub invariant_of-result : goal.invariant_of-result

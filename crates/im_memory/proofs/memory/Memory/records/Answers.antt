@@ -1,8 +1,6 @@
 use Rattle.std.proofs.Common.{◌*◌, length, sym, ap, ◌∙◌}
-use Rattle.im_types.specs.declared.TheConstants.{WINDOW}
-use Rattle.im_types.specs.Pages.{Records}
-use Rattle.im_memory.proofs.CellsLemmas.{length-cells}
-use Rattle.im_memory.proofs.RecordLemmas.{length-cells as length-records}
+use Rattle.im_types.specs.Types.{WINDOW, Records}
+use Rattle.im_memory.proofs.{CellsLemmas.length-cells, RecordLemmas.length-cells as length-records}
 use Rattle.im_memory.specs.State.{MemoryState}
 use Rattle.im_memory.proofs.memory.Memory.records.Goals as goal
 

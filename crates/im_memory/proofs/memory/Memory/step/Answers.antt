@@ -1,13 +1,7 @@
-use Rattle.std.proofs.Common.{◌≡◌, length, sym, ap, ◌∙◌, subst, ◌++◌, ◌∷◌, []}
-use Rattle.im_types.specs.declared.commands.Command.{Command}
-use Rattle.im_types.specs.declared.commands.Command.TheVariants.{Request as Asks, Confirm}
-use Rattle.im_types.specs.Contents.{Contents}
-use Rattle.im_types.specs.Step.{step, is_accepted}
-use Rattle.im_types.specs.Agreement.{KeepsEntries}
-use Rattle.im_types.specs.Memory.{IsMemory}
-use Rattle.im_histories.proofs.Laws.{every_value_law, every_matching_law}
-use Rattle.im_laws.proofs.MemoryLemmas.{step-memory}
-use Rattle.im_laws.proofs.RunAgrees.{step-keeps}
+use Rattle.std.proofs.Common.{◌≡◌, [], ◌∷◌, ◌++◌, length, sym, ap, ◌∙◌, subst}
+use Rattle.im_types.specs.Types.{Command, Asks, Confirm, Contents, IsMemory, KeepsEntries, step, is_accepted}
+use Rattle.im_laws.proofs.{MemoryLemmas.step-memory, RunAgrees.step-keeps}
+use Rattle.im_histories.proofs.Laws.{every_matching_law, every_value_law}
 use Rattle.im_memory.proofs.memory.Memory.step.Goals as goal
 
 module _ (m next : Contents) (command known : Command) (is : command ≡ known)

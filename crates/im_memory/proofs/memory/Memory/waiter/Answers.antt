@@ -1,11 +1,9 @@
-use Rattle.std.proofs.Common.{List, refl, sym, ap, ◌∙◌, arith}
-use Rattle.std.specs.Prelude.{slice_get}
+use Rattle.std.proofs.Common.{List, slice_get, sym, refl, ap, ◌∙◌, arith}
 use Rattle.std.proofs.lemmas.Iterator.Adapters.{option_map_id}
 use Rattle.std.proofs.lemmas.Iterator.Consumers.{nth_from_yields_List, YieldsList-from_first}
-use Rattle.im_types.specs.declared.operations.Waiter.{Waiter}
-use Rattle.im_memory.proofs.memory.Memory.waiter.Goals as goal
+use Rattle.im_types.specs.Types.{Waiter}
 
-pub returns : goal.returns
+pub returns : Rattle.im_memory.proofs.memory.Memory.waiter.Goals.returns
 returns c =
     sym (option_map_id c.nth.result)
     ∙ nth_from_yields_List c.nth.result c.nth.new.self _ c.nth.ensures.ran

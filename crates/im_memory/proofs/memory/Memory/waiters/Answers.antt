@@ -1,11 +1,8 @@
 use Rattle.std.proofs.Common.{sym, ap, ◌∙◌, arith}
-use Rattle.im_types.specs.Contents.{waiters_at}
-use Rattle.im_arena.specs.Lists.{list_at}
-use Rattle.im_istore.proofs.Waiters.{waiters_at-cells}
+use Rattle.{im_types.specs.Types.waiters_at, im_arena.specs.Lists.list_at, im_istore.proofs.Waiters.waiters_at-cells}
 use Rattle.im_memory.specs.State.{MemoryState}
-use Rattle.im_memory.proofs.memory.Memory.waiters.Goals as goal
 
-pub returns : goal.returns
+pub returns : Rattle.im_memory.proofs.memory.Memory.waiters.Goals.returns
 returns c =
     let m = c.self.inside in
     c.waiters.ensures ∙ ap (list_at m.arena.held) (omega arith)

@@ -1,13 +1,8 @@
-use Rattle.std.proofs.Common.{sym, ap, ◌∙◌, subst, length, arith}
-use Rattle.std.specs.Prelude.{slice_index_or}
-use Rattle.im_types.specs.declared.TheConstants.{NONE}
-use Rattle.im_types.specs.declared.records.PresenceTag.{PresenceTag}
-use Rattle.im_types.specs.declared.records.CellRecord.TheVariants.{Free as FreeCell, Held as BlockCell}
-use Rattle.im_types.specs.Pages.{Records}
-use Rattle.im_types.specs.Records.{FitsTag}
+use Rattle.std.proofs.Common.{length, slice_index_or, sym, ap, ◌∙◌, subst, arith}
+use Rattle.im_types.specs.Types.{NONE, PresenceTag, FreeCell, BlockCell, FitsTag, Records}
 use Rattle.im_cell.specs.Slots.{block_in}
-use Rattle.im_memory.specs.Shown.{tag_shown}
 use Rattle.im_memory.proofs.RecordLemmas.{length-cells, slot-none, slot-some}
+use Rattle.im_memory.specs.Shown.{tag_shown}
 use Rattle.im_memory.proofs.records.MemoryRecords.cell_record.Goals as goal
 
 pub returns-in-None-clause-shown : goal.returns-in-None-clause-shown

@@ -1,11 +1,6 @@
-use Rattle.std.proofs.Common.{sym, ap, ◌∙◌, subst, length}
-use Rattle.std.specs.Prelude.{slice_index_or}
-use Rattle.im_types.specs.declared.TheConstants.{NONE}
-use Rattle.im_types.specs.declared.records.NodeRecord.TheVariants.{Free as FreeNode}
-use Rattle.im_types.specs.Pages.{Records}
-use Rattle.im_types.specs.Records.{FitsNode}
-use Rattle.im_memory.proofs.ThreadLemmas.{record-read}
-use Rattle.im_memory.proofs.RecordLemmas.{link-within}
+use Rattle.std.proofs.Common.{length, slice_index_or, sym, ap, ◌∙◌, subst}
+use Rattle.im_types.specs.Types.{NONE, FreeNode, FitsNode, Records}
+use Rattle.im_memory.proofs.{RecordLemmas.link-within, ThreadLemmas.record-read}
 use Rattle.im_memory.proofs.records.MemoryRecords.node_record.Goals as goal
 
 pub returns-clause-shown : goal.returns-clause-shown

@@ -1,7 +1,7 @@
 use Rattle.std.proofs.Common.{sym, ap, ◌∙◌, subst}
-use Rattle.im_memory.specs.Restoring.{contents_shown, AreComplete}
+use Rattle.im_memory.proofs.RestoreLemmas.{restored-blocks, restored-contents, restored-makes}
 use Rattle.im_memory.specs.MakesMemory.{contents_of, MakesMemory}
-use Rattle.im_memory.proofs.RestoreLemmas.{restored-contents, restored-blocks, restored-makes}
+use Rattle.im_memory.specs.Restoring.{AreComplete, contents_shown}
 use Rattle.im_memory.proofs.restore.Restoring.finish.Goals as goal
 
 pub in_room-requires-clause-blocks : goal.in_room-requires-clause-blocks

@@ -1,11 +1,9 @@
-use Rattle.std.proofs.Common.{◌≡◌, ℕ, List, Bool, true, length, set, ap, subst, sym, ◌∙◌, arith, length-set}
-use Rattle.std.specs.Prelude.{◌==◌, ◌||◌}
-use Rattle.std.specs.Vec.{with_items}
+use Rattle.std.proofs.Common.{◌≡◌, ℕ, Bool, true, ◌||◌, List, length, set, ◌==◌, sym, ap, ◌∙◌, subst, arith, length-set}
 use Rattle.std.proofs.lemmas.List.{get_or_past, set_past, with_items_is}
-use Rattle.im_pages.specs.PageSets.{has, with_page, size_of}
-use Rattle.im_pages.specs.Words.{is_set, bits_of}
+use Rattle.std.specs.Vec.{with_items}
 use Rattle.im_pages.proofs.BitLemmas.{length-bits, set-one}
-use Rattle.im_pages.proofs.SetLemmas.{size-with, has-with, within-with}
+use Rattle.im_pages.proofs.SetLemmas.{has-with, size-with, within-with}
+use Rattle.im_pages.specs.{PageSets.has, PageSets.size_of, PageSets.with_page, Words.bits_of, Words.is_set}
 use Rattle.im_pages.proofs.sets.PageSet.add.Goals as goal
 
 -- the bits after one more is set

@@ -1,9 +1,7 @@
-use Rattle.std.proofs.Common.{◌≡◌, ℕ, ◌-◌, ◌≤◌, List, Bool, ap, subst, ◌∙◌, arith}
-use Rattle.std.specs.Prelude.{min}
+use Rattle.std.proofs.Common.{◌≡◌, ℕ, ◌-◌, ◌≤◌, min, Bool, List, ap, ◌∙◌, subst, arith}
 use Rattle.std.proofs.lemmas.List.{with_items_is}
-use Rattle.im_pages.specs.PageSets.{with_pages}
-use Rattle.im_pages.specs.Words.{bits_of}
-use Rattle.im_pages.proofs.RangeLemmas.{IsSetBetween, HasMore, has_more, pages-set, none-set}
+use Rattle.im_pages.proofs.RangeLemmas.{has_more, HasMore, IsSetBetween, none-set, pages-set}
+use Rattle.im_pages.specs.{PageSets.with_pages, Words.bits_of}
 use Rattle.im_pages.proofs.sets.PageSet.add_range.Goals as goal
 
 -- after the bits of the pages are set

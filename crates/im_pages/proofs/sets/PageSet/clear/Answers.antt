@@ -1,10 +1,8 @@
-use Rattle.std.proofs.Common.{◌≡◌, List, ℕ, replicate, false, length, ap, sym, ◌∙◌, arith}
+use Rattle.std.proofs.Common.{◌≡◌, ℕ, false, List, length, replicate, sym, ap, ◌∙◌, arith}
 use Rattle.std.proofs.lemmas.List.{with_items_is}
-use Rattle.im_pages.specs.Words.{bits_of}
-use Rattle.im_pages.proofs.BitLemmas.{length-bits, set-none}
-use Rattle.im_pages.proofs.sets.PageSet.clear.Goals as goal
+use Rattle.im_pages.{proofs.BitLemmas.length-bits, proofs.BitLemmas.set-none, specs.Words.bits_of}
 
-pub returns : goal.returns
+pub returns : Rattle.im_pages.proofs.sets.PageSet.clear.Goals.returns
 returns c =
     let e = c.self.inside in
     let long : e.pages ≡ length c.args.self.now = sym (length-bits e.words.items 0 e.pages)

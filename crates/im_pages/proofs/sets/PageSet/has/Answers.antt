@@ -1,8 +1,6 @@
-use Rattle.std.proofs.Common.{length, ap, sym, ◌∙◌, arith, true}
+use Rattle.std.proofs.Common.{true, length, sym, ap, ◌∙◌, arith}
 use Rattle.std.proofs.lemmas.List.{get_or_past}
-use Rattle.im_pages.specs.PageSets.{has}
-use Rattle.im_pages.specs.Words.{is_set}
-use Rattle.im_pages.proofs.BitLemmas.{length-bits, read}
+use Rattle.im_pages.{proofs.BitLemmas.length-bits, proofs.BitLemmas.read, specs.PageSets.has, specs.Words.is_set}
 use Rattle.im_pages.proofs.sets.PageSet.has.Goals as goal
 
 pub returns-then-page-self : goal.returns-then-page-self

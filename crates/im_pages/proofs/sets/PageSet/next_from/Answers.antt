@@ -1,7 +1,6 @@
-use Rattle.std.proofs.Common.{◌≡◌, ℕ, ◌<◌, List, Bool, true, length, ap, sym, ◌∙◌, arith}
-use Rattle.im_pages.specs.PageSets.{has}
-use Rattle.im_pages.specs.Words.{is_set, bits_of}
+use Rattle.std.proofs.Common.{◌≡◌, ℕ, ◌<◌, Bool, true, List, length, sym, ap, ◌∙◌, arith}
 use Rattle.im_pages.proofs.BitLemmas.{length-bits, read}
+use Rattle.im_pages.specs.{PageSets.has, Words.bits_of, Words.is_set}
 use Rattle.im_pages.proofs.sets.PageSet.next_from.Goals as goal
 
 at_bit : (items slice : List ℕ) (pages : ℕ) (self : List Bool) → slice ≡ items → bits_of items pages ≡ self → (p : ℕ)

@@ -1,10 +1,7 @@
-use Rattle.std.proofs.Common.{◌≡◌, ℕ, ◌+◌, ◌/◌, List, length, ap, sym, ◌∙◌, arith}
-use Rattle.std.specs.Prelude.{◌||◌}
+use Rattle.std.proofs.Common.{◌≡◌, ℕ, ◌+◌, ◌/◌, ◌||◌, List, length, sym, ap, ◌∙◌, arith}
 use Rattle.std.proofs.lemmas.List.{with_items_is}
-use Rattle.im_pages.specs.PageSets.{union}
-use Rattle.im_pages.specs.Words.{is_set, bits_of}
-use Rattle.im_pages.proofs.BitLemmas.{length-bits}
-use Rattle.im_pages.proofs.SetLemmas.{union-set}
+use Rattle.im_pages.proofs.{BitLemmas.length-bits, SetLemmas.union-set}
+use Rattle.im_pages.specs.{PageSets.union, Words.bits_of, Words.is_set}
 use Rattle.im_pages.proofs.sets.PageSet.union_with.Goals as goal
 
 pub set_bits-requires : goal.set_bits-requires

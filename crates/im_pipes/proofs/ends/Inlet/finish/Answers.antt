@@ -1,8 +1,7 @@
 use Rattle.std.proofs.Common.{ap, ◌∙◌}
+use Rattle.im_pipes.proofs.{ends.Inlet.finish.Goals.in-Err, ends.Inlet.finish.Goals.in-Ok, MessageLemmas.sent_mark}
 use Rattle.im_pipes.specs.Ends.{PipeEnd}
-use Rattle.im_pipes.proofs.MessageLemmas.{sent_mark}
 use Rattle.im_pipes.proofs.ends.Inlet.finish.Goals as goal
-use Rattle.im_pipes.proofs.ends.Inlet.finish.Goals.{in-Ok, in-Err}
 
 pub invariant_of-t-9 : goal.invariant_of-t-9
 invariant_of-t-9 g c = (c.put.ensures.seat, (sent_mark _ _ c.self.invariant.1 c.in-Ok.ensures.sent).1)

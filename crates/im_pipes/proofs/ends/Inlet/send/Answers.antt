@@ -1,8 +1,7 @@
-use Rattle.std.proofs.Common.{ap, ◌∙◌, ◌++◌, ◌∷◌, []}
+use Rattle.std.proofs.Common.{[], ◌∷◌, ◌++◌, ap, ◌∙◌}
+use Rattle.im_pipes.proofs.{ends.Inlet.send.Goals.in-Err, ends.Inlet.send.Goals.in-Ok, MessageLemmas.sent_item}
 use Rattle.im_pipes.specs.Ends.{PipeEnd}
-use Rattle.im_pipes.proofs.MessageLemmas.{sent_item}
 use Rattle.im_pipes.proofs.ends.Inlet.send.Goals as goal
-use Rattle.im_pipes.proofs.ends.Inlet.send.Goals.{in-Ok, in-Err}
 
 pub invariant_of-self : goal.invariant_of-self
 invariant_of-self g c =

@@ -1,5 +1,4 @@
 use Rattle.std.proofs.Common.{◌≡◌}
-use Rattle.im_pipes.proofs.ends.Outlet.gather.Given as goal
 
-abbrev pub invariant-loop : goal.invariant-loop
+abbrev pub invariant-loop : Rattle.im_pipes.proofs.ends.Outlet.gather.Given.invariant-loop
 invariant-loop g l = l.self ≡ l.fn.self

@@ -1,7 +1,7 @@
-use Rattle.std.proofs.Common.{◌≡◌, ap, sym, ◌∙◌, subst, refl, true, false, Bool, [], ◌∷◌, ◌++◌}
+use Rattle.std.proofs.Common.{◌≡◌, Bool, true, false, [], ◌∷◌, ◌++◌, sym, refl, ap, ◌∙◌, subst}
 use Rattle.crossbeam_channel.specs.Claims.{view}
-use Rattle.im_pipes.specs.Ends.{PipeEnd, handed_of, items_of}
-use Rattle.im_pipes.proofs.MessageLemmas.{Knows, handed_items, knows_handed, item_next, mark_next}
+use Rattle.im_pipes.proofs.MessageLemmas.{handed_items, item_next, Knows, knows_handed, mark_next}
+use Rattle.im_pipes.specs.Ends.{handed_of, items_of, PipeEnd}
 use Rattle.im_pipes.proofs.ends.Outlet.receive.Goals as goal
 
 pub invariant_of-self : goal.invariant_of-self

@@ -1,9 +1,8 @@
-use Rattle.std.proofs.Common.{rules, ◌≡◌, ap, sym, ◌∙◌, subst, true, Bool, ◌++◌, List}
+use Rattle.std.proofs.Common.{◌≡◌, Bool, true, List, ◌++◌, sym, ap, ◌∙◌, subst, rules}
 use Rattle.crossbeam_channel.specs.Claims.{view}
-use Rattle.im_pipes.specs.declared.rule.PassLog.{PassLog}
-use Rattle.im_pipes.specs.Ends.{PipeEnd, handed_of, items_of}
-use Rattle.im_pipes.proofs.RuleLemmas.{merges, learns}
-use Rattle.im_pipes.proofs.MessageLemmas.{Knows, begins_items, whole_items}
+use Rattle.im_pipes.proofs.MessageLemmas.{begins_items, Knows, whole_items}
+use Rattle.im_pipes.proofs.RuleLemmas.{learns, merges}
+use Rattle.im_pipes.specs.{declared.rule.PassLog.PassLog, Ends.handed_of, Ends.items_of, Ends.PipeEnd}
 use Rattle.im_pipes.proofs.ends.Outlet.whole.Goals as goal
 
 pub absorb-requires-clause-rule : goal.absorb-requires-clause-rule

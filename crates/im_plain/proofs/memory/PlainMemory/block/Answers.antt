@@ -1,6 +1,5 @@
-use Rattle.std.proofs.Common.{get_or, None, sym, ap, ◌∙◌}
-use Rattle.std.specs.Prelude.{option_map}
-use Rattle.im_types.specs.Contents.{Held, Contents, block_at}
+use Rattle.std.proofs.Common.{get_or, None, option_map, sym, ap, ◌∙◌}
+use Rattle.im_types.specs.Types.{Held, Contents, block_at}
 use Rattle.im_plain.proofs.JoinedLemmas.{held_at-None, held_at-Some}
 use Rattle.im_plain.proofs.memory.PlainMemory.block.Goals as goal
 

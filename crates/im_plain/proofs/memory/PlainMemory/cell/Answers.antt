@@ -1,8 +1,6 @@
 use Rattle.std.proofs.Common.{length, get_or, Some, None, sym, ap, ◌∙◌}
-use Rattle.im_types.specs.Contents.{Contents, held_at}
-use Rattle.im_plain.specs.Waiting.{waiting_at}
-use Rattle.im_types.specs.Presences.{presence_in}
-use Rattle.im_plain.proofs.JoinedLemmas.{held_at-None, held_at-Some}
+use Rattle.im_types.specs.Types.{Contents, held_at, presence_in}
+use Rattle.im_plain.{proofs.JoinedLemmas.held_at-None, proofs.JoinedLemmas.held_at-Some, specs.Waiting.waiting_at}
 use Rattle.im_plain.proofs.memory.PlainMemory.cell.Goals as goal
 
 pub returns-in-Some : goal.returns-in-Some

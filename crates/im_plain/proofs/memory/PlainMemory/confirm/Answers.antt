@@ -1,9 +1,8 @@
 use Rattle.std.proofs.Common.{length, drop, sym, subst}
+use Rattle.im_plain.proofs.MakesLemmas.{confirmed-written, makes-confirmed}
 use Rattle.im_plain.specs.MakesPlain.{MakesPlain}
-use Rattle.im_plain.proofs.MakesLemmas.{makes-confirmed, confirmed-written}
-use Rattle.im_plain.proofs.memory.PlainMemory.confirm.Goals as goal
 
-pub invariant_of-self : goal.invariant_of-self
+pub invariant_of-self : Rattle.im_plain.proofs.memory.PlainMemory.confirm.Goals.invariant_of-self
 invariant_of-self c =
     let slots = c.self.inside.slots.items in
     let queue = c.self.inside.queue in

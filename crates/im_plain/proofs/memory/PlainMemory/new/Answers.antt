@@ -1,9 +1,7 @@
 use Rattle.std.proofs.Common.{sym, subst}
-use Rattle.im_types.specs.Memory.{IsMemory}
-use Rattle.im_laws.proofs.MemoryLemmas.{empty-memory}
-use Rattle.im_plain.proofs.memory.PlainMemory.new.Goals as goal
+use Rattle.{im_types.specs.Types.IsMemory, im_laws.proofs.MemoryLemmas.empty-memory}
 
-pub returns-in-Ok-clause-memory : goal.returns-in-Ok-clause-memory
+pub returns-in-Ok-clause-memory : Rattle.im_plain.proofs.memory.PlainMemory.new.Goals.returns-in-Ok-clause-memory
 returns-in-Ok-clause-memory c =
     let limits = c.args.limits in
     subst (IsMemory limits.cells limits.elements) (sym c.in-Ok.ensures) (empty-memory limits.cells limits.elements)

@@ -1,13 +1,6 @@
 use Rattle.std.proofs.Common.{◌≡◌, length, sym, ap, ◌∙◌, subst}
-use Rattle.im_types.specs.declared.commands.Command.{Command}
-use Rattle.im_types.specs.declared.commands.Command.TheVariants.{Request as Asks, Confirm}
-use Rattle.im_types.specs.Contents.{Contents}
-use Rattle.im_types.specs.Step.{step}
-use Rattle.im_types.specs.Agreement.{KeepsEntries}
-use Rattle.im_types.specs.Memory.{IsMemory}
-use Rattle.im_laws.proofs.MemoryLemmas.{step-memory}
-use Rattle.im_laws.proofs.RunAgrees.{step-keeps}
-use Rattle.im_laws.proofs.RefusedSteps.{step-refused}
+use Rattle.im_types.specs.Types.{Command, Asks, Confirm, Contents, IsMemory, KeepsEntries, step}
+use Rattle.im_laws.proofs.{MemoryLemmas.step-memory, RefusedSteps.step-refused, RunAgrees.step-keeps}
 use Rattle.im_plain.proofs.memory.PlainMemory.step.Goals as goal
 
 module _ (m next : Contents) (command known : Command) (is : command ≡ known)

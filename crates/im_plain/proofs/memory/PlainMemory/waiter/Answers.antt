@@ -1,11 +1,8 @@
-use Rattle.std.proofs.Common.{sym, ap, ◌∙◌}
-use Rattle.std.specs.Prelude.{slice_get}
-use Rattle.im_types.specs.Contents.{Contents, waiters_at}
-use Rattle.im_plain.specs.Waiting.{waiting_at}
-use Rattle.im_plain.proofs.JoinedLemmas.{waiters_at-plain_cells}
-use Rattle.im_plain.proofs.memory.PlainMemory.waiter.Goals as goal
+use Rattle.std.proofs.Common.{slice_get, sym, ap, ◌∙◌}
+use Rattle.im_types.specs.Types.{Contents, waiters_at}
+use Rattle.im_plain.{proofs.JoinedLemmas.waiters_at-plain_cells, specs.Waiting.waiting_at}
 
-pub returns : goal.returns
+pub returns : Rattle.im_plain.proofs.memory.PlainMemory.waiter.Goals.returns
 returns c =
     let m = c.self.inside in
     c.nth_at.ensures ∙ ap (λ queue. slice_get (waiting_at c.args.a queue) c.args.place) c.as_slice.ensures.value

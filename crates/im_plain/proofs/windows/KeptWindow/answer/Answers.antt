@@ -1,9 +1,6 @@
-use Rattle.std.proofs.Common.{◌≡◌, List, set, sym, ap, ◌∙◌, ◌-◌, arith}
-use Rattle.im_types.specs.Contents.{Window}
-use Rattle.im_types.specs.declared.operations.Kept.{Kept}
-use Rattle.im_types.specs.Window.{answer_in, answer_at}
-use Rattle.im_types.specs.declared.operations.Entry.TheVariants.{Answered}
-use Rattle.im_plain.proofs.WindowLemmas.{answer_at-set, answer_at-past}
+use Rattle.std.proofs.Common.{◌≡◌, ◌-◌, List, set, sym, ap, ◌∙◌, arith}
+use Rattle.im_types.specs.Types.{Kept, Answered, Window, answer_at, answer_in}
+use Rattle.im_plain.proofs.WindowLemmas.{answer_at-past, answer_at-set}
 use Rattle.im_plain.proofs.windows.KeptWindow.answer.Goals as goal
 
 pub returns-then-place-len : goal.returns-then-place-len

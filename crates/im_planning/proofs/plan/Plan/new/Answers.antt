@@ -1,13 +1,9 @@
-use Rattle.std.proofs.Common.{◌≡◌, ◌∷◌, ℕ, List, ◌≤◌, ◌<◌, ◌+◌, ◌-◌, length, sym, ap, ◌∙◌, subst, arith}
-use Rattle.std.specs.Prelude.{drop, slice_index_or}
-use Rattle.std.specs.Ordering.{nat_cmp}
-use Rattle.std.specs.BTreeMap.{get}
-use Rattle.std.proofs.lemmas.List.{drop_more}
-use Rattle.im_types.specs.declared.commands.Request.{Request}
-use Rattle.im_types.specs.Plan.{IsPlan}
-use Rattle.im_planning.specs.Making.{key_cmp}
-use Rattle.im_planning.specs.Begins.{IndexesPlan}
+use Rattle.std.proofs.Common.{◌≡◌, ℕ, ◌+◌, ◌-◌, ◌<◌, ◌≤◌, List, ◌∷◌, length, drop, slice_index_or, nat_cmp, sym, ap}
+use Rattle.std.proofs.Common.{◌∙◌, subst, arith}
+use Rattle.std.{proofs.lemmas.List.drop_more, specs.BTreeMap.get}
+use Rattle.im_types.specs.Types.{Request, IsPlan}
 use Rattle.im_planning.proofs.MakingLemmas.{cons-plan, drop-plan, plan-begins}
+use Rattle.im_planning.specs.{Begins.IndexesPlan, Making.key_cmp}
 use Rattle.im_planning.proofs.plan.Plan.new.Goals as goal
 
 -- one request more

@@ -1,10 +1,6 @@
-use Rattle.std.proofs.Common.{◌≤◌, length}
-use Rattle.std.specs.Prelude.{drop}
-use Rattle.std.specs.Ordering.{nat_cmp}
-use Rattle.std.specs.BTreeMap.{get}
-use Rattle.im_types.specs.Plan.{IsPlan}
-use Rattle.im_planning.specs.Making.{key_cmp}
-use Rattle.im_planning.specs.Begins.{IndexesPlan}
+use Rattle.std.{proofs.Common.◌≤◌, proofs.Common.length, proofs.Common.drop, proofs.Common.nat_cmp, specs.BTreeMap.get}
+use Rattle.im_types.specs.Types.{IsPlan}
+use Rattle.im_planning.specs.{Begins.IndexesPlan, Making.key_cmp}
 use Rattle.im_planning.proofs.plan.Plan.new.Given as goal
 
 -- the requests from here on make a plan, and the index follows it

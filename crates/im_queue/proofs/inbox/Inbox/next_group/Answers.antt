@@ -1,8 +1,8 @@
 use Rattle.std.proofs.Common.{arith}
-use Rattle.im_queue.proofs.Taking.{taken_next}
+use Rattle.im_queue.proofs.{inbox.Inbox.next_group.Goals.else-loop-element-test}
+use Rattle.im_queue.proofs.{inbox.Inbox.next_group.Goals.then-loop-element-test+else-len-most+else-len-ge-MAX_GROUP+then-not-gather}
+use Rattle.im_queue.proofs.{inbox.Inbox.next_group.Goals.then-loop-element-test+then-len-most, Taking.taken_next}
 use Rattle.im_queue.proofs.inbox.Inbox.next_group.Goals as goal
-use Rattle.im_queue.proofs.inbox.Inbox.next_group.Goals.{else-loop-element-test, then-loop-element-test+then-len-most}
-use Rattle.im_queue.proofs.inbox.Inbox.next_group.Goals.{then-loop-element-test+else-len-most+else-len-ge-MAX_GROUP+then-not-gather}
 
 pub loop-element-preserved : goal.loop-element-preserved
 loop-element-preserved g c = (

@@ -1,9 +1,8 @@
-use Rattle.std.proofs.Common.{rules, ◌<◌, Some, arith}
-use Rattle.im_types.specs.Records.{FitsPlace}
+use Rattle.std.proofs.Common.{◌<◌, Some, arith, rules}
+use Rattle.im_types.specs.Types.{FitsPlace}
 use Rattle.im_records.proofs.WindowLemmas.{fit_set}
-use Rattle.im_records.proofs.window.WindowRecord.push.Goals as goal
 
-pub invariant_of-self : goal.invariant_of-self
+pub invariant_of-self : Rattle.im_records.proofs.window.WindowRecord.push.Goals.invariant_of-self
 invariant_of-self c =
     let fits : FitsPlace (Some c.args.kept) = search rules in
     let room : c.self.inside.count < 64 = search rules in

@@ -1,7 +1,6 @@
-use Rattle.std.proofs.Common.{◌∙◌, ◌++◌, ◌∷◌, [], List, ap, refl}
+use Rattle.std.proofs.Common.{List, [], ◌∷◌, ◌++◌, refl, ap, ◌∙◌}
 use Rattle.im_serving.specs.Elements.{Asked}
-use Rattle.im_run.specs.Orders.{ask_of}
-use Rattle.im_run.proofs.DoingLemmas.{part_added, part_refused}
+use Rattle.im_run.{proofs.DoingLemmas.part_added, proofs.DoingLemmas.part_refused, specs.Orders.ask_of}
 use Rattle.im_run.proofs.parts.Parts.make.Goals as goal
 
 pub returns-then-is_err-clause-made : goal.returns-then-is_err-clause-made

@@ -1,8 +1,6 @@
-use Rattle.std.proofs.Common.{◌∙◌, ◌++◌, List, inr, ap, subst, sym}
-use Rattle.im_run.specs.declared.served.Did.{Did}
-use Rattle.im_run.specs.Doing.{HaveSeen}
-use Rattle.im_run.proofs.DoingLemmas.{ports_front, ports_last}
-use Rattle.im_run.proofs.OrdersLemmas.{grown}
+use Rattle.std.proofs.Common.{List, ◌++◌, sym, ap, ◌∙◌, subst, inr}
+use Rattle.im_run.proofs.{DoingLemmas.ports_front, DoingLemmas.ports_last, OrdersLemmas.grown}
+use Rattle.im_run.specs.{declared.served.Did.Did, Doing.HaveSeen}
 use Rattle.im_run.proofs.port_notes.PortNotes.add.Goals as goal
 
 pub returns-in-Ok-clause-ports : goal.returns-in-Ok-clause-ports

@@ -1,11 +1,8 @@
-use Rattle.std.proofs.Common.{◌≡◌, ◌∙◌, ℕ, List, ap, subst, sym}
-use Rattle.im_serving.specs.declared.glances.Glanced.{Glanced}
-use Rattle.im_serving.specs.Elements.{End}
-use Rattle.im_run.specs.Doing.{NotesEnd, told_among}
-use Rattle.im_run.proofs.DoingLemmas.{end_added}
-use Rattle.im_run.proofs.port_notes.PortNotes.take.Goals as goal
+use Rattle.std.proofs.Common.{◌≡◌, ℕ, List, sym, ap, ◌∙◌, subst}
+use Rattle.im_serving.specs.{declared.Glanced.Glanced, Elements.End}
+use Rattle.im_run.{proofs.DoingLemmas.end_added, specs.Doing.NotesEnd, specs.Doing.told_among}
 
-pub returns-in-Ok-clause-noted : goal.returns-in-Ok-clause-noted
+pub returns-in-Ok-clause-noted : Rattle.im_run.proofs.port_notes.PortNotes.take.Goals.returns-in-Ok-clause-noted
 returns-in-Ok-clause-noted g c =
     let p = c.done.inside in
     let d : End = record {

@@ -1,14 +1,9 @@
-use Rattle.std.proofs.Common.{rules, arith, ◌≡◌, ◌∙◌, true, Bor, List, ℕ, ap, subst, take}
-use Rattle.std.specs.Prelude.{Option}
-use Rattle.std.specs.Char.{is_ascii}
-use Rattle.std.specs.List.{list_all}
-use Rattle.im_script.specs.declared.script.Heard.{Heard}
-use Rattle.im_script.specs.Grammar.{is_short, texts}
-use Rattle.im_script.specs.Script.{Draft, HearsAs, draft_of}
-use Rattle.im_script.proofs.WordLemmas.{heard_by}
-use Rattle.im_script.proofs.reader.Reader.hear_any.Goals as goal
+use Rattle.std.proofs.Common.{◌≡◌, ℕ, true, List, take, Option, ap, ◌∙◌, subst, arith, Bor, rules}
+use Rattle.std.specs.{Char.is_ascii, List.list_all}
+use Rattle.im_script.{proofs.WordLemmas.heard_by, specs.Script.Draft, specs.Script.draft_of, specs.Script.HearsAs}
+use Rattle.im_script.specs.{declared.script.Heard.Heard, Grammar.is_short, Grammar.texts}
 
-pub returns : goal.returns
+pub returns : Rattle.im_script.proofs.reader.Reader.hear_any.Goals.returns
 returns c =
     let P : Option (Draft × Heard) → Type 0 = λ n. HearsAs c.hear_words.result n
     (draft_of c.hear_words.new.self) in

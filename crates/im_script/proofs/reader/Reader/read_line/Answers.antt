@@ -1,14 +1,9 @@
-use Rattle.std.proofs.Common.{rules, arith, ◌≡◌, ◌∙◌, true, Bor, List, ℕ, ap, subst, take}
-use Rattle.std.specs.Prelude.{Option}
-use Rattle.std.specs.Char.{is_ascii}
-use Rattle.std.specs.List.{list_all}
-use Rattle.im_script.specs.declared.script.Said.{Said}
-use Rattle.im_script.specs.Grammar.{is_short, texts}
-use Rattle.im_script.specs.Script.{Draft, SaysAs, draft_of}
-use Rattle.im_script.proofs.WordLemmas.{counted_by}
-use Rattle.im_script.proofs.reader.Reader.read_line.Goals as goal
+use Rattle.std.proofs.Common.{◌≡◌, ℕ, true, List, take, Option, ap, ◌∙◌, subst, arith, Bor, rules}
+use Rattle.std.specs.{Char.is_ascii, List.list_all}
+use Rattle.im_script.{proofs.WordLemmas.counted_by, specs.Script.Draft, specs.Script.draft_of, specs.Script.SaysAs}
+use Rattle.im_script.specs.{declared.script.Said.Said, Grammar.is_short, Grammar.texts}
 
-pub returns : goal.returns
+pub returns : Rattle.im_script.proofs.reader.Reader.read_line.Goals.returns
 returns c =
     let P : Option (Draft × Said) → Type 0 = λ n. SaysAs c.take_words.result n
     (draft_of c.take_words.new.self) in

@@ -1,4 +1,4 @@
-use Rattle.std.proofs.Common.{◌∙◌, ◌-◌, ap, arith}
+use Rattle.std.proofs.Common.{◌-◌, ap, ◌∙◌, arith}
 use Rattle.im_serial.proofs.SettledLemmas.{counted_all, counted_more}
 use Rattle.im_serial.proofs.past.Past.settled.Goals as goal
 

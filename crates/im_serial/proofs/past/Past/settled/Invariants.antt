@@ -1,6 +1,5 @@
 use Rattle.std.proofs.Common.{◌≡◌, take}
 use Rattle.im_serial.specs.Had.{numbers_settled}
-use Rattle.im_serial.proofs.past.Past.settled.Given as goal
 
-abbrev pub invariant-loop-element : goal.invariant-loop-element
+abbrev pub invariant-loop-element : Rattle.im_serial.proofs.past.Past.settled.Given.invariant-loop-element
 invariant-loop-element l = l.many.items ≡ take l.element (numbers_settled l.memory.contents)

@@ -1,19 +1,11 @@
-use Rattle.std.proofs.Common.{◌≡◌, ◌∙◌, ◌++◌, [], ◌∷◌, ℕ, List, length, sym, ap, subst}
-use Rattle.std.specs.Prelude.{Ok, Some, slice_get}
-use Rattle.im_types.specs.declared.commands.Command.TheVariants.{Request as Asks}
-use Rattle.im_types.specs.declared.commands.Outcome.TheVariants.{Entry as Tells}
-use Rattle.im_types.specs.declared.operations.Entry.TheVariants.{Waiting}
-use Rattle.im_types.specs.Step.{asker}
-use Rattle.im_session.specs.Kept.{SessionState}
-use Rattle.im_session.proofs.ServedLemmas.{command_refused, command_served}
-use Rattle.im_text.specs.declared.lines.Lines.{Lines}
-use Rattle.im_text.specs.declared.replies.Waited.{Waited}
-use Rattle.im_serial.specs.declared.waits.Mark.{Mark}
-use Rattle.im_serial.specs.declared.waits.Mark.TheVariants.{Here}
-use Rattle.im_serial.specs.Noted.{mark_place, noted_if}
-use Rattle.im_serial.specs.Serving.{EndsAt, Passes, seen_by, server_of}
+use Rattle.std.proofs.Common.{◌≡◌, ℕ, List, [], ◌∷◌, ◌++◌, length, slice_get, Some, Ok, sym, ap, ◌∙◌, subst}
+use Rattle.im_types.specs.Types.{Waiting, Asks, Tells, asker}
+use Rattle.im_session.{proofs.ServedLemmas.command_refused, proofs.ServedLemmas.command_served, specs.Kept.SessionState}
+use Rattle.im_text.specs.declared.{Lines.Lines, Waited.Waited}
 use Rattle.im_serial.proofs.NotedLemmas.{noted_names}
 use Rattle.im_serial.proofs.ScriptedLemmas.{as_of, asked_passes, refused_ends, told_ends, unnoted_ends, unprinted_ends}
+use Rattle.im_serial.specs.{declared.waits.Mark.Mark, declared.waits.Mark.TheVariants.Here, Noted.mark_place}
+use Rattle.im_serial.specs.{Noted.noted_if, Serving.EndsAt, Serving.Passes, Serving.seen_by, Serving.server_of}
 use Rattle.im_serial.proofs.server.Server.ask.Goals as goal
 
 pub returns-in-Ok-note-clause-serves : goal.returns-in-Ok-note-clause-serves

@@ -1,10 +1,8 @@
-use Rattle.std.proofs.Common.{◌∙◌, ap, length, map, subst, sym}
+use Rattle.std.proofs.Common.{map, length, sym, ap, ◌∙◌, subst}
 use Rattle.im_text.specs.Printing.{who_of}
-use Rattle.im_serial.specs.Noted.{AreKnown, AreLast}
-use Rattle.im_serial.proofs.NotedLemmas.{written_back}
-use Rattle.im_serial.proofs.server.Server.learn_all.Goals as goal
+use Rattle.im_serial.{proofs.NotedLemmas.written_back, specs.Noted.AreKnown, specs.Noted.AreLast}
 
-pub returns-clause-last : goal.returns-clause-last
+pub returns-clause-last : Rattle.im_serial.proofs.server.Server.learn_all.Goals.returns-clause-last
 returns-clause-last g c = λ m put same known.
     let was = c.args.self.now in
     let value = c.as_mut_slice.ensures.value in

@@ -1,11 +1,8 @@
-use Rattle.std.proofs.Common.{◌∙◌, ◌++◌, [], ◌∷◌, List, ℕ, ap, refl}
-use Rattle.std.specs.Prelude.{Ok, true}
-use Rattle.im_types.specs.declared.commands.Outcome.TheVariants.{Entry as Tells}
-use Rattle.im_types.specs.declared.operations.Entry.{Entry}
-use Rattle.im_types.specs.declared.operations.Entry.TheVariants.{Answered}
-use Rattle.im_script.specs.declared.places.Action.TheVariants.{Alloc}
-use Rattle.im_serial.specs.Asked.{base_told}
+use Rattle.std.proofs.Common.{ℕ, true, List, [], ◌∷◌, ◌++◌, Ok, refl, ap, ◌∙◌}
+use Rattle.im_types.specs.Types.{Entry, Answered, Tells}
+use Rattle.im_script.specs.declared.Action.TheVariants.{Alloc}
 use Rattle.im_serial.proofs.ScriptedLemmas.{asked_ends, asked_serves, served_with}
+use Rattle.im_serial.specs.Asked.{base_told}
 use Rattle.im_serial.proofs.server.Server.make_block.Goals as goal
 
 pub returns-in-Err-clause-served : goal.returns-in-Err-clause-served

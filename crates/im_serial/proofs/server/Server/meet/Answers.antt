@@ -1,11 +1,8 @@
-use Rattle.std.proofs.Common.{◌∙◌, [], ◌∷◌, List, ℕ, ap, arith, refl, subst, sym}
-use Rattle.im_types.specs.Contents.{Contents}
-use Rattle.im_types.specs.Window.{bounds}
-use Rattle.im_serial.specs.Had.{met, who_next}
-use Rattle.im_serial.specs.Once.{HasPassed}
-use Rattle.im_serial.specs.Serving.{seen_by}
+use Rattle.std.proofs.Common.{ℕ, List, [], ◌∷◌, sym, refl, ap, ◌∙◌, subst, arith}
+use Rattle.im_types.specs.Types.{Contents, bounds}
 use Rattle.im_serial.proofs.LeftLemmas.{has_some}
 use Rattle.im_serial.proofs.OnceLemmas.{breaks_here, found_of, had_of, meets_refl, passed_had, who_is_next}
+use Rattle.im_serial.specs.{Had.met, Had.who_next, Once.HasPassed, Serving.seen_by}
 use Rattle.im_serial.proofs.server.Server.meet.Goals as goal
 
 pub returns-in-Ok-clause-passed : goal.returns-in-Ok-clause-passed

@@ -1,11 +1,8 @@
-use Rattle.std.proofs.Common.{◌∙◌, [], subst}
-use Rattle.im_session.specs.Kept.{SessionState}
-use Rattle.im_script.specs.Script.{draft_of, lines_of}
-use Rattle.im_serial.specs.Asked.{wanted_by, wanted_in, wanted_of}
-use Rattle.im_serial.specs.Once.{MakesBlocks}
-use Rattle.im_serial.specs.Serving.{seen_by}
+use Rattle.std.proofs.Common.{[], ◌∙◌, subst}
+use Rattle.{im_session.specs.Kept.SessionState, im_script.specs.Script.draft_of, im_script.specs.Script.lines_of}
 use Rattle.im_serial.proofs.OnceLemmas.{breaks_here, line_breaks, line_makes, line_meets, line_names, makes_none}
 use Rattle.im_serial.proofs.OnceLemmas.{makes_some, meets_none, meets_some, names_none, names_some}
+use Rattle.im_serial.specs.{Asked.wanted_by, Asked.wanted_in, Asked.wanted_of, Once.MakesBlocks, Serving.seen_by}
 use Rattle.im_serial.proofs.server.Server.meet_all.Goals as goal
 
 pub returns-in-None : goal.returns-in-None

@@ -1,12 +1,8 @@
-use Rattle.std.specs.Prelude.{◌≡◌, []}
-use Rattle.std.specs.Option.{option_map_or}
+use Rattle.std.{proofs.Common.◌≡◌, proofs.Common.[], specs.Option.option_map_or}
 use Rattle.im_script.specs.Script.{draft_of, lines_of}
-use Rattle.im_serial.specs.Asked.{wanted_in, wanted_of}
-use Rattle.im_serial.specs.Once.{MakesBlocks, Meets, Names}
-use Rattle.im_serial.specs.Serving.{seen_by}
-use Rattle.im_serial.proofs.server.Server.meet_all.Given as goal
+use Rattle.im_serial.specs.{Asked.wanted_in, Asked.wanted_of, Once.MakesBlocks, Once.Meets, Once.Names, Serving.seen_by}
 
-abbrev pub invariant-loop-number : goal.invariant-loop-number
+abbrev pub invariant-loop-number : Rattle.im_serial.proofs.server.Server.meet_all.Given.invariant-loop-number
 invariant-loop-number g l = (l.self.session ≡ l.fn.self.session)
     × (Names l.fn.past.many.items l.fn.past.end (wanted_of l.script) l.past.many.items l.past.end
     (option_map_or (λ text. wanted_in (draft_of l.reader) (lines_of text.now)) l.rest [])

@@ -1,10 +1,7 @@
-use Rattle.std.proofs.Common.{◌∙◌, [], ◌∷◌, List, ℕ, refl, subst, sym}
-use Rattle.std.specs.Prelude.{true}
-use Rattle.im_script.specs.declared.places.Action.TheVariants.{Alloc}
-use Rattle.im_serial.specs.Asked.{Wanted}
-use Rattle.im_serial.specs.Once.{HasPassed, is_had}
-use Rattle.im_serial.specs.Serving.{seen_by}
+use Rattle.std.proofs.Common.{ℕ, true, List, [], ◌∷◌, sym, refl, ◌∙◌, subst}
+use Rattle.im_script.specs.declared.Action.TheVariants.{Alloc}
 use Rattle.im_serial.proofs.OnceLemmas.{makes_block, names_kept, passed_named}
+use Rattle.im_serial.specs.{Asked.Wanted, Once.HasPassed, Once.is_had, Serving.seen_by}
 use Rattle.im_serial.proofs.server.Server.meet_block.Goals as goal
 
 pub returns-in-Err-clause-passed : goal.returns-in-Err-clause-passed

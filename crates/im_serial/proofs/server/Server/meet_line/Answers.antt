@@ -1,5 +1,4 @@
-use Rattle.std.proofs.Common.{refl}
-use Rattle.std.specs.Prelude.{false}
+use Rattle.std.proofs.Common.{false, refl}
 use Rattle.im_serial.proofs.OnceLemmas.{makes_plain}
 use Rattle.im_serial.proofs.server.Server.meet_line.Goals as goal
 

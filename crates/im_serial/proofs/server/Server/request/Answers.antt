@@ -1,8 +1,6 @@
-use Rattle.std.proofs.Common.{◌∷◌, subst, sym}
-use Rattle.im_text.specs.declared.lines.Lines.{Lines}
-use Rattle.im_text.specs.Printing.{Prints}
-use Rattle.im_serial.specs.Asked.{standing}
-use Rattle.im_serial.proofs.ScriptedLemmas.{asked_then, prepared_goes}
+use Rattle.std.proofs.Common.{◌∷◌, sym, subst}
+use Rattle.im_text.specs.{declared.Lines.Lines, Printing.Prints}
+use Rattle.im_serial.{proofs.ScriptedLemmas.asked_then, proofs.ScriptedLemmas.prepared_goes, specs.Asked.standing}
 use Rattle.im_serial.proofs.server.Server.request.Goals as goal
 
 pub returns-in-Ok-clause-serves : goal.returns-in-Ok-clause-serves

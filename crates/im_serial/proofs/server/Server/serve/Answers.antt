@@ -1,9 +1,7 @@
-use Rattle.std.proofs.Common.{[]}
-use Rattle.std.specs.Option.{option_map_or}
+use Rattle.std.{proofs.Common.[], specs.Option.option_map_or}
 use Rattle.im_script.specs.Script.{draft_of, lines_of}
-use Rattle.im_serial.specs.Asked.{wanted_in, wanted_of}
-use Rattle.im_serial.specs.Serving.{seen_by}
 use Rattle.im_serial.proofs.ScriptedLemmas.{ends_here, has_served, line_ends, line_serves, lines_end, lines_left}
+use Rattle.im_serial.specs.{Asked.wanted_in, Asked.wanted_of, Serving.seen_by}
 use Rattle.im_serial.proofs.server.Server.serve.Goals as goal
 
 pub returns-in-None : goal.returns-in-None

@@ -1,5 +1,4 @@
 use Rattle.im_serial.proofs.ScriptedLemmas.{served_then}
-use Rattle.im_serial.proofs.server.Server.serve_and_show.Goals as goal
 
-pub returns-in-Ok : goal.returns-in-Ok
+pub returns-in-Ok : Rattle.im_serial.proofs.server.Server.serve_and_show.Goals.returns-in-Ok
 returns-in-Ok g c = record { served = served_then c.show.result _ _ _ _ _ _ _ c.in-Ok.ensures.served.serves c.show.ensures.served }

@@ -1,5 +1,4 @@
-use Rattle.std.proofs.Common.{◌∙◌, ◌++◌, [], append-nil, ap, refl, sym, List, ℕ}
-use Rattle.std.specs.Prelude.{false}
+use Rattle.std.proofs.Common.{ℕ, false, List, [], ◌++◌, sym, refl, ap, ◌∙◌, append-nil}
 use Rattle.im_script.specs.Places.{action_op}
 use Rattle.im_serial.proofs.ScriptedLemmas.{asked_ends, asked_serves, served_with, unserved}
 use Rattle.im_serial.proofs.server.Server.serve_line.Goals as goal

@@ -1,7 +1,5 @@
-use Rattle.std.proofs.Common.{List, subst, sym}
-use Rattle.im_serial.specs.Asked.{Wanted}
-use Rattle.im_serial.specs.Serving.{HasServed, seen_by}
-use Rattle.im_serial.proofs.ScriptedLemmas.{quiet}
+use Rattle.std.proofs.Common.{List, sym, subst}
+use Rattle.im_serial.{proofs.ScriptedLemmas.quiet, specs.Asked.Wanted, specs.Serving.HasServed, specs.Serving.seen_by}
 use Rattle.im_serial.proofs.server.Server.serve_new.Goals as goal
 
 pub returns-then-has-clause-served : goal.returns-then-has-clause-served

@@ -1,10 +1,7 @@
-use Rattle.std.proofs.Common.{◌∙◌, List, ℕ, ap}
-use Rattle.im_session.specs.Kept.{SessionState}
-use Rattle.im_serial.specs.Asked.{wanted_of}
-use Rattle.im_serial.specs.Had.{news, numbers_had}
-use Rattle.im_text.specs.declared.reasons.Reason.TheVariants.{Memory}
-use Rattle.im_serial.specs.Serving.{seen_by}
+use Rattle.std.proofs.Common.{ℕ, List, ap, ◌∙◌}
+use Rattle.{im_session.specs.Kept.SessionState, im_text.specs.declared.Reason.TheVariants.Memory}
 use Rattle.im_serial.proofs.OnceLemmas.{once_unbegun, shown_ends, shown_serves}
+use Rattle.im_serial.specs.{Asked.wanted_of, Had.news, Had.numbers_had, Serving.seen_by}
 use Rattle.im_serial.proofs.server.Server.serve_once.Goals as goal
 
 pub returns-in-Err : goal.returns-in-Err

@@ -1,9 +1,7 @@
 use Rattle.im_script.specs.Script.{draft_of, lines_of}
-use Rattle.im_serial.specs.Asked.{wanted_in}
-use Rattle.im_serial.specs.Had.{news}
-use Rattle.im_serial.specs.Serving.{seen_by, seen_by, server_of}
-use Rattle.im_serial.proofs.OnceLemmas.{left_some, left_none, news_line, part_ends, part_serves}
+use Rattle.im_serial.proofs.OnceLemmas.{left_none, left_some, news_line, part_ends, part_serves}
 use Rattle.im_serial.proofs.ScriptedLemmas.{ends_here, has_served}
+use Rattle.im_serial.specs.{Asked.wanted_in, Had.news, Serving.seen_by, Serving.server_of}
 use Rattle.im_serial.proofs.server.Server.serve_rest.Goals as goal
 
 pub returns-in-None : goal.returns-in-None

@@ -1,6 +1,5 @@
 use Rattle.std.proofs.Common.{ap}
-use Rattle.im_serial.specs.Asked.{wanted_by}
-use Rattle.im_serial.proofs.ScriptedLemmas.{quiet}
+use Rattle.im_serial.{proofs.ScriptedLemmas.quiet, specs.Asked.wanted_by}
 use Rattle.im_serial.proofs.server.Server.serve_said.Goals as goal
 
 pub returns-in-Nothing : goal.returns-in-Nothing

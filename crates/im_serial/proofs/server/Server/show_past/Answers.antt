@@ -1,11 +1,8 @@
-use Rattle.std.proofs.Common.{inl, ◌∙◌, [], List, ℕ, ap, subst}
-use Rattle.im_types.specs.Contents.{Contents}
-use Rattle.im_serial.specs.Asked.{wanted_of}
-use Rattle.im_serial.specs.Had.{numbers_had}
-use Rattle.im_serial.specs.Once.{Breaks, MakesBlocks, Meets, Names}
-use Rattle.im_serial.specs.Fitting.{FitsScript}
-use Rattle.im_serial.specs.Serving.{seen_by}
+use Rattle.std.proofs.Common.{ℕ, List, [], ap, ◌∙◌, subst, inl}
+use Rattle.im_types.specs.Types.{Contents}
 use Rattle.im_serial.proofs.OnceLemmas.{breaks_here, either_way, meets_refl, shown_by}
+use Rattle.im_serial.specs.{Asked.wanted_of, Fitting.FitsScript, Had.numbers_had, Serving.seen_by}
+use Rattle.im_serial.specs.Once.{Breaks, MakesBlocks, Meets, Names}
 use Rattle.im_serial.proofs.server.Server.show_past.Goals as goal
 
 pub returns-in-Err-clause-shown : goal.returns-in-Err-clause-shown

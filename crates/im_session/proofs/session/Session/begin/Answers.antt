@@ -1,4 +1,4 @@
-use Rattle.std.proofs.Common.{◌∙◌, ap, refl}
+use Rattle.std.proofs.Common.{refl, ap, ◌∙◌}
 use Rattle.im_memory.specs.State.{MemoryState}
 use Rattle.im_session.proofs.KeptLemmas.{kept_begun}
 use Rattle.im_session.proofs.session.Session.begin.Goals as goal

@@ -1,6 +1,6 @@
-use Rattle.std.proofs.Common.{◌∙◌, [], refl}
-use Rattle.im_turning.specs.Turning.{point_of}
+use Rattle.std.proofs.Common.{[], refl, ◌∙◌}
 use Rattle.im_turning.proofs.TurningLemmas.{idle_there, turn_leads, turned_more}
+use Rattle.im_turning.specs.Turning.{point_of}
 use Rattle.im_session.proofs.RoomLemmas.{broken, rests_none, rests_then, turn_works}
 use Rattle.im_session.proofs.session.Session.make_room.Goals as goal
 

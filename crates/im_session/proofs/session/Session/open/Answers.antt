@@ -1,4 +1,4 @@
-use Rattle.std.proofs.Common.{◌∙◌, ap, refl}
+use Rattle.std.proofs.Common.{refl, ap, ◌∙◌}
 use Rattle.im_session.specs.Kept.{SessionState}
 use Rattle.im_session.proofs.session.Session.open.Goals as goal
 

@@ -1,8 +1,6 @@
-use Rattle.std.proofs.Common.{◌≡◌, List, take, subst, arith, rules}
-use Rattle.std.proofs.lemmas.List.{take_all}
-use Rattle.im_session.specs.declared.events.Event.{Event}
-use Rattle.im_session.specs.Events.{AnsweredInTurn, after_events}
+use Rattle.std.proofs.Common.{◌≡◌, List, take, subst, arith, take_all, rules}
 use Rattle.im_session.proofs.EventLemmas.{in_turn_fails, run_more, run_none}
+use Rattle.im_session.specs.{declared.events.Event.Event, Events.after_events, Events.AnsweredInTurn}
 use Rattle.im_session.proofs.session.Session.run.Goals as goal
 
 pub loop-event-init : goal.loop-event-init

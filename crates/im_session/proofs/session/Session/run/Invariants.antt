@@ -1,9 +1,7 @@
 use Rattle.std.proofs.Common.{◌≡◌, ◌≤◌, length, vec_capacity}
-use Rattle.im_session.specs.Kept.{Kept}
-use Rattle.im_session.proofs.EventLemmas.{HasRun}
-use Rattle.im_session.proofs.session.Session.run.Given as goal
+use Rattle.im_session.{proofs.EventLemmas.HasRun, specs.Kept.Kept}
 
-abbrev pub invariant-loop-event : goal.invariant-loop-event
+abbrev pub invariant-loop-event : Rattle.im_session.proofs.session.Session.run.Given.invariant-loop-event
 invariant-loop-event g l = record {
   kept : Kept g.D.Disk l.fn.self;
   size : length l.answers.items ≡ l.event-index;

@@ -1,7 +1,6 @@
-use Rattle.std.proofs.Common.{◌∙◌, ap, refl}
+use Rattle.std.proofs.Common.{refl, ap, ◌∙◌}
 use Rattle.im_memory.specs.State.{MemoryState}
-use Rattle.im_session.proofs.CallLemmas.{commands_go}
-use Rattle.im_session.proofs.KeptLemmas.{keeps_on, kept_on, whole_on}
+use Rattle.im_session.proofs.{CallLemmas.commands_go, KeptLemmas.keeps_on, KeptLemmas.kept_on, KeptLemmas.whole_on}
 use Rattle.im_session.proofs.session.Session.serve_commands_kept.Goals as goal
 
 pub invariant_of-self : goal.invariant_of-self

@@ -1,13 +1,8 @@
-use Rattle.std.proofs.Common.{◌≡◌, List, map, ◌∙◌, ap, subst}
-use Rattle.im_types.specs.declared.commands.Request.{Request}
-use Rattle.im_types.specs.declared.commands.Command.TheVariants.{Request as Asks}
-use Rattle.im_laws.specs.Groups.{IsCounted}
-use Rattle.im_engine.specs.State.{EngineState}
-use Rattle.im_engine.specs.Groups.{reached_in, GroupAnswered}
-use Rattle.im_session.specs.declared.events.Event.TheVariants.{Group as Together}
-use Rattle.im_session.specs.declared.events.Answer.TheVariants.{Grouped}
-use Rattle.im_session.specs.Events.{after_event}
-use Rattle.im_session.proofs.EventLemmas.{group_answered, group_event}
+use Rattle.std.proofs.Common.{◌≡◌, List, map, ap, ◌∙◌, subst}
+use Rattle.{im_types.specs.Types.Request, im_types.specs.Types.Asks, im_laws.specs.Groups.IsCounted}
+use Rattle.im_engine.specs.{Groups.GroupAnswered, Groups.reached_in, State.EngineState}
+use Rattle.im_session.{proofs.EventLemmas.group_answered, proofs.EventLemmas.group_event, specs.Events.after_event}
+use Rattle.im_session.specs.declared.events.{Answer.TheVariants.Grouped, Event.TheVariants.Group as Together}
 use Rattle.im_session.proofs.session.Session.take_group.Goals as goal
 
 pub returns-clause-answered : goal.returns-clause-answered

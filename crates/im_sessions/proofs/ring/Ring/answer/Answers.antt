@@ -1,4 +1,4 @@
-use Rattle.std.proofs.Common.{rules, arith}
+use Rattle.std.proofs.Common.{arith, rules}
 use Rattle.im_sessions.proofs.RingLemmas.{IsWindow-window_of, window_of-answer}
 use Rattle.im_sessions.proofs.ring.Ring.answer.Goals as goal
 

@@ -1,8 +1,7 @@
-use Rattle.std.proofs.Common.{rules, arith}
+use Rattle.std.proofs.Common.{arith, rules}
 use Rattle.im_sessions.proofs.RingLemmas.{slice_get-window}
-use Rattle.im_sessions.proofs.ring.Ring.at.Goals as goal
 
-pub returns : goal.returns
+pub returns : Rattle.im_sessions.proofs.ring.Ring.at.Goals.returns
 returns c =
     let r = c.self.inside in
     slice_get-window r.places r.base r.count c.args.number c.place_of.result _ _ (search rules) c.self.view_is

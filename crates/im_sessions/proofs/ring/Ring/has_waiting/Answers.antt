@@ -1,4 +1,4 @@
-use Rattle.std.proofs.Common.{◌≡◌, ap, sym, ◌∙◌, arith}
+use Rattle.std.proofs.Common.{◌≡◌, sym, ap, ◌∙◌, arith}
 use Rattle.im_sessions.proofs.RingLemmas.{list_any-next, list_any-some}
 use Rattle.im_sessions.proofs.ring.Ring.has_waiting.Goals as goal
 

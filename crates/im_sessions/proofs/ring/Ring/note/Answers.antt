@@ -1,4 +1,4 @@
-use Rattle.std.proofs.Common.{rules, arith}
+use Rattle.std.proofs.Common.{arith, rules}
 use Rattle.im_sessions.proofs.RingLemmas.{IsShown-window_of, IsWindow-window_of, window_of-note}
 use Rattle.im_sessions.proofs.ring.Ring.note.Goals as goal
 

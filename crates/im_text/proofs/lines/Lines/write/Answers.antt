@@ -1,6 +1,6 @@
-use Rattle.std.proofs.Common.{◌≡◌, ◌∙◌, ℕ, List, length, take, true, refl, sym, ap, subst}
+use Rattle.std.proofs.Common.{◌≡◌, ℕ, true, List, length, take, sym, refl, ap, ◌∙◌, subst}
 use Rattle.std.specs.Io.KnownBytes.{Appends}
-use Rattle.im_text.proofs.PrintingLemmas.{prints_written, on_ok_is, drop_all, true_false}
+use Rattle.im_text.proofs.PrintingLemmas.{drop_all, on_ok_is, prints_written, true_false}
 use Rattle.im_text.proofs.lines.Lines.write.Goals as goal
 
 pub returns-in-Ok-clause-on : goal.returns-in-Ok-clause-on

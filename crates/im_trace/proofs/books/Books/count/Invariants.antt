@@ -1,7 +1,5 @@
-use Rattle.std.proofs.Common.{[], ◌∷◌}
-use Rattle.std.specs.Prelude.{count_by}
-use Rattle.im_trace.proofs.books.Books.count.Given as goal
+use Rattle.std.proofs.Common.{[], ◌∷◌, count_by}
 
 -- one, where the line is marked
-abbrev pub ghost-note_line : goal.ghost-note_line
+abbrev pub ghost-note_line : Rattle.im_trace.proofs.books.Books.count.Given.ghost-note_line
 ghost-note_line g a = count_by g.K.Name.origin.marks (a.line.now ∷ [])

@@ -1,7 +1,6 @@
-use Rattle.std.proofs.Common.{sym, ◌∙◌, ap, refl, ◌++◌, ◌∷◌, [], List, ℕ, length}
-use Rattle.im_types.specs.declared.commands.Line.{Line}
-use Rattle.im_trace.specs.declared.rule.Link.{Link}
-use Rattle.im_trace.proofs.ChainLemmas.{add_moves, added}
+use Rattle.std.proofs.Common.{ℕ, List, [], ◌∷◌, ◌++◌, length, sym, refl, ap, ◌∙◌}
+use Rattle.im_types.specs.Types.{Line}
+use Rattle.im_trace.{proofs.ChainLemmas.add_moves, proofs.ChainLemmas.added, specs.declared.rule.Link.Link}
 use Rattle.im_trace.proofs.chain.Chain.add.Goals as goal
 
 pub compare_exchange-zero-requires : goal.compare_exchange-zero-requires

@@ -1,8 +1,7 @@
+use Rattle.im_trace.proofs.ChainLemmas.{first-prefix, known, prefix-trans}
 use Rattle.im_trace.specs.Chains.{lines_from}
-use Rattle.im_trace.proofs.ChainLemmas.{known, first-prefix, prefix-trans}
-use Rattle.im_trace.proofs.chain.Chain.knows.Goals as goal
 
-pub returns-clause-known : goal.returns-clause-known
+pub returns-clause-known : Rattle.im_trace.proofs.chain.Chain.knows.Goals.returns-clause-known
 returns-clause-known g c =
     let root = g.K.Name.origin.book.lines.root in let other = c.prefix.inside.seen.log in
     rw (← c.prefix.view_is, ← c.self.view_is)

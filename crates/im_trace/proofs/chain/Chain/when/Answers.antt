@@ -1,9 +1,8 @@
-use Rattle.std.proofs.Common.{ap, ◌∙◌, ◌≤◌, ◌≡◌, ℕ, sym, subst, length, arith}
-use Rattle.im_trace.specs.Chains.{lines_from, times_from, ChainState}
+use Rattle.std.proofs.Common.{◌≡◌, ℕ, ◌≤◌, length, sym, ap, ◌∙◌, subst, arith}
 use Rattle.im_trace.proofs.ChainLemmas.{times-length}
-use Rattle.im_trace.proofs.chain.Chain.when.Goals as goal
+use Rattle.im_trace.specs.Chains.{ChainState, lines_from, times_from}
 
-pub invariant_of-result : goal.invariant_of-result
+pub invariant_of-result : Rattle.im_trace.proofs.chain.Chain.when.Goals.invariant_of-result
 invariant_of-result g c =
     let root = g.K.Name.origin.book.lines.root in let log = c.self.inside.seen.log in
     let few : c.args.count ≤ length (lines_from root log) =

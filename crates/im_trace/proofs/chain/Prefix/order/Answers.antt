@@ -1,8 +1,6 @@
-use Rattle.im_trace.specs.Chains.{lines_from}
-use Rattle.im_trace.proofs.ChainLemmas.{ordered, first-prefix}
-use Rattle.im_trace.proofs.chain.Prefix.order.Goals as goal
+use Rattle.im_trace.{proofs.ChainLemmas.first-prefix, proofs.ChainLemmas.ordered, specs.Chains.lines_from}
 
-pub returns-clause-order : goal.returns-clause-order
+pub returns-clause-order : Rattle.im_trace.proofs.chain.Prefix.order.Goals.returns-clause-order
 returns-clause-order g c =
     let root = g.K.Name.origin.book.lines.root in
     rw (← c.self.view_is, ← c.other.view_is)

@@ -1,9 +1,8 @@
-use Rattle.std.proofs.Common.{◌∙◌, ◌<◌, sym, subst, arith, List, Option, length, sum_by}
-use Rattle.im_trace.specs.Log.{UnclaimedState, AreClaimed, unclaimed_lines}
+use Rattle.std.proofs.Common.{◌<◌, List, length, sum_by, Option, sym, ◌∙◌, subst, arith}
 use Rattle.im_trace.proofs.LogLemmas.{log-claimed}
-use Rattle.im_trace.proofs.ending.Ended.of.Goals as goal
+use Rattle.im_trace.specs.Log.{AreClaimed, unclaimed_lines, UnclaimedState}
 
-pub invariant_of-result : goal.invariant_of-result
+pub invariant_of-result : Rattle.im_trace.proofs.ending.Ended.of.Goals.invariant_of-result
 invariant_of-result g c =
     let r = c.reserve.invariant in
     let is = c.log.invariant in

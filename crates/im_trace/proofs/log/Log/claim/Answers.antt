@@ -1,16 +1,11 @@
-use Rattle.std.proofs.Common.{◌≡◌, ◌≤◌, Some, Result, subst, sym, ap, ◌∙◌, length, arith, List, take}
-use Rattle.im_types.specs.declared.commands.Line.{Line}
-use Rattle.im_types.specs.declared.refusals.Refusal.{Refusal}
-use Rattle.im_trace.specs.Lines.{counts_after, left_lines, AreInOrder, WhenState, time_at}
-use Rattle.im_trace.specs.Log.{UnclaimedState, TimedLog, StandsInTrace, IsToldOf, IsOfTrace, ReceiptState}
-use Rattle.im_trace.specs.Log.{unclaimed_lines, receipt_for, IsBefore, IsTimed}
-use Rattle.im_types.specs.declared.commands.Command.{Command}
-use Rattle.im_types.specs.declared.commands.Call.TheVariants.{Command as Commands}
-use Rattle.im_trace.proofs.SeenLemmas.{claimed-follows}
-use Rattle.im_trace.proofs.ToldLemmas.{told-earlier}
-use Rattle.im_trace.proofs.LogLemmas.{log-claims, all-get, receipt-of_trace, waiting-within, waiting-history}
-use Rattle.im_trace.proofs.LogLemmas.{waiting-length, receipt-timed}
-use Rattle.im_trace.proofs.LogLemmas.{waiting-proof}
+use Rattle.std.proofs.Common.{◌≡◌, ◌≤◌, List, length, take, Some, Result, sym, ap, ◌∙◌, subst, arith}
+use Rattle.im_types.specs.Types.{Command, Line, Commands, Refusal}
+use Rattle.im_trace.proofs.LogLemmas.{all-get, log-claims, receipt-of_trace, receipt-timed, waiting-history}
+use Rattle.im_trace.proofs.LogLemmas.{waiting-length, waiting-proof, waiting-within}
+use Rattle.im_trace.proofs.{SeenLemmas.claimed-follows, ToldLemmas.told-earlier}
+use Rattle.im_trace.specs.Lines.{AreInOrder, counts_after, left_lines, time_at, WhenState}
+use Rattle.im_trace.specs.Log.{IsBefore, IsOfTrace, IsTimed, IsToldOf, receipt_for, ReceiptState, StandsInTrace}
+use Rattle.im_trace.specs.Log.{TimedLog, unclaimed_lines, UnclaimedState}
 use Rattle.im_trace.proofs.log.Log.claim.Goals as goal
 
 pub first-history-requires : goal.first-history-requires

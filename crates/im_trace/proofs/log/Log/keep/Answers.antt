@@ -1,10 +1,8 @@
-use Rattle.std.proofs.Common.{◌≡◌, ◌<◌, ◌++◌, true, Some, None, subst, sym, ap, ◌∙◌, length, slice_get}
-use Rattle.im_types.specs.declared.commands.Call.TheVariants.{Command as Commands}
-use Rattle.im_types.specs.Trace.{answer_to, end_of}
+use Rattle.std.proofs.Common.{◌≡◌, ◌<◌, true, ◌++◌, length, slice_get, Some, None, sym, ap, ◌∙◌, subst}
+use Rattle.im_types.specs.Types.{Commands, answer_to, end_of}
+use Rattle.im_trace.proofs.LogLemmas.{end-lines, log-keeps}
+use Rattle.im_trace.specs.{Ends.RecordState, Log.LogState, Log.sender_of, Log.TimedLog}
 use Rattle.im_trace.specs.Lines.{leaves_line, left_lines, memory_after, times_of}
-use Rattle.im_trace.specs.Ends.{RecordState}
-use Rattle.im_trace.specs.Log.{sender_of, LogState, TimedLog}
-use Rattle.im_trace.proofs.LogLemmas.{log-keeps, end-lines}
 use Rattle.im_trace.proofs.log.Log.keep.Goals as goal
 
 pub invariant_of-self : goal.invariant_of-self

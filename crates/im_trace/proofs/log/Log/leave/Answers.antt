@@ -1,10 +1,8 @@
-use Rattle.std.proofs.Common.{◌≡◌, ◌<◌, ◌++◌, true, subst, sym, ap, ◌∙◌, length}
-use Rattle.im_types.specs.Trace.{answer_to, end_of}
+use Rattle.std.proofs.Common.{◌≡◌, ◌<◌, true, ◌++◌, length, sym, ap, ◌∙◌, subst}
+use Rattle.im_types.specs.Types.{answer_to, end_of}
+use Rattle.im_trace.proofs.{LogLemmas.end-lines, LogLemmas.log-leaves, TimeLemmas.time-last}
+use Rattle.im_trace.specs.{Ends.RecordState, Log.LogState, Log.TimedLog}
 use Rattle.im_trace.specs.Lines.{leaves_line, left_lines, memory_after, times_of}
-use Rattle.im_trace.specs.Ends.{RecordState}
-use Rattle.im_trace.proofs.TimeLemmas.{time-last}
-use Rattle.im_trace.specs.Log.{LogState, TimedLog}
-use Rattle.im_trace.proofs.LogLemmas.{log-leaves, end-lines}
 use Rattle.im_trace.proofs.log.Log.leave.Goals as goal
 
 pub invariant_of-self : goal.invariant_of-self

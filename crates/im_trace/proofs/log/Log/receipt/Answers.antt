@@ -1,9 +1,8 @@
 use Rattle.std.proofs.Common.{ap}
-use Rattle.im_types.specs.declared.commands.Call.TheVariants.{Command as Commands}
+use Rattle.im_types.specs.Types.{Commands}
 use Rattle.im_trace.proofs.LogLemmas.{proof-at_end}
-use Rattle.im_trace.proofs.log.Log.receipt.Goals as goal
 
-pub receipt_of-requires : goal.receipt_of-requires
+pub receipt_of-requires : Rattle.im_trace.proofs.log.Log.receipt.Goals.receipt_of-requires
 receipt_of-requires g c =
     rw c.prefix.ensures.same (record {
       proof = proof-at_end g.K.Name.origin.memory c.args.self.now.state.trace

@@ -1,9 +1,7 @@
 use Rattle.std.proofs.Common.{refl, ap}
-use Rattle.im_trace.specs.Lines.{LineCounts}
-use Rattle.im_trace.proofs.LogLemmas.{log-starts}
-use Rattle.im_trace.proofs.starting.NewLog.named.Goals as goal
+use Rattle.im_trace.{proofs.LogLemmas.log-starts, specs.Lines.LineCounts}
 
-pub invariant_of-log : goal.invariant_of-log
+pub invariant_of-log : Rattle.im_trace.proofs.starting.NewLog.named.Goals.invariant_of-log
 invariant_of-log g c =
     let i = c.self.invariant in
     let books = c.open_books-books.ensures.books in

@@ -1,11 +1,9 @@
-use Rattle.std.proofs.Common.{◌≡◌, ◌∙◌, ℕ, ap, subst}
+use Rattle.std.proofs.Common.{◌≡◌, ℕ, ap, ◌∙◌, subst}
+use Rattle.im_trace.proofs.ChainLemmas.{first-prefix, known, prefix-trans}
+use Rattle.im_trace.specs.{Books.LinesBook, Chains.lines_from, Chains.WrittenState}
 use mathlib.Core.List.{IsPrefix}
-use Rattle.im_trace.specs.Books.{LinesBook}
-use Rattle.im_trace.specs.Chains.{lines_from, WrittenState}
-use Rattle.im_trace.proofs.ChainLemmas.{known, first-prefix, prefix-trans}
-use Rattle.im_trace.proofs.when.Written.knows.Goals as goal
 
-pub returns-clause-known : goal.returns-clause-known
+pub returns-clause-known : Rattle.im_trace.proofs.when.Written.knows.Goals.returns-clause-known
 returns-clause-known g c =
     let mine = c.self.inside.first.value.nib.key in let root = g.K.Name.origin.book.lines.root in
     let log = c.self.inside.seen.log in let other = c.prefix.inside.seen.log in

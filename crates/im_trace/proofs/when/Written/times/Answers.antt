@@ -1,12 +1,9 @@
-use Rattle.std.proofs.Common.{◌≡◌, ◌∙◌, ℕ, ap, subst}
+use Rattle.std.proofs.Common.{◌≡◌, ℕ, ap, ◌∙◌, subst}
+use Rattle.im_trace.proofs.{ChainLemmas.known, TimeLemmas.time-later}
+use Rattle.im_trace.specs.{Books.LinesBook, Chains.times_from, Chains.WrittenState}
 use mathlib.Core.List.{IsPrefix}
-use Rattle.im_trace.specs.Books.{LinesBook}
-use Rattle.im_trace.specs.Chains.{times_from, WrittenState}
-use Rattle.im_trace.proofs.ChainLemmas.{known}
-use Rattle.im_trace.proofs.TimeLemmas.{time-later}
-use Rattle.im_trace.proofs.when.Written.times.Goals as goal
 
-pub returns-clause-time : goal.returns-clause-time
+pub returns-clause-time : Rattle.im_trace.proofs.when.Written.times.Goals.returns-clause-time
 returns-clause-time g c =
     let mine = c.self.inside.first.value.nib.key in let root = g.K.Name.origin.book.lines.root in
     let log = c.self.inside.seen.log in let other = c.when.inside.seen.log in
