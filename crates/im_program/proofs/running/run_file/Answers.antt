@@ -26,4 +26,4 @@ returns-clause-named g c = λ honest. c.in_ok-disk.ensures.named (c.run_task.ens
 
 pub returns-clause-recorded : goal.returns-clause-recorded
 returns-clause-recorded g c = λ asked.
-    c.run_task.ensures.recorded (c.new-context.ensures ∙ c.is_some.ensures ∙ asked)
+    c.run_task.ensures.recorded (c.new-context.ensures.recorded ∙ c.is_some.ensures ∙ asked)
