@@ -12,8 +12,8 @@ returns-clause-answered g c =
     let were = c.copy_members.ensures ∙ c.as_slice.ensures.value ∙ c.ahead-2.ensures
     ∙ ap (λ (s : EngineState g.row.D.Denot). s.ahead) c.engine.ensures.state in
     subst (λ (l : List Request). EventAnswered old.engine (Ahead l)
-    (Advanced c.copy_members.new.ahead e.result e.new.served) e.new.self.engine) c.requests.ensures.found
-    (ahead_answered old e.new.self c.requests.result.now.items c.commands_of.new.next.items c.copy_members.new.ahead
+    (Advanced c.copy_members.new.copies e.result e.new.served) e.new.self.engine) c.requests.ensures.found
+    (ahead_answered old e.new.self c.requests.result.now.items c.commands_of.new.commands.items c.copy_members.new.copies
     e.result e.new.served (c.commands_of.ensures ∙ ap (map Asks) c.as_slice-2.ensures.value) were e.ensures.answered
     e.ensures.takes)
 
@@ -24,8 +24,8 @@ returns-clause-put g c =
     let were = c.copy_members.ensures ∙ c.as_slice.ensures.value ∙ c.ahead-2.ensures
     ∙ ap (λ (s : EngineState g.row.D.Denot). s.ahead) c.engine.ensures.state in
     subst (λ (l : List Request). e.new.self
-    ≡ after_event old (Ahead l) (Advanced c.copy_members.new.ahead e.result e.new.served) e.new.self.engine)
+    ≡ after_event old (Ahead l) (Advanced c.copy_members.new.copies e.result e.new.served) e.new.self.engine)
     c.requests.ensures.found
-    (ahead_event old e.new.self c.requests.result.now.items c.commands_of.new.next.items c.copy_members.new.ahead
+    (ahead_event old e.new.self c.requests.result.now.items c.commands_of.new.commands.items c.copy_members.new.copies
     e.result e.new.served (c.commands_of.ensures ∙ ap (map Asks) c.as_slice-2.ensures.value) were e.ensures.answered
     e.ensures.takes e.ensures.put)
