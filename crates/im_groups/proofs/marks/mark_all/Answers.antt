@@ -1,4 +1,4 @@
-use Rattle.std.proofs.Common.{List, take, subst, arith, take_all}
+use Rattle.std.proofs.Common.{List, subst, arith, take_all}
 use Rattle.im_types.specs.Types.{Command}
 use Rattle.im_groups.{proofs.MarkLemmas.marked-all, specs.Marks.HaveMarks}
 use Rattle.im_groups.proofs.marks.mark_all.Goals as goal
