@@ -19,7 +19,7 @@ returns-then-self-clause-answered g c =
     subst (λ (s : EngineState g.row.D.Denot). Advances s c.args.next.now.items (Err Failed)
     c.refuse.new.served.items s) c.self.view_is
     (advance_dead e.disk e.checkpoint e.memory e.journal e.ahead.members.items e.ahead.commands.items
-    e.ahead.taken.items e.failed c.count-_count.ensures.known c.self.invariant.2 c.if-self.true c.args.next.now.items
+    e.ahead.taken.items e.failed c.count-count.ensures.known c.self.invariant.2 c.if-self.true c.args.next.now.items
     c.refuse.new.served.items c.refuse.ensures)
 
 pub returns-then-self-clause-runs : goal.returns-then-self-clause-runs
@@ -44,7 +44,7 @@ put_behind-requires-clause-fits g c =
     let ms = e.ahead.members.items in
     let cs = e.ahead.commands.items in
     let ts = e.ahead.taken.items in
-    let known = c.count-_count.ensures.known in
+    let known = c.count-count.ensures.known in
     let it = c.self.invariant.2 in
     let next = c.judge_coming-coming.result in
     fits e.disk e.checkpoint e.memory e.journal ms cs ts e.failed known it next.members.items next.commands.items
@@ -70,7 +70,7 @@ returns-in-Err-clause-answered g c =
     let ms = e.ahead.members.items in
     let cs = e.ahead.commands.items in
     let ts = e.ahead.taken.items in
-    let known = c.count-_count.ensures.known in
+    let known = c.count-count.ensures.known in
     let it = c.self.invariant.2 in
     subst (λ (s : EngineState g.row.D.Denot). Advances s c.args.next.now.items (Err Device)
     c.refuse-in-Err.new.served.items (engine_of c.put_behind.new.disk e.checkpoint e.memory c.forget_ahead.new.self
@@ -98,7 +98,7 @@ returns-clause-answered g c =
     let ms = e.ahead.members.items in
     let cs = e.ahead.commands.items in
     let ts = e.ahead.taken.items in
-    let known = c.count-_count.ensures.known in
+    let known = c.count-count.ensures.known in
     let it = c.self.invariant.2 in
     let next = c.judge_coming-coming.result in
     let taken : next.members.items ≡ take c.many-many.result c.args.next.now.items =
@@ -120,7 +120,7 @@ returns-in-Err-clause-runs g c =
     let ms = e.ahead.members.items in
     let cs = e.ahead.commands.items in
     let ts = e.ahead.taken.items in
-    let known = c.count-_count.ensures.known in
+    let known = c.count-count.ensures.known in
     let it = c.self.invariant.2 in
     let next = c.judge_coming-coming.result in
     let only = λ (h : g.D.Disk.honest c.put_behind.new.disk). only_weaker g.D.Disk.now g.D.Disk.past e.disk
@@ -156,7 +156,7 @@ invariant_of-self-2 g c =
     let ms = e.ahead.members.items in
     let cs = e.ahead.commands.items in
     let ts = e.ahead.taken.items in
-    let known = c.count-_count.ensures.known in
+    let known = c.count-count.ensures.known in
     let it = c.self.invariant.2 in
     let next = c.judge_coming-coming.result in
     let contents = c.act_ahead.ensures.contents
@@ -196,7 +196,7 @@ returns-clause-runs g c =
     let ms = e.ahead.members.items in
     let cs = e.ahead.commands.items in
     let ts = e.ahead.taken.items in
-    let known = c.count-_count.ensures.known in
+    let known = c.count-count.ensures.known in
     let it = c.self.invariant.2 in
     let next = c.judge_coming-coming.result in
     let only = λ (h : g.D.Disk.honest c.put_behind.new.disk). only_weaker g.D.Disk.now g.D.Disk.past e.disk
@@ -263,7 +263,7 @@ returns-clause-takes g c =
     let ms = e.ahead.members.items in
     let cs = e.ahead.commands.items in
     let ts = e.ahead.taken.items in
-    let known = c.count-_count.ensures.known in
+    let known = c.count-count.ensures.known in
     let it = c.self.invariant.2 in
     let next = c.judge_coming-coming.result in
     let ahead2 = next_ahead e.disk e.checkpoint e.memory e.journal ms cs ts e.failed known it next.members.items
