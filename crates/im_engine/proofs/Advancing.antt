@@ -259,27 +259,27 @@ same_ahead j next known none nothing =
 
 -- members that were judged, as they act: all of them take places, or each as it was told
 other_than_none : (n : ℕ) → (n == 0) ≡ false → 0 < n
-other_than_none n no = grind (arith, nat_tests)
+other_than_none n other = grind (arith, nat_tests)
 
 -- whether a list is empty, by a slice of it
 pub none_in : {X : Type 0} (items slice : List X) (test : Bool) → slice ≡ items → test ≡ (length slice == 0)
     → test ≡ true → items ≡ []
-none_in items slice test is tested yes = nil_from_length items
-    (omega (arith, ap length is, eq_by_test (length slice) 0 (sym tested ∙ yes)))
+none_in items slice test is tested empty = nil_from_length items
+    (omega (arith, ap length is, eq_by_test (length slice) 0 (sym tested ∙ empty)))
 
 pub some_in : {X : Type 0} (items slice : List X) (test : Bool) → slice ≡ items → test ≡ (length slice == 0)
     → test ≡ false → 0 < length items
-some_in items slice test is tested no =
-    omega (arith, ap length is, other_than_none (length slice) (sym tested ∙ no))
+some_in items slice test is tested other =
+    omega (arith, ap length is, other_than_none (length slice) (sym tested ∙ other))
 
 -- what is ahead behind commands that may be none
 pub ahead_still : {X : Type 0} (n : ℕ) (test : Bool) (xs : List X) → test ≡ (n == 0) → test ≡ true
     → xs ≡ ahead_after n xs
-ahead_still n test xs tested yes = ap (λ (m : ℕ). ahead_after m xs) (sym (eq_by_test n 0 (sym tested ∙ yes)))
+ahead_still n test xs tested none = ap (λ (m : ℕ). ahead_after m xs) (sym (eq_by_test n 0 (sym tested ∙ none)))
 
 pub ahead_gone : {X : Type 0} (n : ℕ) (test : Bool) (xs ys : List X) → test ≡ (n == 0) → test ≡ false → ys ≡ []
     → ys ≡ ahead_after n xs
-ahead_gone n test xs ys tested no none = none ∙ sym (none_ahead n xs (other_than_none n (sym tested ∙ no)))
+ahead_gone n test xs ys tested other none = none ∙ sym (none_ahead n xs (other_than_none n (sym tested ∙ other)))
 
 -- where there is room, a refusal is the disk's
 pub only_device : {T D : Type 0} (full : Type 0) (old new : D) (r : Result T Refusal) (a b : ℕ)

@@ -1,4 +1,4 @@
-use Rattle.std.proofs.Common.{◌≡◌, ℕ, ◌-◌, min, List, length, take, sym, refl, ap, ◌∙◌, subst, arith, length-take}
+use Rattle.std.proofs.Common.{◌≡◌, ℕ, ◌-◌, min, List, length, take, sym, refl, ap, ◌∙◌, subst, arith, rules, length-take}
 use Rattle.im_types.specs.Types.{Command, after}
 use Rattle.im_groups.specs.{Ahead.AreAccepted, Ahead.ServesBehind, Commands.places}
 use Rattle.im_engine.proofs.Advancing.{accepted, beginning, coming, few_put, put_is, told_of}
@@ -60,7 +60,7 @@ returns-clause-begins g c =
     let left : ℕ = c.places_in-places.result - c.ahead-laid.result in
     let left_is : left ≡ places e.journal.count e.journal.room - length e.journal.ahead
     = (λ i. (c.places_in-places.ensures.places i) - (c.ahead-laid.ensures i)) in
-    let most_is : c.min-most.result ≡ min (length next) left = omega (arith, c.min-most.ensures) in
+    let most_is : c.min-most.result ≡ min (length next) left = search rules in
     let serves = subst (λ (n : ℕ). ServesBehind e.memory.contents e.ahead.commands.items put (take n next) many) most_is
     (subst (λ (l : List Command). ServesBehind e.memory.contents l put (take c.min-most.result next) many)
     c.as_slice-group.ensures.value c.judge_next-many.ensures.begins) in

@@ -94,26 +94,26 @@ pub returns-in-Ok-clause-calls : goal.returns-in-Ok-clause-calls
 returns-in-Ok-clause-calls g c = λ h.
     let e = c.self.inside in
     let most = c.args.most in
-    subst (λ (s : EngineState g.row.D.Denot). CallsBy g.D.Disk.past s.disk c.sweep.new.disk
+    subst (λ (s : EngineState g.row.D.Denot). CallsBy {E = Refusal} g.D.Disk.past s.disk c.sweep.new.disk
     (calls_to_sweep s.step (journal_in s) most) (Ok c.in-Ok.swept)) c.self.view_is
-    (subst (λ (n : ℕ). CallsBy g.D.Disk.past e.disk c.sweep.new.disk n (Ok c.in-Ok.swept))
+    (subst (λ (n : ℕ). CallsBy {E = Refusal} g.D.Disk.past e.disk c.sweep.new.disk n (Ok c.in-Ok.swept))
     (calls_here e.checkpoint.state e.memory.contents e.journal most c.self.invariant.0)
-    (subst (λ (r : Result ℕ Refusal). CallsBy g.D.Disk.past e.disk c.sweep.new.disk
+    (subst (λ (r : Result ℕ Refusal). CallsBy {E = Refusal} g.D.Disk.past e.disk c.sweep.new.disk
     (calls_to_sweep e.checkpoint.state.step e.journal most) r) c.in-Ok.is (c.sweep.ensures.runs.kept h)))
 
 pub returns-in-Err-clause-calls : goal.returns-in-Err-clause-calls
 returns-in-Err-clause-calls g c = λ h.
     let e = c.self.inside in
     let most = c.args.most in
-    subst (λ (s : EngineState g.row.D.Denot). CallsBy g.D.Disk.past s.disk c.sweep.new.disk
+    subst (λ (s : EngineState g.row.D.Denot). CallsBy {T = ℕ} g.D.Disk.past s.disk c.sweep.new.disk
     (calls_to_sweep s.step (journal_in s) most) (Err c.in-Err.refusal)) c.self.view_is
-    (subst (λ (n : ℕ). CallsBy g.D.Disk.past e.disk c.sweep.new.disk n (Err c.in-Err.refusal))
+    (subst (λ (n : ℕ). CallsBy {T = ℕ} g.D.Disk.past e.disk c.sweep.new.disk n (Err c.in-Err.refusal))
     (calls_here e.checkpoint.state e.memory.contents e.journal most c.self.invariant.0)
-    (subst (λ (r : Result ℕ Refusal). CallsBy g.D.Disk.past e.disk c.sweep.new.disk
+    (subst (λ (r : Result ℕ Refusal). CallsBy {T = ℕ} g.D.Disk.past e.disk c.sweep.new.disk
     (calls_to_sweep e.checkpoint.state.step e.journal most) r) c.in-Err.is (c.sweep.ensures.runs.kept h)))
 
-pub invariant_of-self-2 : goal.invariant_of-self-2
-invariant_of-self-2 g c =
+pub invariant_of-self-in-Err : goal.invariant_of-self-in-Err
+invariant_of-self-in-Err g c =
     let e = c.self.inside in
     let same = c.in-Err.ensures.same in (
       subst (λ (j : JournalState). Fits e.checkpoint.state e.memory.contents j) (sym same) c.self.invariant.0,

@@ -75,8 +75,8 @@ returns-in-Ok-clause-answered g c =
       );
     })
 
-pub invariant_of-self-2 : goal.invariant_of-self-2
-invariant_of-self-2 g c =
+pub invariant_of-self-in-Err : goal.invariant_of-self-in-Err
+invariant_of-self-in-Err g c =
     let e = c.self.inside in
     let same = c.in-Err.ensures.same in (
       subst (λ (j : JournalState). Fits c.turn.new.self.state e.memory.contents j) (sym same.1)

@@ -9,7 +9,7 @@ pub returns-clause-answered : goal.returns-clause-answered
 returns-clause-answered g c =
     let old = c.args.self.now in
     let e = c.advance_kept-result in
-    let were = c.copy_members.ensures ∙ c.as_slice.ensures.value ∙ c.ahead-2.ensures
+    let were = c.copy_members.ensures ∙ c.as_slice.ensures.value ∙ c.ahead.ensures
     ∙ ap (λ (s : EngineState g.row.D.Denot). s.ahead) c.engine.ensures.state in
     subst (λ (l : List Request). EventAnswered old.engine (Ahead l)
     (Advanced c.copy_members.new.copies e.result e.new.served) e.new.self.engine) c.requests.ensures.found
@@ -21,7 +21,7 @@ pub returns-clause-put : goal.returns-clause-put
 returns-clause-put g c =
     let old = c.args.self.now in
     let e = c.advance_kept-result in
-    let were = c.copy_members.ensures ∙ c.as_slice.ensures.value ∙ c.ahead-2.ensures
+    let were = c.copy_members.ensures ∙ c.as_slice.ensures.value ∙ c.ahead.ensures
     ∙ ap (λ (s : EngineState g.row.D.Denot). s.ahead) c.engine.ensures.state in
     subst (λ (l : List Request). e.new.self
     ≡ after_event old (Ahead l) (Advanced c.copy_members.new.copies e.result e.new.served) e.new.self.engine)
