@@ -98,7 +98,8 @@ enum lt_refusal {
     LT_BAD_RECORD = 16,
     LT_BAD_LIMITS = 17,   /* of lt_memory_new and lt_format */
     LT_OLD_VERSION = 21,  /* of lt_open: an image of the first layout; `imem migrate` makes one of this layout */
-    LT_UNSERVED = 254,    /* of a member of lt_serve_group: it isn't served, and changed nothing; put it again */
+    LT_UNSERVED = 254,    /* of a member of lt_serve_group: it isn't served, and changed nothing; put it again. Of
+                           * lt_advance: no command was ahead there */
     LT_NO_CALL = 255      /* an unknown tag, no such write, or no group */
 };
 
@@ -142,8 +143,8 @@ void lt_memory_free(struct lt_memory memory);
 /* ---- An image
  *
  * The caller reads the file, hands its bytes to lt_open, and does all writing. Each of lt_format, lt_open, lt_serve,
- * lt_serve_group, lt_turn and lt_sweep leaves a list of steps (lt_steps, lt_step_at, lt_step_bytes). The caller carries
- * out all of these steps on its file, in their order. It does so before it passes on any result of a call here, and
+ * lt_serve_group, lt_advance, lt_turn and lt_sweep leaves a list of steps (lt_steps, lt_step_at, lt_step_bytes). The
+ * caller carries out all of these steps on its file, in their order. It does so before it passes on any result of a call here, and
  * before the next such call, which begins a new list. If the caller can't carry out a step, it calls lt_failed, and
  * opens the file again. If there is a crash before all steps are carried out, the file means the memory before the call
  * or after it.
@@ -165,6 +166,13 @@ struct lt_bounds {
     uint8_t refusal;
     uint64_t base;
     uint64_t next;
+};
+
+/* What lt_advance did. If `refusal` isn't 0, nothing is ahead. */
+struct lt_advanced {
+    uint8_t refusal;
+    uint8_t ahead;    /* how many of the commands are ahead now */
+    uint8_t answered; /* how many were ahead: the first outcomes are theirs */
 };
 
 /* The sizes of an image. */
@@ -243,6 +251,22 @@ uint8_t lt_serve_group(struct lt_image image, const struct lt_command *commands,
 /* Returns the index, from 0, of the first command with an unknown tag. Such a command keeps lt_serve_group from taking
  * them. Returns `count` if there is none. */
 size_t lt_first_unknown(const struct lt_command *commands, size_t count);
+
+/* Lets the commands that are ahead of the image act, and puts 0 to 16 next ones ahead of it, by one sync for both. So a
+ * chain of n groups needs n + 1 syncs, where n calls of lt_serve_group need two each. What is ahead has no effect until
+ * the next such call: until then a crash leaves nothing of it. lt_serve and lt_serve_group forget what is ahead if they
+ * put a command on the disk; lt_turn and lt_sweep keep it.
+ *
+ * The first commands are put ahead: as many as there is room for, up to a confirmation if it isn't known, before those
+ * that were ahead act, whether each entry that it would drop is answered. Put the others again. If nothing was ahead
+ * and there is room, at least one is put. `done` says how many are ahead, and how many were: the first outcomes are
+ * theirs, each as lt_serve would give it after those before it, and each outcome behind them is LT_UNSERVED. If the
+ * steps couldn't be listed, each of theirs is LT_DEVICE.
+ *
+ * Returns the refusal of `done`: 0, LT_DEVICE, or LT_NO_CALL if a tag is unknown, `count` is more than 16, or `places`
+ * isn't 16. After LT_NO_CALL, and after a lost step, the outcomes are as they were. */
+uint8_t lt_advance(struct lt_image image, const struct lt_command *commands, size_t count, struct lt_image *next,
+                   struct lt_advanced *done, struct lt_outcome *outcomes, size_t places);
 
 /* Makes one turn of a checkpoint. Returns its refusal, and writes what it did at `outcome`. */
 uint8_t lt_turn(struct lt_image image, struct lt_image *next, struct lt_outcome *outcome);

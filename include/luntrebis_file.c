@@ -25,6 +25,8 @@ struct ltf {
     size_t room;
     struct lt_waiter *woken, *waited; /* whom the last call resumed; who waited at the cells of a group before it */
     size_t woken_count, woken_room;
+    struct lt_command ahead[MEMBERS]; /* their bodies are on the disk, and they haven't acted */
+    size_t ahead_count;
 };
 
 /* ---- Steps */
@@ -333,12 +335,59 @@ int ltf_serve_group(struct ltf *file, const struct lt_command *commands, size_t 
     return LT_DEVICE;
 }
 
+/* Lets what is ahead act, and puts the first of these commands ahead. Returns how many were ahead, whose outcomes it
+ * writes at 16 places, or -1 after a lost step. */
+static int advance(struct ltf *file, const struct lt_command *commands, size_t count, struct lt_outcome *outcomes) {
+    size_t waited[MEMBERS] = {0}, were = file->ahead_count;
+    size_t members = lt_first_unknown(commands, count < MEMBERS ? count : MEMBERS);
+    struct lt_advanced done = {0, 0, 0};
+    file->ahead_count = 0;
+    if (ltf_tidy(file) == LT_DEVICE) return -1;
+    memset(outcomes, 0, MEMBERS * sizeof *outcomes);
+    note_waiters(file, file->ahead, were, waited);
+    if (is_lost(file, lt_advance(file->image, commands, members, &file->image, &done, outcomes, MEMBERS))) return -1;
+    note_all_woken(file, file->ahead, done.answered, outcomes, waited);
+    if (done.answered) file->work.groups++;
+    memcpy(file->ahead, commands, done.ahead * sizeof *commands);
+    file->ahead_count = done.ahead;
+    return done.answered;
+}
+
+int ltf_advance(struct ltf *file, const struct lt_command *commands, size_t count, size_t *ahead,
+                struct lt_outcome *outcomes, size_t *answered) {
+    int were;
+    file->woken_count = 0;
+    were = advance(file, commands, count, outcomes);
+    *ahead = file->ahead_count;
+    *answered = were < 0 ? 0 : (size_t)were;
+    return were < 0 ? LT_DEVICE : 0;
+}
+
+/* Serves these commands as a chain of groups. What can't be put ahead, though nothing is, is served at once: the journal
+ * has no room, or a tag is unknown. Returns 0 or LT_DEVICE. */
+static int serve_chain(struct ltf *file, const struct lt_command *commands, size_t count, struct lt_outcome *outcomes) {
+    struct lt_outcome told[MEMBERS];
+    size_t put = 0, answered = 0;
+    if (file->ahead_count && advance(file, commands, 0, told) < 0) return LT_DEVICE;
+    while (answered < count) {
+        int were = advance(file, commands + put, count - put, told);
+        if (were < 0) return LT_DEVICE;
+        memcpy(outcomes + answered, told, (size_t)were * sizeof *told);
+        answered += (size_t)were;
+        put += file->ahead_count;
+        if (were == 0 && file->ahead_count == 0) {
+            size_t served = serve_first(file, commands + put, count - put, outcomes + put);
+            if (served == 0) return LT_DEVICE;
+            put += served;
+            answered += served;
+        }
+    }
+    return 0;
+}
+
 int ltf_serve_all(struct ltf *file, const struct lt_command *commands, size_t count, struct lt_outcome *outcomes) {
     int refusal = forget_woken(file, count);
-    for (size_t at = 0, served; at < count && refusal == 0; at += served) {
-        served = serve_first(file, commands + at, count - at, outcomes + at);
-        if (served == 0) refusal = LT_DEVICE;
-    }
+    if (refusal == 0) refusal = serve_chain(file, commands, count, outcomes);
     if (refusal) refuse_all(outcomes, count, (uint8_t)refusal);
     return refusal;
 }

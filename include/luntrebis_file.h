@@ -40,8 +40,9 @@ int ltf_open_or_create(const char *path, uint32_t cells, uint16_t elements, uint
 int ltf_serve(struct ltf *file, const struct lt_command *command, struct lt_outcome *outcome);
 
 /* Serves any commands, in their order, with the outcomes that ltf_serve would give for one after another. Up to 16
- * neighbours share two syncs: requests, of one element or of several, and confirmations. Returns 0, and writes the
- * outcome of each command at its place in `outcomes`. Returns LT_DEVICE if a step failed: then each outcome may be
+ * neighbours are a group: requests, of one element or of several, and confirmations. The groups are a chain, in which
+ * each shares a sync with the next: n groups need n + 1 syncs. Returns 0, and writes the outcome of each command at its
+ * place in `outcomes`. Returns LT_DEVICE if a step failed: then each outcome may be
  * untrue. Returns LT_NO_MEMORY for more than 16 commands if there is no memory for them: then none was served. */
 int ltf_serve_all(struct ltf *file, const struct lt_command *commands, size_t count, struct lt_outcome *outcomes);
 
@@ -51,8 +52,19 @@ int ltf_serve_all(struct ltf *file, const struct lt_command *commands, size_t co
 int ltf_serve_group(struct ltf *file, const struct lt_command *commands, size_t count, struct lt_outcome *outcomes,
                     size_t *served);
 
-/* Returns the requests that the last ltf_serve, ltf_serve_group or ltf_serve_all resumed: they waited before, and are
- * answered now. Those of one cell are in the order in which they came. Their number is at `count`. They stay there
+/* Lets the commands that are ahead act, and puts the first of these ahead, as lt_advance does: at most 16, which may be
+ * none. How many are ahead now is at `ahead`; the others are untouched, and are put again. If nothing was ahead and
+ * nothing can be put there, ltf_serve_group serves them: it makes room, and answers an unknown tag. Writes the outcomes
+ * of the commands that were ahead at `outcomes`, which has 16 places, and their number at `answered`. Returns 0, or
+ * LT_DEVICE if a step failed: then nobody is answered, and nothing is ahead.
+ *
+ * What is ahead has no effect before the next ltf_advance or ltf_serve_all, in which it acts first. ltf_serve and
+ * ltf_serve_group forget it if they put a command on the disk, and so does ltf_close. */
+int ltf_advance(struct ltf *file, const struct lt_command *commands, size_t count, size_t *ahead,
+                struct lt_outcome *outcomes, size_t *answered);
+
+/* Returns the requests that the last ltf_serve, ltf_serve_group, ltf_serve_all or ltf_advance resumed: they waited
+ * before, and are answered now. Those of one cell are in the order in which they came. Their number is at `count`. They stay there
  * until the next of these calls. */
 const struct lt_waiter *ltf_woken(const struct ltf *file, size_t *count);
 

@@ -16,7 +16,7 @@
 #include <sys/syscall.h>
 #endif
 
-enum { ELEMENTS = 64, KEPT = 64, MEMBERS = 16, CONFIRM_AT = 48, SLEEPERS = 64 };
+enum { ELEMENTS = 64, KEPT = 64, MEMBERS = 16, CONFIRM_AT = 48, WORTH_WAITING = 8, SLEEPERS = 64 };
 
 enum kind { ASKS, AWAITS, SHOWS_WINDOW, LEASES };
 enum state { QUEUED, TAKEN, WAITS, TOLD };
@@ -47,16 +47,18 @@ struct list {
     struct ticket *first, **end;
 };
 
-/* A group that is served: its commands, and the ticket of each. A confirmation that is made here has no ticket. */
+/* A group: its commands, and the ticket of each. A confirmation that is made here has no ticket, but the base that the
+ * window had before it. */
 struct group {
     struct lt_command commands[MEMBERS];
     struct lt_outcome outcomes[MEMBERS];
     struct ticket *tickets[MEMBERS];
+    uint64_t bases[MEMBERS];
     size_t count;
 };
 
-/* What is known of a leased element: its window, as it is after the group that is served, and which numbers' last
- * answers weren't delivered yet, by their place in the window. */
+/* What is known of a leased element: its window, as it is after the last group that was put ahead, and which numbers'
+ * last answers weren't delivered yet, by their place in the window. */
 struct lane {
     int leased, ready;
     uint64_t base, next;
@@ -77,13 +79,14 @@ struct lts {
     struct list asked;
     struct ticket *waiting[ELEMENTS][KEPT]; /* by the element and the place in its window */
     struct lane lanes[ELEMENTS];
-    uint64_t lately[2]; /* the elements of the last two groups, a bit each */
+    uint64_t lately[3]; /* the elements of the last three groups, a bit each */
     int64_t pace; /* nanoseconds that the last group took */
     struct ltf_counts work;
     struct ltf_fault failure;
     uint16_t elements;
     int ending, dead, idle;
     size_t queued;
+    struct group ahead; /* its bodies are on the disk, and none of its members has acted */
 };
 
 struct lts_queue {
@@ -295,6 +298,7 @@ static void confirm(struct lts *shared, struct group *group, uint16_t element, s
         command.number++;
     }
     if (command.number == lane->base) return;
+    group->bases[group->count] = lane->base;
     lane->base = command.number;
     add(group, NULL, &command);
 }
@@ -330,11 +334,19 @@ static int number(struct lts *shared, struct group *group, struct ticket *ticket
     return 1;
 }
 
-/* Whether an element is leased, or one of its requests waits. */
+/* The elements whose commands are ahead, a bit each. */
+static uint64_t elements_ahead(const struct lts *shared) {
+    uint64_t elements = 0;
+    for (size_t at = 0; at < shared->ahead.count; at++)
+        elements |= (uint64_t)1 << shared->ahead.commands[at].element % ELEMENTS;
+    return elements;
+}
+
+/* Whether an element is leased, or one of its requests waits or is ahead. */
 static int is_taken(struct lts *shared, uint16_t element) {
     struct lt_bounds window = ltf_window(shared->file, element);
     struct lt_outcome outcome = {0, 0, 0};
-    int taken = shared->lanes[element].leased;
+    int taken = shared->lanes[element].leased || (elements_ahead(shared) >> element & 1);
     for (uint64_t number = window.base; number < window.next && !taken; number++) {
         ltf_collect(shared->file, element, number, &outcome);
         taken = !is_last(&outcome);
@@ -403,10 +415,17 @@ static void give_up_number(struct lts *shared, struct ticket *ticket) {
     ticket->leased = 0;
 }
 
-/* Puts those who aren't served back, in front of all others, in their order. */
-static void put_back(struct lts *shared, struct group *group, size_t served) {
-    for (; group->count > served; group->count--) {
+/* Takes back the base that a window got with a confirmation. */
+static void give_up_base(struct lts *shared, const struct group *group, size_t at) {
+    struct lane *lane = &shared->lanes[group->commands[at].element];
+    if (lane->base > group->bases[at]) lane->base = group->bases[at];
+}
+
+/* Puts those behind the first ones back, in front of all others, in their order. */
+static void put_back(struct lts *shared, struct group *group, size_t first) {
+    for (; group->count > first; group->count--) {
         struct ticket *ticket = group->tickets[group->count - 1];
+        if (!ticket) give_up_base(shared, group, group->count - 1);
         if (!ticket) continue;
         if (ticket->leased) give_up_number(shared, ticket);
         ticket->state = QUEUED;
@@ -415,31 +434,50 @@ static void put_back(struct lts *shared, struct group *group, size_t served) {
     }
 }
 
-/* Reads the bases of the windows anew for which the group had a confirmation. */
-static void note_bases(struct lts *shared, const struct group *group) {
+/* Gives the members of a group that has acted their answers, and those whom it resumed. After a lost step each member
+ * is refused. */
+static void answer_all(struct lts *shared, const struct group *group, int refusal) {
     for (size_t at = 0; at < group->count; at++) {
-        uint16_t element = group->commands[at].element;
-        if (!group->tickets[at]) shared->lanes[element].base = ltf_window(shared->file, element).base;
+        struct lt_outcome outcome = refusal ? no_file : group->outcomes[at];
+        struct ticket *ticket = group->tickets[at];
+        if (!ticket && outcome.refusal) give_up_base(shared, group, at);
+        if (!ticket) continue;
+        ticket->outcome = outcome;
+        answer(shared, ticket);
     }
+    if (refusal == 0) wake_all(shared);
 }
 
-static void serve(struct lts *shared, struct group *group) {
+/* Serves a group that can't be put ahead, though nothing is: the journal has no room, or a tag is unknown. */
+static void serve_at_once(struct lts *shared, struct group *group) {
     size_t served;
     int refusal;
-    if (group->count == 0) return;
     wake_due(shared);
     pthread_mutex_unlock(&shared->lock);
     refusal = ltf_serve_group(shared->file, group->commands, group->count, group->outcomes, &served);
     pthread_mutex_lock(&shared->lock);
-    note_bases(shared, group);
     put_back(shared, group, served);
-    for (size_t at = 0; at < group->count; at++) {
-        struct ticket *ticket = group->tickets[at];
-        if (!ticket) continue;
-        ticket->outcome = group->outcomes[at];
-        answer(shared, ticket);
+    answer_all(shared, group, refusal);
+}
+
+/* Lets the group ahead act, and puts this one ahead. */
+static void serve(struct lts *shared, struct group *group) {
+    struct group *acts = &shared->ahead;
+    size_t ahead, answered;
+    int refusal, was_none = acts->count == 0;
+    if (group->count == 0 && was_none) return;
+    wake_due(shared);
+    pthread_mutex_unlock(&shared->lock);
+    refusal = ltf_advance(shared->file, group->commands, group->count, &ahead, acts->outcomes, &answered);
+    pthread_mutex_lock(&shared->lock);
+    answer_all(shared, acts, refusal);
+    acts->count = 0;
+    if (refusal == 0 && was_none && ahead == 0) {
+        serve_at_once(shared, group);
+    } else {
+        put_back(shared, group, ahead);
+        *acts = *group;
     }
-    if (refusal == 0) wake_all(shared);
 }
 
 /* Keeps the journal half empty while nobody asks. Returns whether there was something to do. */
@@ -463,12 +501,14 @@ static size_t count_bits(uint64_t bits) {
     return count;
 }
 
-/* Waits for those who were in the last two groups, for at most a quarter of the time that a group takes. Without it
- * those who are answered together come back one by one, and stay parted into two groups. */
+/* Waits for those who were in the last three groups and aren't ahead, for at most a quarter of the time that a group
+ * takes. Without it those who are answered together come back one by one, and stay parted into two groups. Behind a group
+ * ahead it waits only if more than eight may come: else those who are ahead are answered sooner. */
 static void linger(struct lts *shared) {
-    size_t wanted = count_bits(shared->lately[0] | shared->lately[1]);
+    size_t wanted = count_bits((shared->lately[0] | shared->lately[1] | shared->lately[2]) & ~elements_ahead(shared));
     int64_t end = now() + shared->pace / 4;
     struct timespec until = {.tv_sec = end / 1000000000, .tv_nsec = end % 1000000000};
+    if (shared->ahead.count && wanted <= WORTH_WAITING) wanted = 0;
     if (wanted > MEMBERS) wanted = MEMBERS;
     shared->idle = 1;
     while (shared->queued < wanted && !shared->ending)
@@ -476,11 +516,12 @@ static void linger(struct lts *shared) {
     shared->idle = 0;
 }
 
-/* Serves a group of those who asked. */
+/* Puts a group of those who asked ahead, and answers the one before it. */
 static void serve_next(struct lts *shared) {
     struct group group = {.count = 0};
     int64_t start;
     linger(shared);
+    shared->lately[2] = shared->lately[1];
     shared->lately[1] = shared->lately[0];
     shared->lately[0] = 0;
     gather(shared, &group);
@@ -499,8 +540,8 @@ static void note_work(struct lts *shared) {
 static void *own(void *given) {
     struct lts *shared = given;
     pthread_mutex_lock(&shared->lock);
-    while (!shared->ending || shared->asked.first) {
-        if (shared->asked.first) {
+    while (!shared->ending || shared->asked.first || shared->ahead.count) {
+        if (shared->asked.first || shared->ahead.count) {
             serve_next(shared);
         } else if (!tidy(shared) && !shared->asked.first && !shared->ending) {
             shared->idle = 1;

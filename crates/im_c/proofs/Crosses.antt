@@ -23,7 +23,7 @@ Listed-send = search (sendable, crosses, snapshot_send, noted.crosses) depth 40 
 Image-send : IsSend Image.the_field.row
 Image-send =
     let m = Memory-send in let k = Checkpoint-send in let d = Listed-send in
-    search (sendable, crosses) depth 40 fits 30000
+    search (sendable, crosses, snapshot_send) depth 40 fits 30000
 
 pub Image-row-send : IsSend Image.the_row
 Image-row-send = let i = Image-send in search sendable depth 20

@@ -2,6 +2,7 @@
 //! `include/luntrebis.h` declares them, and docs/EMBEDDING.md says how to use them.
 #![tactic(auto)]
 
+mod chain;
 mod group;
 mod image;
 mod inspecting;
@@ -18,13 +19,14 @@ mod stepping;
 mod version;
 mod waiting;
 
+pub use chain::lt_advance;
 pub use group::{lt_first_unknown, lt_serve_group};
 pub use image::{LtImage, lt_close, lt_format, lt_image_length, lt_open};
 pub use inspecting::lt_inspect;
 pub use looking::{lt_held_collect, lt_held_count, lt_held_entry, lt_held_room, lt_held_window};
 pub use memory::{LtMemory, lt_held_memory_collect, lt_memory_free, lt_memory_new, lt_memory_step};
 pub use naming::{lt_answer_name, lt_refusal_name};
-pub use plain::{LtBounds, LtCommand, LtLimits, LtOutcome, LtStep, LtWaiter};
+pub use plain::{LtAdvanced, LtBounds, LtCommand, LtLimits, LtOutcome, LtStep, LtWaiter};
 pub use serving::{lt_serve, lt_sweep, lt_turn};
 pub use sizes::lt_limits;
 pub use stepping::{lt_failed, lt_held_step_at, lt_held_step_bytes, lt_held_steps};

@@ -6,7 +6,8 @@ use Rattle.im_types.specs.Types.{Command, Contents, step, is_accepted, layout_in
 use Rattle.im_types.specs.Types.{image_length, ring_of, area_of, open_gate, Header, header_place, is_open_header}
 use Rattle.im_types.specs.Types.{generation_in, sequence_of, Ring, Tail, slot, tail, accept_each, Reads}
 use Rattle.im_disk.specs.Since.{SameBut}
-use Rattle.im_journal.proofs.{Slots.same_slot, Slots.slot_inside, Tails.boundaries_elsewhere, Tails.tail_elsewhere}
+use Rattle.im_journal.proofs.{Groups.same_there, Slots.same_slot, Slots.slot_inside}
+use Rattle.im_journal.proofs.Tails.{boundaries_elsewhere, tail_elsewhere}
 use Rattle.im_journal.specs.Holding.{Holds, JournalState, KeepsBoundaries}
 use Rattle.im_meaning.proofs.{Meanings.image_reads, Writes.write_behind_closed_gate, Writes.write_in_other_area}
 use Rattle.im_meaning.proofs.{Writes.write_in_other_header, Writes.write_lower_gate}
@@ -48,6 +49,8 @@ holds_behind j at n c d some before but held = record {
   enough = held.enough;
   behind = λ low k from to. subst (λ (l : List ℕ). sequence_of l < j.first) (sym (same (j.count + k)))
       (held.behind low k from to);
+  laid = same_there j.ring c d j.count j.ahead
+      (λ k less. ap (λ (l : List ℕ). drop 1 l) (same (j.count + k))) held.laid;
 }
   where
     same : (s : ℕ) → slot j.ring s d ≡ slot j.ring s c

@@ -6,10 +6,11 @@ use Rattle.std.proofs.lemmas.Bool.Decides.{nat_tests}
 use Rattle.im_types.specs.Types.{Contents, Header}
 use Rattle.{im_laws.proofs.Tests.true_or_false, im_pages.specs.PageSets.pages_from}
 use Rattle.im_journal.specs.Holding.{JournalState, to_sweep, with_room}
-use Rattle.im_checkpoint.specs.{declared.checkpoint.TurnDone.TurnDone, Keeping.ComesTo, Keeping.Fits, Keeping.IsBetween}
-use Rattle.im_checkpoint.specs.{Keeping.StepFits, Turns.is_due, Turns.Moved, Turns.next_header, Turns.Turned}
+use Rattle.im_checkpoint.specs.declared.checkpoint.TurnDone.{TurnDone}
+use Rattle.im_checkpoint.specs.Keeping.{ComesTo, Fits, IsBetween, KeepsAhead, StepFits}
 use Rattle.im_checkpoint.specs.Step.{changed_in, CheckpointState, IsUnderWay, NoCheckpoint, PagedCheckpoint, pages_step}
 use Rattle.im_checkpoint.specs.Step.{PagesDone, PagesLeft, Step, Synced, turns_left}
+use Rattle.im_checkpoint.specs.Turns.{begun_at, is_due, Moved, next_header, Turned}
 
 -- where a call is done, what follows from it
 pub once_more : {T E : Type 0} {P Q : T → Type 0} (r : Result T E) → IfOk r P → ((x : T) → P x → Q x) → IfOk r Q
@@ -55,6 +56,16 @@ room_fits c m j n it = record {
     by_step (PagesDone count) fits = record { from = fits.from; to = fits.to }
     by_step (Synced count) fits = record { from = fits.from; to = fits.to }
 
+-- what is ahead of a journal stays
+ahead_same : (j k : JournalState) → k ≡ j → KeepsAhead j k
+ahead_same j k is = (ap (λ (x : JournalState). x.ahead) is, omega (arith, ap (λ (x : JournalState). x.room) is))
+
+ahead_with_room : (j k : JournalState) (n : ℕ) → k ≡ with_room j n → KeepsAhead j k
+ahead_with_room j k n is = (ap (λ (x : JournalState). x.ahead) is, omega (arith, ap (λ (x : JournalState). x.room) is))
+
+ahead_begun : (j k : JournalState) (count : ℕ) → k ≡ begun_at count j → KeepsAhead j k
+ahead_begun j k count is = (ap (λ (x : JournalState). x.ahead) is, omega (arith, ap (λ (x : JournalState). x.room) is))
+
 module _ (before : PagedCheckpoint) (j : JournalState) (m : Contents) (answer : TurnDone) (after : PagedCheckpoint)
     (k : JournalState) (turned : Turned before.state j answer after.state k)
     (moved : Moved (changed_in before) answer after.state.step (changed_in after))
@@ -79,18 +90,19 @@ module _ (before : PagedCheckpoint) (j : JournalState) (m : Contents) (answer : 
 
   -- no checkpoint is under way
   module _ (is : old.step ≡ NoCheckpoint) where
-    comes : k.count ≡ j.count → Fits new m k → ComesTo before j m answer after k
-    comes same it = record {
+    comes : k.count ≡ j.count → KeepsAhead j k → Fits new m k → ComesTo before j m answer after k
+    comes same ahead it = record {
       turned = turned;
       moved = moved;
       nearer = λ under. absurd (subst IsUnderWay is under);
       count = same;
+      ahead = ahead;
       fits = it;
     }
 
     comes_swept : 0 < to_sweep j → ComesTo before j m answer after k
     comes_swept some = let row = turned.swept is some in
-        comes (ap (λ (x : JournalState). x.count) row.2)
+        comes (ap (λ (x : JournalState). x.count) row.2) (ahead_with_room j k _ row.2)
         (subst (λ (x : CheckpointState). Fits x m k) (sym row.1)
         (subst (λ (x : JournalState). Fits old m x) (sym row.2) (room_fits old m j _ fits)))
 
@@ -99,14 +111,14 @@ module _ (before : PagedCheckpoint) (j : JournalState) (m : Contents) (answer : 
         let row = turned.began is none due in
         let began = row.1 in
         let left : List ℕ = pages_from 0 began.changed in
-        comes (ap (λ (x : JournalState). x.count) row.2)
+        comes (ap (λ (x : JournalState). x.count) row.2) (ahead_same j k row.2)
         (with_step (pages_step j.count left)
         (by_left old.header j j.count left
         (record { from = due_before old.header.count j.count _ due; to = omega arith })) began.state row.2)
 
     comes_idle : to_sweep j ≡ 0 → is_due old.header j ≡ false → ComesTo before j m answer after k
     comes_idle none not = let row = turned.idle is none not in
-        comes (ap (λ (x : JournalState). x.count) row.2)
+        comes (ap (λ (x : JournalState). x.count) row.2) (ahead_same j k row.2)
         (subst (λ (x : CheckpointState). Fits x m k) (sym row.1)
         (subst (λ (x : JournalState). Fits old m x) (sym row.2) fits))
 
@@ -123,6 +135,7 @@ module _ (before : PagedCheckpoint) (j : JournalState) (m : Contents) (answer : 
           ∙ one_less (length left) (turns_left (pages_step count left)) (turns_with count left)
           ∙ sym (ap (λ (x : CheckpointState). turns_left x.step + 1) row.1);
       count = ap (λ (x : JournalState). x.count) row.2;
+      ahead = ahead_same j k row.2;
       fits = with_step (pages_step count left)
           (by_left old.header j count left (subst (λ (s : Step). StepFits old.header j s) is fits.step)) row.1 row.2;
     }
@@ -133,6 +146,7 @@ module _ (before : PagedCheckpoint) (j : JournalState) (m : Contents) (answer : 
       moved = moved;
       nearer = λ under. ap turns_left is ∙ sym (ap (λ (x : CheckpointState). turns_left x.step + 1) row.1);
       count = ap (λ (x : JournalState). x.count) row.2;
+      ahead = ahead_same j k row.2;
       fits = with_step (Synced count) (subst (λ (s : Step). StepFits old.header j s) is fits.step) row.1 row.2;
     }
 
@@ -142,6 +156,7 @@ module _ (before : PagedCheckpoint) (j : JournalState) (m : Contents) (answer : 
       moved = moved;
       nearer = λ under. ap turns_left is ∙ sym (ap (λ (x : CheckpointState). turns_left x.step + 1) row.1);
       count = ap (λ (x : JournalState). x.count) row.2;
+      ahead = ahead_begun j k count row.2;
       fits = subst (λ (x : CheckpointState). Fits x m k) (sym row.1)
           (subst (λ (x : JournalState). Fits
           (record { header = next_header old.header count; step = NoCheckpoint }) m x) (sym row.2) (record {

@@ -115,6 +115,30 @@ all_hold c x m j now kept d left =
     (kept.elsewhere d left) (omega arith) (omega arith) in
     still.journal
 
+-- once the run is as it was on the disk, the memory is kept with a journal of the same run
+pub run_kept : (c : CheckpointState) (x : Paged) (m : Contents) (j k : JournalState) (m0 m1 : Moment)
+    → IsKept c x m j m0 → k.ring ≡ j.ring → k.first ≡ j.first → k.count ≡ j.count → SameRun j m0.bytes m1.bytes
+    → m1.ranges ≡ [] → AllHold k m1 → IsKept c x m k m1
+run_kept c x m j k m0 m1 kept ring first count run none holds = kept_calm c x m k m1 none
+    (record {
+      shown = kept.read.shown;
+      commands = kept.read.commands;
+      there = run.found;
+      image = swept_image c.header m j m0.bytes kept.read m1.bytes run;
+      accepts = kept.read.accepts;
+      count = count ∙ kept.read.count;
+      ring = ring ∙ kept.read.ring;
+      first = first ∙ kept.read.first;
+      journal = holds m1.bytes (left_now m1);
+    })
+    (step_moved c.header x m0.bytes m1.bytes
+    (area_before_stays c.header m j m0.bytes kept.read m1.bytes run.same c.header.area
+    kept.read.image.in_force.number)
+    (area_before_stays c.header m j m0.bytes kept.read m1.bytes run.same (other c.header)
+    (omega arith)) kept.read.shown kept.read.commands c.step
+    (other_place_stays c.header m j m0.bytes kept.read m1.bytes run.same)
+    (swept_boundaries c.header m j m0.bytes kept.read m1.bytes run) kept.step)
+
 module _ (c : CheckpointState) (x : Paged) (m : Contents) (j : JournalState) (m0 : Moment)
     (is : c.step ≡ NoCheckpoint) (kept : IsKept c x m j m0) where
   calm : m0.ranges ≡ []
@@ -126,25 +150,8 @@ module _ (c : CheckpointState) (x : Paged) (m : Contents) (j : JournalState) (m0
 
   pub sweep_done : (m1 : Moment) (n : ℕ) (k : JournalState) → k ≡ with_room j n → SameRun j m0.bytes m1.bytes
       → m1.ranges ≡ [] → AllHold k m1 → IsKept c x m k m1
-  sweep_done m1 n k k_is run none holds = kept_calm c x m k m1 none
-      (record {
-        shown = kept.read.shown;
-        commands = kept.read.commands;
-        there = run.found;
-        image = swept_image c.header m j m0.bytes kept.read m1.bytes run;
-        accepts = kept.read.accepts;
-        count = ap (λ (y : JournalState). y.count) k_is ∙ kept.read.count;
-        ring = ap (λ (y : JournalState). y.ring) k_is ∙ kept.read.ring;
-        first = ap (λ (y : JournalState). y.first) k_is ∙ kept.read.first;
-        journal = holds m1.bytes (left_now m1);
-      })
-      (step_moved c.header x m0.bytes m1.bytes
-      (area_before_stays c.header m j m0.bytes kept.read m1.bytes run.same c.header.area
-      kept.read.image.in_force.number)
-      (area_before_stays c.header m j m0.bytes kept.read m1.bytes run.same (other c.header)
-      (omega arith)) kept.read.shown kept.read.commands c.step
-      (other_place_stays c.header m j m0.bytes kept.read m1.bytes run.same)
-      (swept_boundaries c.header m j m0.bytes kept.read m1.bytes run) kept.step)
+  sweep_done m1 n k k_is run none holds = run_kept c x m j k m0 m1 kept (ap (λ (y : JournalState). y.ring) k_is)
+      (ap (λ (y : JournalState). y.first) k_is) (ap (λ (y : JournalState). y.count) k_is) run none holds
 
   -- whichever way so many were swept at once
   pub swept_kept : {H : Type 0} (h : H) (r : Result ℕ Refusal) (most : ℕ) (m1 : Moment) (k : JournalState)

@@ -55,6 +55,10 @@ pub record IsReady (c : CheckpointState) (j : JournalState) : Type 0 where
   pub first : j.first ≡ c.header.count
   pub counted : StepFits c.header j c.step
 
+-- what is ahead of a journal stays, and there is no less room
+abbrev pub KeepsAhead : JournalState → JournalState → Type 0
+KeepsAhead j k = (k.ahead ≡ j.ahead) × (j.room ≤ k.room)
+
 -- What a turn that is done does.
 pub record ComesTo (old : PagedCheckpoint) (j : JournalState) (m : Contents) (answer : TurnDone) (new : PagedCheckpoint)
     (k : JournalState) : Type 0 where
@@ -66,6 +70,8 @@ pub record ComesTo (old : PagedCheckpoint) (j : JournalState) (m : Contents) (an
   pub nearer : IsUnderWay old.state.step → turns_left old.state.step ≡ turns_left new.state.step + 1
   -- the count of all commands stays
   pub count : k.count ≡ j.count
+  -- and so does what is ahead of the journal
+  pub ahead : KeepsAhead j k
   -- the memory and the journal still are those of the header
   pub fits : Fits new.state m k
 

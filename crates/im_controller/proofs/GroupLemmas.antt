@@ -7,10 +7,11 @@ use Rattle.im_types.specs.Types.{Command, Outcome, Commands, Served, Refusal, Jo
 use Rattle.im_types.specs.Types.{Contents, step, is_accepted, after, as_served}
 use Rattle.im_laws.proofs.{AcceptLemmas.accepted-ok, AcceptLemmas.unaccepted-leaves, Tests.true_false}
 use Rattle.{im_groups.proofs.CommandLemmas.at-after, im_engine.specs.State.EngineState}
-use Rattle.{im_session.specs.Serving.served_answer, im_trace.specs.Lines.leaves_line, im_trace.specs.Lines.memory_after}
 use Rattle.im_groups.specs.Commands.{answer_with, answers_with, contents_after_all, contents_with, places}
 use Rattle.im_groups.specs.Commands.{places_behind}
 use Rattle.im_engine.specs.Commands.{after_commands, answers_in_turn, commands_put, CommandsAnswered, each_refused}
+use Rattle.im_session.{proofs.GroupLemmas.served_back, specs.Serving.served_answer}
+use Rattle.im_trace.specs.Lines.{leaves_line, memory_after}
 use Rattle.im_controller.proofs.LendLemmas.{ok-leaves, same_by}
 use Rattle.im_controller.specs.Groups.{AreAnswersTo, IsAnswerTo, lines_left, MembersAnswered, memory_after_all}
 
@@ -104,13 +105,9 @@ members-after m left (r ∷ rs) =
     (sym (member-after m left r))
     ∙ members-after (contents_with m left r) (places_behind m left r) rs
 
-answer_served : (a : Result Outcome Refusal) → served_answer (as_served a) ≡ a
-answer_served (Ok outcome) = refl
-answer_served (Err refusal) = refl
-
 pub answers_served : (xs : List (Result Outcome Refusal)) → map served_answer (map as_served xs) ≡ xs
 answers_served [] = refl
-answers_served (x ∷ xs) = ap (λ y. y ∷ map served_answer (map as_served xs)) (answer_served x)
+answers_served (x ∷ xs) = ap (λ y. y ∷ map served_answer (map as_served xs)) (served_back x)
     ∙ ap (λ ys. x ∷ ys) (answers_served xs)
 
 whole_served : (xs : List (Result Outcome Refusal)) → length (map as_served xs) ≡ length xs

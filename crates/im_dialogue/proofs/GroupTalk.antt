@@ -7,13 +7,13 @@ use Rattle.im_types.specs.Types.{Command, Outcome, Served, Refusal, JournalFull,
 use Rattle.im_types.specs.Types.{is_accepted, after}
 use Rattle.im_laws.proofs.{RunLemmas.after-append, Tests.true_or_false}
 use Rattle.im_groups.proofs.CommandLemmas.{at-after, commands_behind, few_at}
+use Rattle.{im_groups.proofs.EnoughLemmas.at_most_members, im_engine.specs.State.EngineState}
 use Rattle.im_groups.specs.Commands.{answer_with, command_at, commands_at, contents_after_all, contents_with}
 use Rattle.im_groups.specs.Commands.{left_after, places, places_behind, takes_place}
-use Rattle.im_engine.{proofs.Accepting.accepted_answers, specs.State.EngineState}
 use Rattle.im_engine.specs.Commands.{after_commands, answers_in_turn, commands_put, CommandsAnswered}
 use Rattle.im_turning.specs.Turning.{Point, point_of, TurnsLead, with_one}
+use Rattle.im_session.{proofs.GroupLemmas.one_command, specs.Put.doubted_of, specs.Put.sure_by, specs.Put.sure_of}
 use Rattle.im_session.specs.{Kept.session_of, Kept.SessionState, Serving.served_together}
-use Rattle.im_session.specs.Put.{doubted_of, sure_by, sure_of}
 use Rattle.im_text.{proofs.PrintingLemmas.true_false, specs.Printing.Begins}
 use Rattle.im_dialogue.proofs.{ReachLemmas.contents_behind, TalkLemmas.ended_here, TalkLemmas.Left}
 use Rattle.im_dialogue.specs.{Answers.answer_text, Asking.asked_of, Backups.Backup, declared.asking.Question.Question}
@@ -31,42 +31,6 @@ second true b is = is
 second false b is = absurd (true_false false is refl)
 
 -- ---- one member
-
-some_or_none : (n : ℕ) → (if nat_lt 0 n then false else true) ≡ (n == 0)
-some_or_none zero = refl
-some_or_none (suc n) = grind (arith, nat_tests)
-
--- what is put of an answer, by whether the command changes the memory
-abbrev sure_if : Bool → Command → Result Outcome Refusal → List Command
-sure_if false c a = []
-sure_if true c (Ok o) = c ∷ []
-sure_if true c (Err r) = []
-
-sure_as : (m : Contents) (c : Command) (a : Result Outcome Refusal) → sure_by m c a ≡ sure_if (is_accepted m c) c a
-sure_as m c (Ok o) = by_test (is_accepted m c)
-  where
-    by_test : (b : Bool) → (if b then c ∷ [] else []) ≡ sure_if b c (Ok o)
-    by_test true = refl
-    by_test false = refl
-sure_as m c (Err r) = by_test (is_accepted m c)
-  where
-    by_test : (b : Bool) → [] ≡ sure_if b c (Err r)
-    by_test true = refl
-    by_test false = refl
-
-one_put : (c : Command) (a : Result Outcome Refusal) (b z l : Bool) → z ≡ (if l then false else true)
-    → (b ≡ true → (o : Outcome) × (a ≡ Ok o))
-    → sure_if b c (if b && z then Err JournalFull else a) ≡ (if b && l then c ∷ [] else [])
-one_put c a false z l is told = refl
-one_put c a true z true is told = ap (λ (x : Bool). sure_if true c (if x then Err JournalFull else a)) is
-    ∙ ap (λ (x : Result Outcome Refusal). sure_if true c x) (told refl).1
-one_put c a true z false is told = ap (λ (x : Bool). sure_if true c (if x then Err JournalFull else a)) is
-
--- the command that is put on the disk, by the answer
-put_is : (m : Contents) (left : ℕ) (c : Command) → sure_by m c (answer_with m left c) ≡ command_at m left c
-put_is m left c = sure_as m c (answer_with m left c)
-    ∙ one_put c (step m c).answer (is_accepted m c) (left == 0) (nat_lt 0 left) (sym (some_or_none left))
-    (accepted_answers m c)
 
 of_one : (m : Contents) (p : Point) (c : Command) (b z : Bool) → z ≡ false
     → IsOutcomeOf m p c (if b && z then Err JournalFull else (step m c).answer)
@@ -115,16 +79,6 @@ contents_by m left c = by_test (takes_place m left c)
     by_test false = refl
 
 -- each member puts one command on the disk at most
-pub put_few : (m : Contents) (left : ℕ) (cs : List Command) → length (commands_at m left cs) ≤ length cs
-put_few m left [] = omega arith
-put_few m left (c ∷ cs) = by_test (takes_place m left c) (put_few (contents_with m left c) (places_behind m left c) cs)
-  where
-    by_test : (b : Bool) → length (commands_at (contents_with m left c) (places_behind m left c) cs) ≤ length cs
-        → length ((if b then c ∷ [] else []) ++ commands_at (contents_with m left c) (places_behind m left c) cs) ≤ suc
-        (length cs)
-    by_test true rest = omega (arith, rest)
-    by_test false rest = omega (arith, rest)
-
 -- the places that are left, and those that the members took
 pub left_and_put : (m : Contents) (left : ℕ) (cs : List Command)
     → left_after m left cs + length (commands_at m left cs) ≡ left
@@ -229,7 +183,7 @@ module _ (watch : Bool) (b : GroupStart) where
       -- what it puts on the disk
       put_here : sure_by here c answered_so ≡ put_one
       put_here = ap (λ (m : Contents). sure_by m c answered_so) (sym told.memory)
-          ∙ put_is (memory_between b ahead) (places_between b ahead) c
+          ∙ one_command (memory_between b ahead) (places_between b ahead) c
 
       put_more : put_of b.memory (exchange (ServedAs c answered_so) ∷ told.said) ≡ put_of b.memory told.said ++ put_one
       put_more = ap (λ (l : List Command). put_of b.memory told.said ++ l) put_here
@@ -372,7 +326,7 @@ module _ {D : Type 0} (old new : SessionState D) (cs : List Command) (ss : List 
   group_halts few dead = λ f. record {
     answered = tt;
     doubt = commands_put old.engine cs;
-    few = omega (arith, few, put_few old.engine.memory (places old.engine.count old.engine.room) cs);
+    few = omega (arith, few, at_most_members old.engine.memory (places old.engine.count old.engine.room) cs);
     same = put ∙ ap₂ (λ (before failed : Bool). put_if before failed) f dead;
   }
 

@@ -6,9 +6,10 @@ use Rattle.std.{proofs.lemmas.Bool.Decides.nat_tests, specs.List.list_any}
 use Rattle.im_types.specs.Types.{Waiter, Command, Outcome, Served, Refusal, MAX_GROUP, Held, Contents, held_at}
 use Rattle.im_types.specs.Types.{IsMemory, as_served}
 use Rattle.im_laws.proofs.Tests.{or_left, or_right, true_false}
-use Rattle.{im_groups.proofs.CommandLemmas.left_behind, im_session.specs.Serving.served_answer}
+use Rattle.im_groups.proofs.{CommandLemmas.left_behind, EnoughLemmas.at_most_members}
 use Rattle.im_groups.specs.Commands.{answer_with, answers_with, contents_with, places_behind}
-use Rattle.im_dialogue.proofs.GroupTalk.{left_and_put, put_few, told_member, told_none, told_shown}
+use Rattle.im_session.specs.Serving.{served_answer}
+use Rattle.im_dialogue.proofs.GroupTalk.{left_and_put, told_member, told_none, told_shown}
 use Rattle.im_dialogue.proofs.{HearingLemmas.heard_some, TalkLemmas.Left}
 use Rattle.im_dialogue.proofs.LookLemmas.{ask_recalls, entry_of, may_change_there, recall_with}
 use Rattle.im_dialogue.proofs.ReachLemmas.{after_memory, cell_after, contents_behind}
@@ -215,7 +216,7 @@ module _ (watch : Bool) (b : GroupStart) where
   -- a place is left for one more member than those ahead
   some_left : (ahead : List Command) → length ahead < b.places → (places_between b ahead == 0) ≡ false
   some_left ahead few =
-      let put = put_few b.memory b.places ahead in
+      let put = at_most_members b.memory b.places ahead in
       let all = left_and_put b.memory b.places ahead in
       let some : 0 < places_between b ahead = omega (arith, put, all, few) in
       grind (arith, nat_tests, some)

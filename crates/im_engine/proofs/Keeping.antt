@@ -6,15 +6,15 @@ use Rattle.im_types.specs.Types.{Command, LAST, Contents, step, is_accepted, lay
 use Rattle.im_types.specs.Types.{ring_of, Header, Ring, Tail, tail, accept_each}
 use Rattle.im_disk.specs.{Moment.Left, Moment.Moment, Since.LeavesNow, Since.SameBut}
 use Rattle.im_journal.{proofs.Slots.slot_inside, specs.Groups.SameButGroup}
-use Rattle.im_journal.specs.Holding.{AllHold, Appended, Holds, JournalState, KeepsBoundaries, longer, longer_tail}
-use Rattle.im_journal.specs.Holding.{MayAppend, room_after}
+use Rattle.im_journal.specs.Holding.{AllHold, Holds, IsAdded, JournalState, KeepsBoundaries, Lays, longer, longer_tail}
+use Rattle.im_journal.specs.Holding.{MayLay, MayPut, room_after, with_ahead}
 use Rattle.{im_meaning.specs.Images.IsImage, im_meaning.specs.Images.other, im_image.specs.Reading.HasSizes}
 use Rattle.im_memory.specs.{State.MemoryState, Touched.ChangesOnly, Touched.touched}
 use Rattle.im_checkpoint.proofs.{Bytes.same_all, Copying.prepared_for, Moments.kept_calm, Moments.means_left}
 use Rattle.im_checkpoint.proofs.Copies.{IsPrepared, step_moved, step_named, taken_longer}
 use Rattle.im_checkpoint.proofs.Files.{enough, keeps_at, means_of, some, Still, still_in_area}
-use Rattle.im_checkpoint.proofs.Sweeping.{area_before_stays, in_force_stays, other_place_stays, shows_stays}
-use Rattle.im_checkpoint.proofs.Sweeping.{tail_of_image}
+use Rattle.im_checkpoint.proofs.Sweeping.{area_before_stays, in_force_stays, other_place_stays, run_kept, shows_stays}
+use Rattle.im_checkpoint.proofs.Sweeping.{swept_means, tail_of_image}
 use Rattle.im_checkpoint.specs.Keeping.{IsKept, Keeps, MeansWith, Paged, paged, Prepares}
 use Rattle.im_checkpoint.specs.Step.{CheckpointState, left_in, PagedCheckpoint}
 
@@ -141,30 +141,31 @@ module _ (c : CheckpointState) (x : Paged) (m : Contents) (j : JournalState) (no
     room_there : room_after j.count (length commands) j.room ≤ room_after j.count (length commands) kept.read.there
     room_there = room_grows j.count (length commands) j.room kept.read.there (enough c.header m j now.bytes kept.read)
 
-    pub may_append_means : (file : List ℕ) → MayAppend j commands now file → MeansWith m j file
+    pub may_put_means : (n : ℕ) (file : List ℕ) → MayPut n j commands now file → MeansWith m j file
         ⊎ MeansWith m2 (longer (length commands) j) file
-    may_append_means file may = ⊎_elim
+    may_put_means n file may = ⊎_elim
         (λ same. inl (means_same c.header m j may.from (there may.from may.left) file
-        (in_ring (length commands) may.from file may.same) same))
+        (in_ring n may.from file may.same) same))
         (λ added. inr (means_more c.header m j may.from (there may.from may.left) file
-        (in_ring (length commands) may.from file may.same) commands m2 accepts
+        (in_ring n may.from file may.same) commands m2 accepts
         more refl refl refl (room_after j.count (length commands) kept.read.there) room_there
         (added_tail may.from file may.left added)))
         may.reads
 
-    -- once they are appended, the disk keeps it
-    pub kept_longer : (new : Moment) → SameButGroup j.ring j.count (length commands) now.bytes new.bytes → new.ranges
-        ≡ [] → Appended j commands now new.bytes → Holds (longer (length commands) j) new.bytes
-        → IsKept c x m2 (longer (length commands) j) new
-    kept_longer new but calm added holds =
-        let ring : SameBut j.ring.base (64 * j.ring.slots) now.bytes new.bytes = in_ring
-        (length commands) now.bytes new.bytes but in
+    -- once they are put, the disk keeps it with the longer journal, whatever is ahead of that
+    pub kept_put : (n : ℕ) (new : Moment) (k : JournalState) (next : List Command) → k ≡ with_ahead next more
+        → SameButGroup j.ring j.count n now.bytes new.bytes → new.ranges ≡ [] → IsAdded n j commands now new.bytes
+        → Holds k new.bytes → IsKept c x m2 k new
+    kept_put n new k next k_is but calm added holds =
+        let ring : SameBut j.ring.base (64 * j.ring.slots) now.bytes new.bytes = in_ring n now.bytes new.bytes but in
         let boundaries : KeepsBoundaries (ring_of layout_in_use c.header.sizes) c.header.count added.from new.bytes =
         subst (λ (n : ℕ). KeepsBoundaries (ring_of layout_in_use c.header.sizes) n added.from new.bytes) kept.read.first
         (subst (λ (r : Ring). KeepsBoundaries r j.first added.from new.bytes) kept.read.ring added.boundaries) in
-        kept_calm c x m2 more new calm
-        (keeps_more c.header m j now.bytes kept.read new.bytes ring commands m2 accepts
-        more refl refl refl (room_after j.count (length commands) kept.read.there) room_there
+        kept_calm c x m2 k new calm
+        (keeps_more c.header m j now.bytes kept.read new.bytes ring commands m2 accepts k
+        (ap (λ (y : JournalState). y.ring) k_is) (ap (λ (y : JournalState). y.first) k_is)
+        (ap (λ (y : JournalState). y.count) k_is) (room_after j.count (length commands) kept.read.there)
+        (omega (arith, ap (λ (y : JournalState). y.room) k_is, room_there))
         (added_tail added.from new.bytes added.left added.reads) holds)
         (taken_longer c.header kept.read.shown kept.read.commands commands x c.step new.bytes
         (step_moved c.header x now.bytes new.bytes
@@ -172,7 +173,22 @@ module _ (c : CheckpointState) (x : Paged) (m : Contents) (j : JournalState) (no
         (area_before_stays c.header m j now.bytes kept.read new.bytes ring (other c.header)
         (omega arith)) kept.read.shown kept.read.commands c.step
         (other_place_stays c.header m j now.bytes kept.read new.bytes ring)
-        (λ k boundary. boundaries k ((still added.from added.left).boundaries k boundary)) kept.step))
+        (λ i boundary. boundaries i ((still added.from added.left).boundaries i boundary)) kept.step))
+
+    -- the same with nothing more ahead
+    pub kept_longer : (new : Moment) → SameButGroup j.ring j.count (length commands) now.bytes new.bytes → new.ranges
+        ≡ [] → IsAdded (length commands) j commands now new.bytes → Holds (longer (length commands) j) new.bytes
+        → IsKept c x m2 (longer (length commands) j) new
+    kept_longer new but calm added holds = kept_put (length commands) new more more.ahead refl but calm added holds
+
+  -- bodies that are laid behind the run change nothing
+  pub lay_means : (file : List ℕ) → MayLay j now file → MeansWith m j file
+  lay_means file may = swept_means c.header m j may.from (there may.from may.left) file may.run
+
+  pub kept_laid : (new : Moment) (k : JournalState) (next : List Command) → k ≡ with_ahead next j → Lays j k now new
+      → IsKept c x m k new
+  kept_laid new k next k_is lays = run_kept c x m j k now new kept (ap (λ (y : JournalState). y.ring) k_is)
+      (ap (λ (y : JournalState). y.first) k_is) (ap (λ (y : JournalState). y.count) k_is) lays.run lays.calm lays.holds
 
 -- before a command acts, its pages were named
 module _ (c d : PagedCheckpoint) (m n : MemoryState) (command : Command) (prepares : Prepares c m command d)

@@ -10,3 +10,5 @@ pub mod Members
 pub mod Adding
 pub mod Together
 pub mod Requests
+pub mod Chaining
+pub mod Advancing

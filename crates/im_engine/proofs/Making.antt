@@ -137,7 +137,7 @@ module _ (l : Limits) (range : AreLimits l.cells l.elements l.slots) (c : PagedC
     (c_is : IsIdle (new_header (sizes_of l)) true c)
     (m : MemoryState) (m_is : m.contents ≡ empty_contents l.cells l.elements)
     (records_are : m.records ≡ empty_records l.cells l.elements) (j : JournalState)
-    (j_is : j ≡ record { ring = ring_under l; first = 0; count = 0; room = l.slots }) where
+    (j_is : j ≡ record { ring = ring_under l; first = 0; count = 0; room = l.slots; ahead = [] }) where
   -- a new checkpoint, an empty memory and a fresh journal are of the same sizes
   pub fresh_fits : Fits c.state m.contents j
   unfolding empty_contents

@@ -113,7 +113,7 @@ pub longer_none : (j : JournalState) → IsJournal j → longer 0 j ≡ j
 longer_none j it =
     let count : j.count + 0 ≡ j.count = omega arith in
     let room : room_after j.count 0 j.room ≡ j.room = by_test (j.count + 0 == LAST) refl in
-    (λ i. record { ring = j.ring; first = j.first; count = count i; room = room i })
+    (λ i. record { ring = j.ring; first = j.first; count = count i; room = room i; ahead = j.ahead })
   where
     by_test : (b : Bool) → (j.count + 0 == LAST) ≡ b → (if b then 0 else j.room - 0) ≡ j.room
     by_test true e = let last : j.count ≡ LAST = grind (arith, nat_tests) in sym (it.full_at_last last)

@@ -50,7 +50,7 @@ module _ {D : Type 0} (old : EngineState D) (rs : List Request) (counted : IsCou
       let count = ap (λ (l : List Command). old.count + length l) put_is ∙ sym (puts-counted (reached_in old) rs) in
       let room = ap (λ (l : List Command). room_after old.count (length l) old.room) put_is
       ∙ sym (puts-room (reached_in old) rs counted) in
-      (λ i. record old { memory = memory i; count = count i; room = room i })
+      (λ i. record old { memory = memory i; count = count i; room = room i; ahead = [] })
 
   answers_are : answers_in_turn old (map Asks rs) ≡ answers_in old rs
   answers_are = ap (map as_served) (sym (answers_by (reached_in old) rs counted))

@@ -6,7 +6,7 @@ use Rattle.im_types.specs.Types.{Header}
 use Rattle.im_laws.proofs.MemoryLemmas.{step-cell_count, step-window_count}
 use Rattle.{im_disk.proofs.SinceLemmas.left_now, im_journal.specs.Groups.SameButGroup}
 use Rattle.im_disk.specs.{Moment.Left, Moment.Moment, Since.Calls, Since.CallsBy}
-use Rattle.im_journal.specs.Holding.{AllHold, Appended, Holds, JournalState, longer}
+use Rattle.im_journal.specs.Holding.{AllHold, Holds, IsAdded, JournalState, longer}
 use Rattle.im_checkpoint.specs.Keeping.{Fits, IsBetween, IsKept, Paged, StepFits}
 use Rattle.im_checkpoint.specs.Step.{CheckpointState, NoCheckpoint, PagesDone, PagesLeft, Step, Synced}
 use Rattle.im_engine.proofs.{Accepting.accepted_answers, Accepting.Answers, Keeping.accept_one, Keeping.kept_longer}
@@ -52,7 +52,7 @@ module _ (c : CheckpointState) (x : Paged) (m : Contents) (j : JournalState) (no
     (kept : IsKept c x m j now) (command : Command) (accepted : is_accepted m command ≡ true) where
   pub kept_with_it : (new : Contents) → new ≡ (step m command).contents → (longer_j : JournalState) → longer_j
       ≡ longer 1 j → (after : Moment) → SameButGroup j.ring j.count 1 now.bytes after.bytes → after.ranges ≡ []
-      → ((file : List ℕ) → Left after file → Appended j (command ∷ []) now file) → AllHold longer_j after
+      → ((file : List ℕ) → Left after file → IsAdded 1 j (command ∷ []) now file) → AllHold longer_j after
       → IsKept c x new longer_j after
   kept_with_it new is longer_j more after but calm added holds =
       subst (λ (y : Contents). IsKept c x y longer_j after) (sym is)

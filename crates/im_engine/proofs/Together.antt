@@ -1,11 +1,12 @@
 -- How a group is served.
-use Rattle.std.proofs.Common.{◌≡◌, ℕ, ◌+◌, ◌-◌, ◌≤◌, min, Bool, true, false, ◌⊎◌, List, [], length, Some, Ok, Err}
+use Rattle.std.proofs.Common.{◌≡◌, ℕ, ◌+◌, ◌-◌, ◌<◌, ◌≤◌, min, Bool, true, false, ◌⊎◌, List, [], length, Some, Ok, Err}
 use Rattle.std.proofs.Common.{Result, sym, ap, ◌∙◌, subst, inl, inr, ⊎_elim, arith}
 use Rattle.im_types.specs.Types.{Command, Served, Device, LAST, Contents, after, layout_in_use, ring_of, Header}
 use Rattle.im_types.specs.Types.{accept_each, Means}
-use Rattle.{im_laws.specs.Groups.IsCounted, im_memory.specs.State.MemoryState, im_image.specs.Reading.HasSizes}
+use Rattle.{im_laws.specs.Groups.IsCounted, im_journal.proofs.Appending.none_ahead, im_image.specs.Reading.HasSizes}
 use Rattle.im_disk.specs.{Moment.Moment, Since.CallsAtMost, Since.CallsBy}
-use Rattle.im_journal.specs.Holding.{IsJournal, JournalState, longer, room_after}
+use Rattle.im_journal.specs.Holding.{ahead_after, IsJournal, JournalState, longer, room_after}
+use Rattle.im_memory.specs.State.{MemoryState}
 use Rattle.im_groups.proofs.CommandLemmas.{at-accepts, at-after, few_at}
 use Rattle.im_groups.specs.Commands.{commands_at, contents_after_all, most_pages_with, places}
 use Rattle.im_checkpoint.specs.{Keeping.Fits, Keeping.IsBetween, Keeping.MeansWith, Keeping.StepFits, Turns.AddsAtMost}
@@ -52,11 +53,16 @@ fits_group c c2 m m2 j j2 n it same sizes more = record {
     step_longer h j (PagesDone count) it = later h j count it
     step_longer h j (Synced count) it = later h j count it
 
-module _ {D : Type 0} (d : D) (c : PagedCheckpoint) (m : MemoryState) (j : JournalState) (f : Bool)
+-- what is ahead is no more once commands were put
+gone : {X : Type 0} (cmds put : List Command) (a : List X) → cmds ≡ put → 0 < length put
+    → ahead_after (length cmds) a ≡ []
+gone cmds put a are some = none_ahead (length cmds) a (omega (arith, ap length are, some))
+
+module _ {D : Type 0} (d : D) (c : PagedCheckpoint) (m : MemoryState) (j : JournalState) (a : List Command) (f : Bool)
     (cs : List Command) (known : IsJournal j) (cmds : List Command)
     (cmds_are : cmds ≡ commands_at m.contents (places j.count j.room) cs) where
   abbrev here : EngineState D
-  here = engine_of d c m j f
+  here = engine_of d c m j a f
 
   few : length cmds ≤ min j.room (LAST - j.count)
   few = omega (arith, ap length cmds_are, few_at m.contents (min j.room (LAST - j.count)) cs)
@@ -88,21 +94,23 @@ module _ {D : Type 0} (d : D) (c : PagedCheckpoint) (m : MemoryState) (j : Journ
 
   -- the disk has the group, and its members acted
   pub group_done : f ≡ false → (d2 : D) (c2 : PagedCheckpoint) (m2 : MemoryState) (j2 : JournalState)
-      → j2 ≡ longer (length cmds) j → (cmds ≡ [] → d2 ≡ d) → c2.state ≡ c.state
+      (a2 : List Command)
+      → j2 ≡ longer (length cmds) j → a2 ≡ ahead_after (length cmds) a → (cmds ≡ [] → d2 ≡ d) → c2.state ≡ c.state
       → m2.contents ≡ contents_after_all m.contents (places j.count j.room) cs → (answers : List Served)
       → answers ≡ answers_in_turn here cs
       → AddsAtMost (most_pages_with m.contents (places j.count j.room) cs) (changed_in c) (changed_in c2)
-      → CommandsAnswered here cs answers (engine_of d2 c2 m2 j2 f)
-  group_done alive d2 c2 m2 j2 more untouched still contents answers told adds = record {
+      → CommandsAnswered here cs answers (engine_of d2 c2 m2 j2 a2 f)
+  group_done alive d2 c2 m2 j2 a2 more ahead untouched still contents answers told adds = record {
     dead = λ e. absurd (cc);
-    none = λ a none.
+    none = λ e none.
         let nothing : cmds ≡ [] = cmds_are ∙ none in
         let disk : d2 ≡ d = untouched nothing in
         let memory : m2.contents ≡ m.contents = contents ∙ none_after nothing in
         let journal : j2 ≡ j = more ∙ ap (λ (l : List Command). longer (length l) j) nothing ∙ longer_none j known in
         let pages : changed_in c2 ≡ changed_in c = unchanged (changed_in c) (changed_in c2)
         (subst (λ (n : ℕ). AddsAtMost n (changed_in c) (changed_in c2))
-        (none_named m.contents (places j.count j.room) cs none) adds) in (
+        (none_named m.contents (places j.count j.room) cs none) adds) in
+        let same : a2 ≡ a = ahead ∙ ap (λ (l : List Command). ahead_after (length l) a) nothing in (
           told,
           (λ i. record {
             disk = disk i;
@@ -112,12 +120,14 @@ module _ {D : Type 0} (d : D) (c : PagedCheckpoint) (m : MemoryState) (j : Journ
             memory = memory i;
             count = (journal i).count;
             room = (journal i).room;
+            ahead = same i;
             failed = f;
           }),
         );
-    put = λ a some.
+    put = λ e some.
         let journal : j2 ≡ longer (length (commands_at m.contents (places j.count j.room) cs)) j
         = more ∙ ap (λ (l : List Command). longer (length l) j) cmds_are in
+        let nothing : a2 ≡ [] = ahead ∙ gone cmds (commands_at m.contents (places j.count j.room) cs) a cmds_are some in
         inl (
           told,
           (λ i. record {
@@ -128,19 +138,20 @@ module _ {D : Type 0} (d : D) (c : PagedCheckpoint) (m : MemoryState) (j : Journ
             memory = contents i;
             count = (journal i).count;
             room = (journal i).room;
+            ahead = nothing i;
             failed = f;
           }),
         );
-    pages = λ a works. adds;
+    pages = λ e works. adds;
   }
 
   -- a call of the disk failed
   pub group_failed : f ≡ false → (d2 : D) (j2 : JournalState) → j2 ≡ j → (cmds ≡ [] → ⊥) → (answers : List Served)
-      → answers ≡ each_refused Device cs → CommandsAnswered here cs answers (engine_of d2 c m j2 true)
+      → answers ≡ each_refused Device cs → CommandsAnswered here cs answers (engine_of d2 c m j2 a true)
   group_failed alive d2 j2 stays some answers told = record {
     dead = λ e. absurd (cc);
-    none = λ a none. absurd (some (cmds_are ∙ none));
-    put = λ a any. inr (
+    none = λ e none. absurd (some (cmds_are ∙ none));
+    put = λ e any. inr (
       told,
       (λ i. record {
         disk = d2;
@@ -150,10 +161,11 @@ module _ {D : Type 0} (d : D) (c : PagedCheckpoint) (m : MemoryState) (j : Journ
         memory = m.contents;
         count = (stays i).count;
         room = (stays i).room;
+        ahead = a;
         failed = true;
       }),
     );
-    pages = λ a works. absurd (cc);
+    pages = λ e works. absurd (cc);
   }
 
   calls_are : calls_for_group (length cmds) ≡ calls_for_group (length (commands_put here cs))

@@ -25,10 +25,12 @@ pub record Answered {D : Type 0} (old : EngineState D) (command : Command) (answ
 abbrev pub calls_for : Contents → Command → ℕ
 calls_for m command = if is_accepted m command then 4 else 0
 
--- A turn that was done. The memory and the count stay, the engine works, and the rest follows the table of turns.
+-- A turn that was done. The memory, the count and what is ahead stay, the engine works, and the rest follows the table
+-- of turns.
 pub record TurnTaken {D : Type 0} (old : EngineState D) (done : TurnDone) (new : EngineState D) : Type 0 where
   pub memory : new.memory ≡ old.memory
   pub count : new.count ≡ old.count
+  pub ahead : new.ahead ≡ old.ahead
   pub alive : new.failed ≡ false
   pub turned : Turned (checkpoint_in old) (journal_in old) done (checkpoint_in new) (journal_in new)
   -- a checkpoint that begins has to write the changed pages of the area that isn't in force, and no others

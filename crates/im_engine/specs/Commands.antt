@@ -30,13 +30,14 @@ pub record AreJudged (m : Contents) (left : ℕ) (members : List Command) (all :
   pub whole : all ≡ true → AreWhole m left members
   pub each : all ≡ false → AreParted m left members told
 
--- the engine after these commands, one after another
+-- the engine after these commands, one after another, with nothing ahead
 abbrev pub after_commands : {D : Type 0} → EngineState D → List Command → EngineState D
 after_commands s members = let n = length (commands_put s members) in record s {
   memory = contents_after_all s.memory
       (places s.count s.room) members;
   count = s.count + n;
   room = room_after s.count n s.room;
+  ahead = [];
 }
 
 -- each command gets this refusal

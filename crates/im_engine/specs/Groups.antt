@@ -16,10 +16,10 @@ use Rattle.im_engine.specs.State.{EngineState}
 abbrev pub reached_in : {D : Type 0} → EngineState D → Reached
 reached_in s = record { contents = s.memory; count = s.count; room = s.room }
 
--- the engine after the members of a group, one after another
+-- the engine after the members of a group, one after another, with nothing ahead
 abbrev pub after_group : {D : Type 0} → EngineState D → List Request → EngineState D
-after_group s members =
-    let r = reached_by_all (reached_in s) members in record s { memory = r.contents; count = r.count; room = r.room }
+after_group s members = let r = reached_by_all (reached_in s) members in
+    record s { memory = r.contents; count = r.count; room = r.room; ahead = [] }
 
 -- the maximum number of pages with a record that the members may change, one after another
 abbrev pub most_pages_in : Reached → List Request → ℕ

@@ -4,3 +4,4 @@ pub mod Leaving
 pub mod Answered
 pub mod Groups
 pub mod Commands
+pub mod Chain

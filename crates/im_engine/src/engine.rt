@@ -1,5 +1,5 @@
 //! The engine: it serves one command, makes turns of a checkpoint, and sweeps.
-ghost use Rattle.std.specs.Prelude.{◌≡◌, ◌+◌, true, false, OnOk};
+ghost use Rattle.std.specs.Prelude.{◌≡◌, ◌+◌, true, false, [], OnOk};
 ghost use Rattle.im_types.specs.Types.{step, is_accepted};
 ghost use Rattle.im_disk.specs.{Moment.Faults, Since.CallsAtMost, Since.CallsBy, Since.LeavesNow};
 ghost use Rattle.im_checkpoint.specs.{Keeping.Fits, Keeping.IsKept, Keeping.paged, Step.IsUnderWay, Step.turns_left};
@@ -8,6 +8,7 @@ ghost use Rattle.im_engine.specs.Answered.{Answered, calls_for, SweepAnswered, T
 ghost use Rattle.im_engine.specs.Leaving.{LeavesAfter, LeavesSince, LeavesState, LeavesThroughout};
 ghost use Rattle.im_engine.specs.State.{engine_of, journal_in, MeansEither, MeansState, with_command};
 
+use crate::ahead::GroupAhead;
 use im_checkpoint::{Checkpoint, TurnDone};
 use im_disk::Disk;
 use im_journal::Journal;
@@ -18,13 +19,15 @@ use std::marker::Model;
 /// A memory that a disk keeps.
 ///
 /// Contracts see its disk, the header in force, how far the next checkpoint has come, the pages that changed, the
-/// memory, the count of all accepted commands, the room for more, and whether the disk has failed it. While it hasn't
-/// failed, each file that a crash may leave means this memory and this count.
+/// memory, the count of all accepted commands, the room for more, the members of the group ahead
+/// ([`advance`](Engine::advance)), and whether the disk has failed it. While it hasn't failed, each file that a crash
+/// may leave means this memory and this count: what is ahead has no effect.
 pub struct Engine<D: Disk> {
     pub(crate) disk: D,
     pub(crate) checkpoint: Checkpoint,
     pub(crate) journal: Journal,
     pub(crate) memory: Memory,
+    pub(crate) ahead: GroupAhead,
     pub(crate) failed: bool,
 }
 
@@ -36,6 +39,7 @@ impl<D: Disk + Drop> Drop for Engine<D> {
             checkpoint: _,
             journal: _,
             memory: _,
+            ahead: _,
             failed: _,
         } = self;
     }
@@ -44,7 +48,7 @@ impl<D: Disk + Drop> Drop for Engine<D> {
 impl<D: Disk> Model for Engine<D> {
     ghost use Rattle.std.specs.Prelude.{◌≡◌, false};
     ghost use Rattle.im_checkpoint.specs.{Keeping.Fits, Keeping.IsKept, Keeping.paged, Step.changed_in};
-    ghost use Rattle.im_engine.specs.State.{EngineState};
+    ghost use Rattle.im_engine.specs.{Chain.IsAhead, State.EngineState};
 
     ghost Value = { EngineState D };
 
@@ -56,12 +60,14 @@ impl<D: Disk> Model for Engine<D> {
       memory = e.memory.contents;
       count = e.journal.count;
       room = e.journal.room;
+      ahead = e.ahead.members.items;
       failed = e.failed;
     } };
 
     ghost invariant = { λ e. Fits e.checkpoint.state e.memory.contents e.journal
         × (D.honest e.disk → e.failed ≡ false
-        → IsKept e.checkpoint.state (paged e.checkpoint e.memory) e.memory.contents e.journal (D.now e.disk)) };
+        → IsKept e.checkpoint.state (paged e.checkpoint e.memory) e.memory.contents e.journal (D.now e.disk))
+        × IsAhead e.memory.contents e.journal e.ahead.members.items e.ahead.commands.items e.ahead.taken.items };
 }
 
 impl<D: Disk> Engine<D> {
@@ -69,7 +75,8 @@ impl<D: Disk> Engine<D> {
     ///
     /// It is judged, and where it is accepted it is put on the disk, by four calls, and then acts. Any other command is
     /// answered with no call of the disk, and changes nothing: a repeat by its kept entry, a confirmation that forgets
-    /// nothing by `Confirmed`. It takes no memory.
+    /// nothing by `Confirmed`. A group ahead is forgotten where the command is put on the disk: it had no effect. It
+    /// takes no memory.
     ///
     /// `Failed` exactly where an earlier call failed on the disk. The refusals of numbers, where the command isn't
     /// accepted. `JournalFull` exactly where it would be accepted and there is no room. All of these leave all as it
@@ -133,6 +140,7 @@ impl<D: Disk> Engine<D> {
             self.failed = true; // The command is there, or not.
             return Err(Refusal::Device);
         }
+        self.ahead.forget(); // Its slots have the command.
         // Of a page that a checkpoint has still to write, what stood there before the command is wanted.
         self.checkpoint.before(&self.memory, command);
         self.memory.accept(command)
@@ -146,9 +154,10 @@ impl<D: Disk> Engine<D> {
         memory: Memory,
     ) -> Engine<D>
         requires fits { Fits checkpoint.state memory.contents journal }
+        requires none { journal.ahead ≡ [] }
         requires kept { D.honest disk
             → IsKept checkpoint.state (paged checkpoint memory) memory.contents journal (D.now disk) }
-        ensures state { result ≡ engine_of disk checkpoint memory journal false }
+        ensures state { result ≡ engine_of disk checkpoint memory journal [] false }
         ensures means { D.honest result.disk → LeavesNow (D.now result.disk) (MeansState result) }
     {
         Engine {
@@ -156,14 +165,15 @@ impl<D: Disk> Engine<D> {
             checkpoint,
             journal,
             memory,
+            ahead: GroupAhead::none(),
             failed: false,
         }
     }
 
-    /// Makes one turn of a checkpoint: at most four calls of the disk, and what its answer says. The memory and the
-    /// count stay. Where it answers `Began`, the pages to be written are those that changed since the last checkpoint
-    /// of the area that isn't in force began, in rising order; each turn that answers `Page` writes the first of them,
-    /// and the others are left. It takes no memory.
+    /// Makes one turn of a checkpoint: at most four calls of the disk, and what its answer says. The memory, the count
+    /// and the group ahead stay. Where it answers `Began`, the pages to be written are those that changed since the
+    /// last checkpoint of the area that isn't in force began, in rising order; each turn that answers `Page` writes the
+    /// first of them, and the others are left. It takes no memory.
     ///
     /// `Failed` exactly where an earlier call failed on the disk. `Device` where a call of the disk failed: then the
     /// engine has failed, no command is in doubt, and the image has to be opened again.
@@ -200,8 +210,8 @@ impl<D: Disk> Engine<D> {
 
     /// Closes the gates of the oldest slots that are to be swept, so many at most, by a call of the disk for each of
     /// them and one sync for all: how many they were. Where there are none, and while a checkpoint is under way, it
-    /// makes no call. They are room from then on, as after turns that answer `Swept`. The memory and the count stay. It
-    /// takes no memory.
+    /// makes no call. They are room from then on, as after turns that answer `Swept`. The memory, the count and the
+    /// group ahead stay. It takes no memory.
     ///
     /// `Failed` exactly where an earlier call failed on the disk. `Device` where a call of the disk failed: then the
     /// engine has failed, no command is in doubt, and the image has to be opened again.
@@ -243,6 +253,7 @@ impl<D: Disk> Engine<D> {
             checkpoint: _,
             journal: _,
             memory: _,
+            ahead: _,
             failed: _,
         } = self;
         disk // As it was: no call is made.

@@ -156,6 +156,8 @@ impl<D: Disk> Engine<D> {
             self.failed = true; // All of the group is there, or nothing of it.
             return refuse_all(members.all, Refusal::Device, served);
         }
+        // The slots of a group ahead have these commands, if there are any. It had no effect.
+        self.ahead.forget_behind(commands);
         act_all(
             &mut self.checkpoint,
             &mut self.memory,

@@ -2,12 +2,12 @@
 ghost use Rattle.std.specs.Prelude.{◌≡◌, ℕ, ◌+◌, ◌≤◌, true, false, ◌⊎◌, ◌↔◌, [], map, length, OnOk, IsTrue};
 ghost use Rattle.std.specs.Prelude.{MatchResult, Some, Ok};
 ghost use Rattle.im_types.specs.Types.{Asks, MAX_GROUP, Contents, step, is_accepted, AreOthers, AreApart, as_served};
-ghost use Rattle.im_disk.specs.Moment.{Faults, Moment};
-ghost use Rattle.im_journal.specs.Holding.{AllHold, IsJournal, JournalState, longer};
+ghost use Rattle.{im_disk.specs.Moment.Faults, im_disk.specs.Moment.Moment, im_journal.specs.OnDisk.KnownOf};
 ghost use Rattle.{im_memory.specs.Covering.most_pages, im_image.specs.Reading.HasSizes};
+ghost use Rattle.{im_checkpoint.specs.Keeping.IsKept, im_checkpoint.specs.Keeping.paged};
+ghost use Rattle.im_journal.specs.Holding.{AllHold, IsJournal, JournalState, longer};
 ghost use Rattle.im_groups.specs.Commands.{answer_with, answers_with, contents_after_all, contents_with, most_pages_at};
 ghost use Rattle.im_groups.specs.Commands.{most_pages_with, places, places_behind, takes_place};
-ghost use Rattle.im_checkpoint.specs.Keeping.{IsKept, paged};
 ghost use Rattle.im_engine.specs.Commands.{AreJudged, AreParted, each_refused};
 ghost use Rattle.im_engine.specs.Groups.{FitsGroup, GroupPut, KeepsAfter, LeavesAllOrNone, StaysBut};
 
@@ -83,7 +83,7 @@ pub(crate) fn put_on<D: Disk>(
     commands: &[Command],
 ) -> Result<(), Refusal>
     requires fits { FitsGroup journal.old commands.now }
-    requires holds { D.honest disk.old → AllHold journal.old (D.now disk.old) }
+    requires holds { KnownOf D.Disk disk.old (AllHold journal.old) }
     ensures leaves { D.honest disk.new → LeavesAllOrNone D.Disk journal.old commands.now disk.old disk.new }
     ensures kept { OnOk result (D.honest disk.new
         → KeepsAfter D.Disk journal.old commands.now disk.old disk.new journal.new) }

@@ -2,7 +2,9 @@
 //! file that means the memory after a prefix of the accepted commands.
 #![tactic(auto)]
 
+mod ahead;
 mod apart;
+mod chain;
 mod emptying;
 mod engine;
 mod format;
@@ -14,6 +16,7 @@ mod open;
 mod whole;
 
 pub use apart::Group;
+pub use chain::copy_members;
 pub use emptying::Empties;
 pub use engine::Engine;
 pub use groups::{are_apart, commands_of, refuse_all};

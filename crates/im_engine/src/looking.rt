@@ -7,9 +7,10 @@ ghost use Rattle.im_engine.specs.{Groups.reached_in, Leaving.LeavesState};
 use crate::emptying::Empties;
 use crate::engine::Engine;
 use crate::groups::places_in;
+use arrayvec::ArrayVec;
 use im_disk::Disk;
 use im_memory::Memory;
-use im_types::{Entry, Refusal};
+use im_types::{Command, Entry, MAX_GROUP, Refusal};
 
 impl<D: Disk> Engine<D> {
     /// The entry that is kept under an element's number: refused with `Failed` where an earlier call failed on the
@@ -75,6 +76,13 @@ impl<D: Disk> Engine<D> {
         ensures { result.now.contents ≡ self.now.memory }
     {
         &self.memory
+    }
+
+    /// The members of the group ahead: none of them has acted.
+    pub fn ahead(&self) -> &ArrayVec<Command, MAX_GROUP>
+        ensures { result.now.items ≡ self.now.ahead }
+    {
+        &self.ahead.members
     }
 
     /// The disk.

@@ -1,5 +1,5 @@
 //! Opens an image.
-ghost use Rattle.std.specs.Prelude.{◌≡◌, ◌≤◌, false, ◌⊎◌, length, IfOk, IfErr, MatchResult};
+ghost use Rattle.std.specs.Prelude.{◌≡◌, ◌≤◌, false, ◌⊎◌, [], length, IfOk, IfErr, MatchResult};
 ghost use Rattle.{im_types.specs.Types.Device, im_types.specs.Types.NoMemory, im_image.specs.Headers.MayRefuseOpening};
 ghost use Rattle.{im_image.specs.Headers.seen, im_checkpoint.specs.Keeping.Fits, im_checkpoint.specs.Step.NoCheckpoint};
 ghost use Rattle.im_disk.specs.{Moment.Fault, Moment.Faults, Since.LeavesNow};
@@ -17,7 +17,8 @@ use std::alloc::Global;
 fn read_synced<D: Disk>(alloc: Global, disk: &mut D) -> Result<ImageParts, Refusal>
     ensures area { IfOk result (λ i. i.header.area ≤ 1) }
     ensures fits { IfOk result (λ i.
-        Fits (record { header = seen i.header; step = NoCheckpoint }) i.memory.contents i.journal) }
+        Fits (record { header = seen i.header; step = NoCheckpoint }) i.memory.contents i.journal
+        × (i.journal.ahead ≡ [])) }
     // It holds whatever is known of pages, if all of them count as changed.
     ensures kept { IfOk result (λ i. D.honest disk.new
         → IsKeptIdle (seen i.header) i.memory.contents i.journal (D.now disk.new)) }
@@ -52,9 +53,10 @@ impl<D: Disk> Engine<D> {
         // Each file that a crash may leave means what the engine is, and could have been left before.
         ensures means { IfOk result (λ e. D.honest e.disk → LeavesNow (D.now e.disk) (MeansState e)) }
         ensures works { IfOk result (λ e. e.failed ≡ false) }
-        // No checkpoint is under way, all pages of both areas count as changed, and header and room are those that
-        // reading the file finds.
-        ensures idle { IfOk result (λ e. (e.step ≡ NoCheckpoint) × (e.pages ≡ pages_at_first e.header false)) }
+        // No checkpoint is under way, all pages of both areas count as changed, nothing is ahead, and header and room
+        // are those that reading the file finds.
+        ensures idle { IfOk result (λ e. (e.step ≡ NoCheckpoint) × (e.pages ≡ pages_at_first e.header false)
+            × (e.ahead ≡ [])) }
         ensures found { IfOk result (λ e. D.honest e.disk → LeavesNow (D.now e.disk) (IsFound e)) }
         ensures leaves { MatchResult result (λ e. LeavesAsBefore D.Disk disk e.disk)
             (λ e. LeavesAsBefore D.Disk disk e.1) }

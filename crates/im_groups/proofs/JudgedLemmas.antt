@@ -1,11 +1,13 @@
 -- Members that are judged one after another.
 use Rattle.std.proofs.Common.{◌≡◌, ℕ, zero, suc, ◌+◌, ◌-◌, ◌<◌, ◌≤◌, Bool, true, false, ◌&&◌, List, [], ◌∷◌, ◌++◌}
-use Rattle.std.proofs.Common.{length, get_or, take, if◌then◌else◌, nat_lt, slice_get, Some, sym, ap, ◌∙◌, subst, arith}
-use Rattle.std.proofs.Common.{length-append}
+use Rattle.std.proofs.Common.{length, get_or, take, if◌then◌else◌, nat_lt, slice_get, Some, None, sym, ap, ◌∙◌, subst}
+use Rattle.std.proofs.Common.{arith, length-append}
 use Rattle.std.proofs.lemmas.List.{take_more}
-use Rattle.im_types.specs.Types.{Command, Asks, Confirm, Contents, is_accepted, after}
+use Rattle.im_types.specs.Types.{Command, Asks, Confirm, Contents, step, is_accepted, after, accept_each}
+use Rattle.im_laws.proofs.RunLemmas.{after-append}
+use Rattle.im_groups.proofs.AheadLemmas.{accepted_first}
 use Rattle.im_groups.proofs.CommandLemmas.{at-after, commands_behind, left_behind, takes_behind}
-use Rattle.im_groups.specs.Ahead.{IsUnsure, ServesPrefix}
+use Rattle.im_groups.specs.Ahead.{AreAccepted, IsUnsure, ServesBehind, ServesPrefix}
 use Rattle.im_groups.specs.Commands.{command_at, commands_at, contents_after_all, left_after, takes_at, takes_place}
 
 -- one member more is judged
@@ -96,5 +98,42 @@ pub all-begins : (m : Contents) (put members : List Command) (many : ℕ) → ma
 all-begins m put members many is = record {
   within = omega (arith, is);
   some = λ some. omega (arith, is, some);
+  stops = λ c at. absurd (nothing_past members many is c at);
+}
+
+-- ---- behind the commands of a group ahead
+
+-- what is found behind all commands holds of the members, at the memory after the group
+pub behind-found : (m : Contents) (ahead line put : List Command) (x : Command) (b : Bool) → line ≡ ahead ++ put
+    → b ≡ is_accepted (after m line) x → b ≡ is_accepted (after (after m ahead) put) x
+behind-found m ahead line put x b is found = found ∙ ap (λ (l : List Command). is_accepted (after m l) x) is
+    ∙ ap (λ (n : Contents). is_accepted n x) (after-append m ahead put)
+
+pub accepted-both : (m : Contents) (cs put : List Command) → AreAccepted m cs → AreAccepted (after m cs) put
+    → AreAccepted m (cs ++ put)
+accepted-both m [] put it more = more
+accepted-both m (c ∷ cs) put it more =
+    let first = accepted_first m c cs it in
+    ap (λ (b : Bool). if b then accept_each (step m c).contents (cs ++ put) else None) first.0
+    ∙ accepted-both (step m c).contents cs put first.1 more
+
+pub stops-behind : (m : Contents) (ahead put line members : List Command) (i : ℕ) (d : Command) → i < length members
+    → length put ≤ i → line ≡ ahead ++ put → IsUnsure m line (get_or members i d) → ServesBehind m ahead put members i
+stops-behind m ahead put line members i d within few is unsure = record {
+  within = omega (arith, within);
+  some = λ none some.
+      let behind = unsure-behind m line (get_or members i d) unsure in
+      omega (arith, few, behind, ap length is, length-append ahead put, none);
+  stops = λ c at. there c (found_at members i d c at);
+}
+  where
+    there : (c : Command) → get_or members i d ≡ c → IsUnsure m (ahead ++ put) c
+    there c same = subst (IsUnsure m (ahead ++ put)) same (subst (λ l. IsUnsure m l (get_or members i d)) is unsure)
+
+pub all-behind : (m : Contents) (ahead put members : List Command) (many : ℕ) → many ≡ length members
+    → ServesBehind m ahead put members many
+all-behind m ahead put members many is = record {
+  within = omega (arith, is);
+  some = λ none some. omega (arith, is, some);
   stops = λ c at. absurd (nothing_past members many is c at);
 }

@@ -4,3 +4,5 @@ pub mod AheadLemmas
 pub mod JudgedLemmas
 pub mod MarkLemmas
 pub mod WholeLemmas
+pub mod LineLemmas
+pub mod EnoughLemmas

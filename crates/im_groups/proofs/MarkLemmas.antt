@@ -1,6 +1,7 @@
 -- Marks of the elements of commands.
-use Rattle.std.proofs.Common.{◌≡◌, ℕ, zero, suc, ◌+◌, Bool, true, false, List, [], ◌∷◌, ◌++◌, set, if◌then◌else◌, ◌==◌}
-use Rattle.std.proofs.Common.{Ok, Err, Result, sym, refl, ap, ◌∙◌, subst}
+use Rattle.std.proofs.Common.{◌≡◌, ℕ, zero, suc, ◌+◌, ◌<◌, Bool, true, false, List, [], ◌∷◌, ◌++◌, length, get_or, take}
+use Rattle.std.proofs.Common.{set, if◌then◌else◌, ◌==◌, Ok, Err, Result, sym, refl, ap, ◌∙◌, subst, append_assoc}
+use Rattle.std.proofs.lemmas.List.{take_more}
 use Rattle.im_types.specs.Types.{Request, Command, Asks, Confirm, Refusal, Contents, bounds, is_accepted, after}
 use Rattle.im_laws.proofs.Tests.{eq_by_test, true_false}
 use Rattle.im_groups.proofs.AheadLemmas.{request-behind, request-judged, request-lost, request-nowhere}
@@ -27,7 +28,7 @@ all_stay : (marks : List Bool) (i : ℕ) (cs : List Command) → HaveMarks marks
 all_stay marks i [] it = tt
 all_stay marks i (c ∷ cs) it = (stays marks i (element_behind c) it.0, all_stay marks i cs it.1)
 
-with_more : (marks : List Bool) (cs ds : List Command) → HaveMarks marks cs → HaveMarks marks ds
+pub with_more : (marks : List Bool) (cs ds : List Command) → HaveMarks marks cs → HaveMarks marks ds
     → HaveMarks marks (cs ++ ds)
 with_more marks [] ds it more = more
 with_more marks (c ∷ cs) ds it more = (it.0, with_more marks cs ds it.1 more)
@@ -41,6 +42,30 @@ marked_by marks cs c false it = with_more (set marks (element_behind c) true) cs
 
 pub none_marked : (marks : List Bool) (cs : List Command) → cs ≡ [] → HaveMarks marks cs
 none_marked marks cs none = subst (λ (l : List Command). HaveMarks marks l) (sym none) tt
+
+-- the elements of commands ahead, and of no others
+pub group_marked : (marks : List Bool) (ahead cs : List Command) → HaveMarks marks ahead → cs ≡ []
+    → HaveMarks marks (ahead ++ cs)
+group_marked marks ahead cs it none = with_more marks ahead cs it (none_marked marks cs none)
+
+-- one member more behind commands ahead
+pub marked-behind : (marks marks2 : List Bool) (ahead cs ds : List Command) (c : Command) (b : Bool)
+    → HaveMarks marks (ahead ++ cs) → marks2 ≡ set marks (element_behind c) true
+    → ds ≡ cs ++ (if b then c ∷ [] else []) → HaveMarks marks2 (ahead ++ ds)
+marked-behind marks marks2 ahead cs ds c b it marks_are ds_are =
+    subst (λ (l : List Bool). HaveMarks l (ahead ++ ds)) (sym marks_are)
+    (subst (λ (l : List Command). HaveMarks (set marks (element_behind c) true) l)
+    (append_assoc ahead cs (if b then c ∷ [] else []) ∙ ap (λ (l : List Command). ahead ++ l) (sym ds_are))
+    (marked_by marks (ahead ++ cs) c b it))
+
+-- all of some commands, as far as a loop has come
+pub marked-all : (marks marks2 : List Bool) (cs : List Command) (i : ℕ) (d : Command) → i < length cs
+    → HaveMarks marks (take i cs) → marks2 ≡ set marks (element_behind (get_or cs i d)) true
+    → HaveMarks marks2 (take (i + 1) cs)
+marked-all marks marks2 cs i d within it marks_are =
+    subst (λ (l : List Bool). HaveMarks l (take (i + 1) cs)) (sym marks_are)
+    (subst (λ (l : List Command). HaveMarks (set marks (element_behind (get_or cs i d)) true) l)
+    (sym (take_more cs i d within)) (marked_by marks (take i cs) (get_or cs i d) true it))
 
 -- the elements of the commands are marked, one member more
 pub marked-next : (marks marks2 : List Bool) (cs ds : List Command) (c : Command) (b : Bool) → HaveMarks marks cs

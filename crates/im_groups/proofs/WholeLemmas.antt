@@ -14,6 +14,11 @@ accepted_behind m (d ∷ cs) c it is =
     ap (λ (b : Bool). if b then accept_each (step m d).contents (cs ++ c ∷ []) else None) first.0
     ∙ accepted_behind (step m d).contents cs c first.1 is
 
+-- what is found behind commands is found behind the same ones
+pub whole-found : (m : Contents) (line ahead : List Command) (x : Command) (b : Bool) → line ≡ ahead
+    → b ≡ is_accepted (after m line) x → b ≡ is_accepted (after m ahead) x
+whole-found m line ahead x b same found = found ∙ ap (λ (l : List Command). is_accepted (after m l) x) same
+
 -- one member more
 pub accepted-next : (m : Contents) (members : List Command) (i : ℕ) (d : Command) (b : Bool) → i < length members
     → AreAccepted m (take i members) → b ≡ is_accepted (after m (take i members)) (get_or members i d) → b ≡ true
@@ -36,7 +41,7 @@ refused-next m (c ∷ cs) (suc i) d b within it found is =
 
 -- ---- with places for all of them
 
-place_for : (left : ℕ) → 0 < left → nat_lt 0 left ≡ true
+pub place_for : (left : ℕ) → 0 < left → nat_lt 0 left ≡ true
 place_for left some = grind (arith, nat_tests)
 
 pub whole-takes : (m : Contents) (left : ℕ) (c : Command) → is_accepted m c ≡ true → 0 < left

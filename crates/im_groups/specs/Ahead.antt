@@ -1,6 +1,6 @@
 -- A command before the commands ahead of it have acted, and what is known of it. (Own.)
-use Rattle.std.specs.Prelude.{◌≡◌, ℕ, ◌+◌, ◌<◌, ◌≤◌, Bool, true, false, ◌&&◌, List, [], ◌∷◌, length, if◌then◌else◌}
-use Rattle.std.specs.Prelude.{nat_lt, ◌==◌, slice_get, Some, None, Ok, Err, Option, Result}
+use Rattle.std.specs.Prelude.{◌≡◌, ℕ, ◌+◌, ◌<◌, ◌≤◌, Bool, true, false, ◌&&◌, List, [], ◌∷◌, ◌++◌, length}
+use Rattle.std.specs.Prelude.{if◌then◌else◌, nat_lt, ◌==◌, slice_get, Some, None, Ok, Err, Option, Result}
 use Rattle.std.specs.List.{list_any}
 use Rattle.im_types.specs.Types.{Op, Waiter, Kept, Alloc, Release, Reset, Fetch, Store, Take, Put, Request, Command}
 use Rattle.im_types.specs.Types.{Asks, Confirm, Refusal, WINDOW, LAST, Contents, kept_for, is_waiting, bounds, after}
@@ -78,3 +78,10 @@ pub record ServesPrefix (m : Contents) (put members : List Command) (many : ℕ)
   pub within : many ≤ length members
   pub some : 0 < length members → 0 < many
   pub stops : (command : Command) → slice_get members many ≡ Some command → IsUnsure m put command
+
+-- `many` members are judged behind the commands of a group ahead: all up to the first member whose acceptance isn't
+-- known, and at least one if no command is ahead
+pub record ServesBehind (m : Contents) (ahead put members : List Command) (many : ℕ) : Type 0 where
+  pub within : many ≤ length members
+  pub some : length ahead ≡ 0 → 0 < length members → 0 < many
+  pub stops : (command : Command) → slice_get members many ≡ Some command → IsUnsure m (ahead ++ put) command

@@ -2,10 +2,11 @@
 ghost use Rattle.std.specs.Prelude.{◌≡◌, ℕ, ◌+◌, ◌<◌, ◌≤◌, true, false, length, IfSome, IfOk, IsNone, slice_set};
 ghost use Rattle.std.specs.List.{list_any};
 ghost use Rattle.im_types.specs.Types.{Confirm, MAX_GROUP, LAST, IsMemory, bounds, is_accepted, after};
-ghost use Rattle.im_groups.specs.Ahead.{AreAccepted, asks_at_once, bounds_behind, is_at_once, is_next, is_sure};
-ghost use Rattle.im_groups.specs.Ahead.{IsUnsure, moved_by};
+ghost use Rattle.im_groups.specs.Ahead.{AreAccepted, asks_at_once, bounds_behind, bounds_behind_all, is_at_once};
+ghost use Rattle.im_groups.specs.Ahead.{is_next, is_sure, IsUnsure, moved_by};
 ghost use Rattle.im_groups.specs.Marks.{element_behind, HaveMarks};
 
+use crate::line::CommandsAhead;
 use crate::marks::{has_mark, mark};
 use im_memory::Memory;
 use im_types::{Command, Entry, LAST, Op, Refusal, Request, WINDOW};
@@ -14,7 +15,7 @@ use im_types::{Command, Entry, LAST, Op, Refusal, Request, WINDOW};
 
 // Returns the bounds of an element's window after an accepted command.
 fn bounds_behind(bounds: (u64, u64), element: u16, command: &Command) -> (u64, u64)
-    requires low { bounds.1 ≤ LAST + 17 }
+    requires low { bounds.1 ≤ LAST + 33 }
     ensures { result ≡ bounds_behind element command.now bounds }
 {
     match command {
@@ -49,24 +50,29 @@ fn bounds_now(memory: &Memory, element: u16) -> Result<(u64, u64), Refusal>
     memory.window(element)
 }
 
-// Returns the bounds of an element's window after these commands.
-fn bounds_behind_all(
-    memory: &Memory,
-    ahead: &[Command],
-    element: u16,
-) -> Result<(u64, u64), Refusal>
-    requires few { length ahead.now ≤ MAX_GROUP }
+/// Returns the bounds of an element's window after these accepted commands.
+pub(crate) fn moved_behind(bounds: (u64, u64), element: u16, commands: &[Command]) -> (u64, u64)
+    requires few { length commands.now ≤ MAX_GROUP }
+    requires low { bounds.1 ≤ LAST + 17 }
+    ensures moved { result ≡ bounds_behind_all element commands.now bounds }
+    ensures low { result.1 ≤ bounds.1 + length commands.now }
+{
+    let mut moved = bounds;
+    for command in commands {
+        moved = bounds_behind(moved, element, command);
+    }
+    moved
+}
+
+// Returns the bounds of an element's window in the memory after these commands.
+fn bounds_after(memory: &Memory, ahead: &CommandsAhead, element: u16) -> Result<(u64, u64), Refusal>
     ensures bounds { result ≡ moved_by element ahead.now (bounds memory.now.contents.windows element) }
     ensures memory { let m = memory.now.contents in IsMemory (length m.cells) (length m.windows) m }
 {
-    let mut bounds = match bounds_now(memory, element) {
-        Ok(bounds) => bounds,
-        Err(refusal) => return Err(refusal),
-    };
-    for command in ahead {
-        bounds = bounds_behind(bounds, element, command);
+    match bounds_now(memory, element) {
+        Ok(bounds) => Ok(ahead.move_bounds(bounds, element)),
+        Err(refusal) => Err(refusal),
     }
-    Ok(bounds)
 }
 
 // Returns whether a request is the next one within these bounds, its number isn't past the last one of all, and the
@@ -100,8 +106,8 @@ fn asks_at_once(element: u16, number: u64, command: &Command) -> bool
     }
 }
 
-// Returns whether one of these commands is the request under an element's number, and is answered at once.
-fn is_asked_at_once(ahead: &[Command], element: u16, number: u64) -> bool
+/// Returns whether one of these commands is the request under an element's number, and is answered at once.
+pub(crate) fn is_asked_at_once(ahead: &[Command], element: u16, number: u64) -> bool
     ensures { result ≡ list_any (asks_at_once (record { element = element; number = number })) ahead.now }
 {
     for command in ahead {
@@ -114,17 +120,17 @@ fn is_asked_at_once(ahead: &[Command], element: u16, number: u64) -> bool
 
 // Returns whether the entry under an element's number is answered already, or will be answered at once by one of these
 // commands.
-fn is_sure(memory: &Memory, ahead: &[Command], element: u16, number: u64) -> bool
+fn is_sure(memory: &Memory, ahead: &CommandsAhead, element: u16, number: u64) -> bool
     ensures { result ≡ is_sure memory.now.contents ahead.now (record { element = element; number = number }) }
 {
     match memory.kept(element, number) {
         Some(kept) => !matches!(kept.entry, Entry::Waiting),
-        None => is_asked_at_once(ahead, element, number),
+        None => ahead.ask_at_once(element, number),
     }
 }
 
 // Returns whether that holds for all numbers from `from` to `upto - 1`.
-fn are_sure(memory: &Memory, ahead: &[Command], element: u16, from: u64, upto: u64) -> bool
+fn are_sure(memory: &Memory, ahead: &CommandsAhead, element: u16, from: u64, upto: u64) -> bool
     ensures all { result ≡ true → (number : ℕ) → from ≤ number → number < upto
         → is_sure memory.now.contents ahead.now (record { element = element; number = number }) ≡ true }
     ensures some { result ≡ false → (number : ℕ) × (from ≤ number) × (number < upto)
@@ -152,12 +158,11 @@ pub fn accepts(memory: &Memory, command: &Command) -> bool
 
 // Returns whether a request is accepted after these commands.
 #[inline(never)]
-fn judge_request(memory: &Memory, ahead: &[Command], request: &Request) -> bool
-    requires few { length ahead.now ≤ MAX_GROUP }
+fn judge_request(memory: &Memory, ahead: &CommandsAhead, request: &Request) -> bool
     requires accepted { AreAccepted memory.now.contents ahead.now }
     ensures { result ≡ is_accepted (after memory.now.contents ahead.now) (Command.Request request.now) }
 {
-    match bounds_behind_all(memory, ahead, request.element) {
+    match bounds_after(memory, ahead, request.element) {
         Ok(bounds) => is_next(bounds, request),
         Err(_) => false,
     }
@@ -165,15 +170,14 @@ fn judge_request(memory: &Memory, ahead: &[Command], request: &Request) -> bool
 
 // Returns whether a confirmation is accepted after these commands. Returns `None` if it would drop an entry that isn't
 // surely answered.
-fn judge_confirm(memory: &Memory, ahead: &[Command], element: u16, upto: u64) -> Option<bool>
-    requires few { length ahead.now ≤ MAX_GROUP }
+fn judge_confirm(memory: &Memory, ahead: &CommandsAhead, element: u16, upto: u64) -> Option<bool>
     requires some { 0 < length ahead.now }
     requires accepted { AreAccepted memory.now.contents ahead.now }
     ensures found { IfSome result
         (λ b. b ≡ is_accepted (after memory.now.contents ahead.now) (Confirm element upto)) }
     ensures unsure { IsNone result → IsUnsure memory.now.contents ahead.now (Confirm element upto) }
 {
-    let (base, next) = match bounds_behind_all(memory, ahead, element) {
+    let (base, next) = match bounds_after(memory, ahead, element) {
         Ok(bounds) => bounds,
         Err(_) => return Some(false),
     };
@@ -201,8 +205,7 @@ fn judge_alone(memory: &Memory, request: &Request) -> bool
 // Returns whether a request is accepted after these commands. Their elements are marked: behind commands of others the
 // request is judged by the memory as it is.
 #[inline(always)]
-fn judge_marked(memory: &Memory, ahead: &[Command], marks: &[bool], request: &Request) -> bool
-    requires few { length ahead.now ≤ MAX_GROUP }
+fn judge_marked(memory: &Memory, ahead: &CommandsAhead, marks: &[bool], request: &Request) -> bool
     requires accepted { AreAccepted memory.now.contents ahead.now }
     requires marked { HaveMarks marks.now ahead.now }
     ensures { result ≡ is_accepted (after memory.now.contents ahead.now) (Command.Request request.now) }
@@ -218,11 +221,10 @@ fn judge_marked(memory: &Memory, ahead: &[Command], marks: &[bool], request: &Re
 #[inline(always)]
 pub(crate) fn judge_member(
     memory: &Memory,
-    ahead: &[Command],
+    ahead: &CommandsAhead,
     marks: &[bool],
     command: &Command,
 ) -> Option<bool>
-    requires few { length ahead.now ≤ MAX_GROUP }
     requires accepted { AreAccepted memory.now.contents ahead.now }
     requires marked { HaveMarks marks.now ahead.now }
     ensures found { IfSome result (λ b. b ≡ is_accepted (after memory.now.contents ahead.now) command.now) }
@@ -239,11 +241,10 @@ pub(crate) fn judge_member(
 #[inline(always)]
 pub(crate) fn take_member(
     memory: &Memory,
-    ahead: &[Command],
+    ahead: &CommandsAhead,
     marks: &mut [bool],
     member: &Command,
 ) -> Option<bool>
-    requires few { length ahead.now ≤ MAX_GROUP }
     requires accepted { AreAccepted memory.now.contents ahead.now }
     requires marked { HaveMarks marks.old ahead.now }
     ensures found { IfSome result (λ b. b ≡ is_accepted (after memory.now.contents ahead.now) member.now) }
@@ -267,14 +268,13 @@ pub(crate) fn take_member(
     }
 }
 
-/// Returns whether a command is accepted after at most 16 commands ahead of it. They haven't acted yet, and each of
-/// them is accepted in its turn.
+/// Returns whether a command is accepted after the commands ahead of it. They haven't acted yet, and each of them is
+/// accepted in its turn.
 ///
 /// It returns `None` if that isn't known before they act. Then the command is a confirmation, and would drop an entry
 /// that waits now, or the entry of a fetch or a take among them. With no command ahead, it never returns `None`. (Own.)
 #[inline(never)]
-pub fn judge_behind(memory: &Memory, ahead: &[Command], command: &Command) -> Option<bool>
-    requires few { length ahead.now ≤ MAX_GROUP }
+pub fn judge_behind(memory: &Memory, ahead: &CommandsAhead, command: &Command) -> Option<bool>
     requires accepted { AreAccepted memory.now.contents ahead.now }
     ensures found { IfSome result (λ b. b ≡ is_accepted (after memory.now.contents ahead.now) command.now) }
     ensures unsure { IsNone result → IsUnsure memory.now.contents ahead.now command.now }

@@ -1,12 +1,13 @@
 //! The members of a group, judged in their order before any of them acts.
 ghost use Rattle.std.specs.Prelude.{◌≡◌, ◌+◌, ◌-◌, ◌<◌, ◌≤◌, ◌&&◌, ◌⊎◌, [], ◌∷◌, ◌++◌, length, take, IfSome};
 ghost use Rattle.std.specs.Prelude.{if◌then◌else◌, IsNone, nat_lt, None};
-ghost use Rattle.im_types.specs.Types.{MAX_GROUP, accept_each};
-ghost use Rattle.im_groups.specs.Ahead.{AreAccepted, ServesPrefix};
+ghost use Rattle.im_types.specs.Types.{MAX_GROUP, after, accept_each};
+ghost use Rattle.im_groups.specs.Ahead.{AreAccepted, ServesBehind, ServesPrefix};
 ghost use Rattle.im_groups.specs.Commands.{commands_at, takes_at, takes_place};
 
 use crate::ahead::{accepts, judge_member, take_member};
-use crate::marks::mark;
+use crate::line::CommandsAhead;
+use crate::marks::{mark, mark_all};
 use arrayvec::ArrayVec;
 use im_memory::Memory;
 use im_types::{Command, MAX_ELEMENTS, MAX_GROUP};
@@ -82,7 +83,8 @@ pub fn judge_each(
     let mut left = places;
     let mut marks = [false; ELEMENTS];
     for i in 0..members.len() {
-        match judge_member(memory, commands.as_slice(), &marks, &members[i]) {
+        let ahead = CommandsAhead::of(&[], commands.as_slice());
+        match judge_member(memory, &ahead, &marks, &members[i]) {
             Some(accepted) => {
                 mark(&mut marks, &members[i]);
                 taken.push(add_member(accepted, &mut left, &members[i], commands));
@@ -111,7 +113,8 @@ pub fn judge_whole(memory: &Memory, places: u64, members: &[Command]) -> Option<
     let mut marks = [false; ELEMENTS];
     for i in 0..members.len() {
         let member = &members[i];
-        match take_member(memory, &members[..i], &mut marks, member) {
+        let ahead = CommandsAhead::of(&[], &members[..i]);
+        match take_member(memory, &ahead, &mut marks, member) {
             Some(accepted) => {
                 if !accepted {
                     return None;
@@ -121,4 +124,43 @@ pub fn judge_whole(memory: &Memory, places: u64, members: &[Command]) -> Option<
         }
     }
     Some(members.len())
+}
+
+/// Judges members behind the commands of a group that is ahead of theirs, before any of both acts. There is a place for
+/// each of them: they are no more than there are places. It puts the commands that are accepted into `commands`, and
+/// for each judged member into `taken` whether it is. It returns the number of judged members. It takes no memory.
+/// (Own.)
+///
+/// It stops before the first member whose acceptance isn't known before the others act (`judge_behind`): that may be
+/// the first one if a command is ahead.
+pub fn judge_next(
+    memory: &Memory,
+    group: &[Command],
+    members: &[Command],
+    commands: &mut ArrayVec<Command, MAX_GROUP>,
+    taken: &mut ArrayVec<bool, MAX_GROUP>,
+) -> usize
+    requires fits { (length group.now ≤ MAX_GROUP) × (length members.now ≤ MAX_GROUP) }
+    requires accepted { AreAccepted memory.now.contents group.now }
+    requires empty { (commands.old.items ≡ []) × (taken.old.items ≡ []) }
+    ensures commands { commands.new.items
+        ≡ commands_at (after memory.now.contents group.now) (length members.now) (take result members.now) }
+    ensures taken { taken.new.items
+        ≡ takes_at (after memory.now.contents group.now) (length members.now) (take result members.now) }
+    ensures begins { ServesBehind memory.now.contents group.now commands.new.items members.now result }
+{
+    let mut left = members.len() as u64;
+    let mut marks = [false; ELEMENTS];
+    mark_all(&mut marks, group);
+    for i in 0..members.len() {
+        let ahead = CommandsAhead::of(group, commands.as_slice());
+        match judge_member(memory, &ahead, &marks, &members[i]) {
+            Some(accepted) => {
+                mark(&mut marks, &members[i]);
+                taken.push(add_member(accepted, &mut left, &members[i], commands));
+            }
+            None => return i,
+        }
+    }
+    members.len()
 }

@@ -4,7 +4,9 @@
 
 mod ahead;
 mod judging;
+mod line;
 mod marks;
 
 pub use ahead::{accepts, judge_behind};
-pub use judging::{judge_each, judge_members, judge_whole, takes_place};
+pub use judging::{judge_each, judge_members, judge_next, judge_whole, takes_place};
+pub use line::CommandsAhead;

@@ -1,6 +1,6 @@
 //! Marks of the elements that commands are of.
 ghost use Rattle.std.specs.Prelude.{◌≡◌, true, slice_set};
-ghost use Rattle.im_groups.specs.Marks.{element_behind, has_mark};
+ghost use Rattle.im_groups.specs.Marks.{element_behind, has_mark, HaveMarks};
 
 use im_types::Command;
 
@@ -31,5 +31,14 @@ pub(crate) fn mark(marks: &mut [bool], command: &Command)
     let element = element_of(command) as usize;
     if element < marks.len() {
         marks[element] = true;
+    }
+}
+
+/// Marks the elements that these commands are of.
+pub(crate) fn mark_all(marks: &mut [bool], commands: &[Command])
+    ensures { HaveMarks marks.new commands.now }
+{
+    for command in commands {
+        mark(marks, command);
     }
 }

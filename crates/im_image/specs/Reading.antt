@@ -1,6 +1,6 @@
 -- What is read of an image: its header in force, the memory that its area shows, its journal, and the memory after the
 -- journal. (Own.)
-use Rattle.std.specs.Prelude.{◌≡◌, ℕ, ◌≤◌, List, length, None, Ok, Err, Result}
+use Rattle.std.specs.Prelude.{◌≡◌, ℕ, ◌≤◌, List, [], length, None, Ok, Err, Result}
 use Rattle.im_types.specs.Types.{Refusal, LAST, Contents, Layout, layout_1, layout_named, layout_in_use, Sizes}
 use Rattle.im_types.specs.Types.{sizes_of, image_length, ring_of, area_of, Header, header_of, header_fault, layout_in}
 use Rattle.im_types.specs.Types.{CellRecord, Records, SpellsArea, Reached, IsShown, Reads, Opens}
@@ -8,11 +8,13 @@ use Rattle.{im_journal.specs.Holding.Holds, im_journal.specs.Holding.JournalStat
 use Rattle.im_image.specs.{declared.reading.ImageParts.ImageParts, Headers.seen}
 use Rattle.im_image.specs.declared.versions.Versions.{TheVariants.Any, TheVariants.First, TheVariants.InUse, Versions}
 
--- the journal of this header: the header's version and sizes give its ring, and its run begins at the header's count
+-- the journal of this header: the header's version and sizes give its ring, its run begins at the header's count, and
+-- nothing is ahead of it
 pub record JournalOf (h : Header) (j : JournalState) : Type 0 where
   pub ring : j.ring ≡ ring_of (layout_named h.version) h.sizes
   pub first : j.first ≡ h.count
   pub begun : h.count ≤ j.count
+  pub none : j.ahead ≡ []
 
 -- a memory has as many cells and elements as these sizes say
 pub record HasSizes (s : Sizes) (m : Contents) : Type 0 where

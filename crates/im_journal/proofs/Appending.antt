@@ -1,23 +1,58 @@
 -- What the slots of a group that is written, or may be, do to the tail.
-use Rattle.std.proofs.Common.{◌≡◌, ℕ, ◌+◌, ◌-◌, ◌*◌, ◌<◌, ◌≤◌, Bool, true, false, ◌&&◌, ◌≢◌, ◌⊎◌, List, [], ◌∷◌, ◌++◌}
-use Rattle.std.proofs.Common.{length, get_or, drop, if◌then◌else◌, nat_le, ◌==◌, Some, Result, option_map, sym, refl}
-use Rattle.std.proofs.Common.{ap, ◌∙◌, subst, inl, inr, ⊎_elim, arith, length-append, get_or-drop, get_or-take}
-use Rattle.std.proofs.Common.{leb-true}
+use Rattle.std.proofs.Common.{◌≡◌, ℕ, zero, suc, ◌+◌, ◌-◌, ◌*◌, ◌<◌, ◌≤◌, Bool, true, false, ◌&&◌, ◌≢◌, ◌⊎◌, List, []}
+use Rattle.std.proofs.Common.{◌∷◌, ◌++◌, length, get_or, drop, if◌then◌else◌, nat_le, ◌==◌, Some, Result, option_map}
+use Rattle.std.proofs.Common.{sym, refl, ap, ◌∙◌, subst, inl, inr, ⊎_elim, arith, length-append, get_or-drop}
+use Rattle.std.proofs.Common.{get_or-take, leb-true}
 use Rattle.std.proofs.lemmas.Bool.{cases_eq, cases_lt}
-use Rattle.im_types.specs.Types.{Command, Refusal, MAX_GROUP, LAST, open_gate, is_open, sequence_of, slot_offset, Tail}
-use Rattle.im_types.specs.Types.{slot, tail}
+use Rattle.im_types.specs.Types.{Command, Refusal, MAX_GROUP, LAST, open_gate, is_open, sequence_of, Ring, slot_offset}
+use Rattle.im_types.specs.Types.{Tail, slot, tail}
 use Rattle.im_types.proofs.Tests.{and_both}
 use Rattle.im_disk.proofs.GateLemmas.{done_calm, done_kept, done_same, done_there}
 use Rattle.im_disk.proofs.SinceLemmas.{leaves_then, left_now, only_weaker}
 use Rattle.im_disk.specs.{Gate.HasThere, Gate.MayOpen, Moment.Left, Moment.Moment, Moment.synced, Moment.written}
 use Rattle.im_disk.specs.Since.{LeavesNow, LeavesOnly, SameBut}
-use Rattle.im_journal.proofs.{Groups.beside_group, Groups.same_bodies, Rings.other_number}
+use Rattle.im_journal.proofs.{Groups.beside_group, Groups.none_there, Groups.same_bodies, Rings.other_number}
 use Rattle.im_journal.proofs.Slots.{away_after, no_gate_behind, opened_gate, same_body, slot_inside}
 use Rattle.im_journal.proofs.Tails.{boundaries_added, boundaries_kept, next_closed, Parts, parts_of, tail_added}
 use Rattle.im_journal.proofs.Tails.{tail_kept}
 use Rattle.im_journal.specs.Groups.{AllFit, AreWritten, HasBodies, MayWriteBodies, SameButBodies, SameButGroup}
-use Rattle.im_journal.specs.Holding.{Adds, AllHold, Appended, Holds, IsFullBy, IsJournal, JournalState, KeepsBoundaries}
-use Rattle.im_journal.specs.Holding.{longer, longer_tail, MayAppend, room_after}
+use Rattle.im_journal.specs.Holding.{Adds, ahead_after, AllHold, Holds, IsAdded, IsFullBy, IsJournal, journal_state}
+use Rattle.im_journal.specs.Holding.{JournalState, KeepsBoundaries, longer, longer_tail, MayAppend, room_after}
+
+-- what is ahead is no more once commands were added
+pub none_ahead : {X : Type 0} (g : ℕ) (ahead : List X) → 0 < g → ahead_after g ahead ≡ []
+none_ahead zero ahead some = absurd (omega (arith, some))
+none_ahead (suc g) ahead some = refl
+
+-- the journal with a group more, as its fields show it
+pub longer_state : (base slots first count room more g : ℕ) (ahead none : List Command) → 0 < g → more
+    ≡ room_after count g room → none ≡ [] → journal_state base slots first (count + g) more none
+    ≡ longer g (journal_state base slots first count room ahead)
+longer_state base slots first count room more g ahead none some room_is none_is = (λ i. journal_state base slots first
+    (count + g) (room_is i) (ahead_is i))
+  where
+    ahead_is : none ≡ ahead_after g ahead
+    ahead_is = none_is ∙ sym (none_ahead g ahead some)
+
+-- a byte that isn't a gate is before it or behind it
+pub beside_gate : (i a : ℕ) → i ≢ a → (i < a) ⊎ (a + 1 ≤ i)
+beside_gate i a other = ⊎_elim (λ (low : i < a). inl low) (λ (high : a ≤ i). inr (omega (arith, high, other)))
+    (cases_lt i a)
+
+-- so is each byte behind the gate of a slot
+pub behind_gate : (r : Ring) (n s i : ℕ) → slot_offset r s < i → i < slot_offset r s + 64
+    → (i < slot_offset r n) ⊎ (slot_offset r n + 1 ≤ i)
+behind_gate r n s i low high = ⊎_elim
+    (λ (before : slot_offset r n ≤ slot_offset r s). inr (omega (arith, before, low)))
+    (λ (after : slot_offset r s + 64 ≤ slot_offset r n). inl (omega (arith, after, high)))
+    (no_gate_behind r n s)
+
+-- bodies stay where one gate alone is written
+pub bodies_stay : (r : Ring) (n : ℕ) (d c : List ℕ) (commands : List Command) → SameBut (slot_offset r n) 1 d c
+    → HasBodies r (length commands) n commands d → HasBodies r (length commands) n commands c
+bodies_stay r n d c commands but bodies = same_bodies r d c (length commands) n commands
+    (λ k less. same_body r (n + k) c d but.size
+    (λ i low high. but.same i (behind_gate r n (n + k) i low high))) bodies
 
 -- there is room for these commands
 pub record IsNext (j : JournalState) (commands : List Command) (m0 : Moment) : Type 0 where
@@ -84,20 +119,23 @@ module _ {j : JournalState} {commands : List Command} {m0 : Moment} (next : IsNe
           ∙ sym held.reads
 
       kept_boundaries : get_or c at 0 ≢ open_gate → KeepsBoundaries j.ring j.first d c
-      kept_boundaries shut = boundaries_kept j.ring some_slots j.first j.count g d c t parts held.count next.some room_there same shut
+      kept_boundaries shut = boundaries_kept j.ring some_slots j.first j.count g d c t parts held.count next.some
+          room_there same shut
 
       module _ (fits : AllFit commands) (opened : is_open (slot j.ring j.count c) ≡ true)
           (bodies : HasBodies j.ring g j.count commands c) where
         added : tail j.ring j.first c ≡ Some (longer_tail j.count commands t)
-        added = tail_added j.ring some_slots j.first j.count g d c t parts held.count next.some room_there same commands refl next.few fits next.known.begun next.last opened bodies
+        added = tail_added j.ring some_slots j.first j.count g d c t parts held.count next.some room_there same
+            commands refl next.few fits next.known.begun next.last opened bodies
 
-        added_to : tail j.ring j.first c ≡ option_map (longer_tail j.count commands) (tail j.ring j.first d)
+        pub added_to : tail j.ring j.first c ≡ option_map (longer_tail j.count commands) (tail j.ring j.first d)
         added_to = added ∙ ap (λ o. option_map (longer_tail j.count commands) o) (sym held.reads)
 
-        added_boundaries : KeepsBoundaries j.ring j.first d c
-        added_boundaries = boundaries_added j.ring some_slots j.first j.count g d c t parts held.count next.some room_there same commands refl next.few fits next.known.begun next.last opened bodies
+        pub added_boundaries : KeepsBoundaries j.ring j.first d c
+        added_boundaries = boundaries_added j.ring some_slots j.first j.count g d c t parts held.count next.some
+            room_there same commands refl next.few fits next.known.begun next.last opened bodies
 
-        longer_held : Holds (longer g j) c
+        pub longer_held : Holds (longer g j) c
         longer_held = record {
           size = subst (λ (n : ℕ). j.ring.base + 64 * j.ring.slots ≤ n) (sym same.size) held.size;
           commands = held.commands ++ commands;
@@ -106,6 +144,7 @@ module _ {j : JournalState} {commands : List Command} {m0 : Moment} (next : IsNe
           count = omega (arith, held.count, length-append held.commands commands);
           enough = less_room (j.count + g == LAST) held.enough;
           behind = still_behind;
+          laid = none_there j.ring (j.count + g) (ahead_after g j.ahead) c (none_ahead g j.ahead next.some);
         }
           where
             less_room : (b : Bool) → j.room ≤ held.there
@@ -165,23 +204,11 @@ module _ {j : JournalState} {commands : List Command} {m0 : Moment} (next : IsNe
     group_same : (c : List ℕ) → SameBut at 1 m1.bytes c → SameButGroup j.ring j.count g m0.bytes c
     group_same c but = record {
       size = but.size ∙ w.kept.size;
-      same = λ i other out. but.same i (beside i at other) ∙ w.kept.same i out;
+      same = λ i other out. but.same i (beside_gate i at other) ∙ w.kept.same i out;
     }
-      where
-        beside : (i a : ℕ) → i ≢ a → (i < a) ⊎ (a + 1 ≤ i)
-        beside i a other = ⊎_elim (λ (low : i < a). inl low) (λ (high : a ≤ i). inr (omega (arith, high, other)))
-            (cases_lt i a)
 
     bodies_there : (c : List ℕ) → SameBut at 1 m1.bytes c → HasBodies j.ring g j.count commands c
-    bodies_there c but = same_bodies j.ring m1.bytes c g j.count commands
-        (λ k less. same_body j.ring (j.count + k) c m1.bytes but.size
-        (λ i low high. but.same i (behind_gate i (j.count + k) low high))) w.bodies
-      where
-        behind_gate : (i s : ℕ) → slot_offset j.ring s < i → i < slot_offset j.ring s + 64 → (i < at) ⊎ (at + 1 ≤ i)
-        behind_gate i s low high = ⊎_elim
-            (λ (before : slot_offset j.ring j.count ≤ slot_offset j.ring s). inr (omega (arith, before, low)))
-            (λ (after : slot_offset j.ring s + 64 ≤ slot_offset j.ring j.count). inl (omega (arith, after, high)))
-            (no_gate_behind j.ring j.count s)
+    bodies_there c but = bodies_stay j.ring j.count m1.bytes c commands but w.bodies
 
     may_gate : (c : List ℕ) → SameBut at 1 m1.bytes c → MayAppend j commands m0 c
     may_gate c but = by_gate (cases_eq (get_or c at 0) open_gate)
@@ -223,7 +250,7 @@ module _ {j : JournalState} {commands : List Command} {m0 : Moment} (next : IsNe
         opened_c : is_open (slot j.ring j.count c) ≡ true
         opened_c = opened_gate j.ring j.count c gate_c
 
-        appended : Appended j commands m0 c
+        appended : IsAdded (length commands) j commands m0 c
         appended = record {
           from = m0.bytes;
           left = left_now m0;

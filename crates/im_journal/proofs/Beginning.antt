@@ -52,4 +52,5 @@ module _ (j : JournalState) (known : IsJournal j) (first : ℕ) (later : j.first
         (λ near. let was = held.behind low i from near in omega (arith, was, later))
         (λ far. passed_behind i far to)
         (cases_lt i (j.ring.slots - (j.count - j.first)));
+    laid = held.laid;
   })

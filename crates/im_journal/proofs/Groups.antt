@@ -7,7 +7,7 @@ use Rattle.im_types.specs.Types.{sequence_of, read_in, Ring, slot_offset, with_f
 use Rattle.im_types.specs.Types.{continues}
 use Rattle.im_journal.proofs.{Runs.slots_at, Slots.goes_on, Slots.not_in, Slots.or_at, Slots.same_slot}
 use Rattle.im_journal.proofs.Spelling.{group_of-spelled, read_in-spelled, sequence_of-spelled}
-use Rattle.im_journal.specs.Groups.{AllFit, count_at, HasBodies, SameButGroup}
+use Rattle.im_journal.specs.{Groups.AllFit, Groups.count_at, Groups.HasBodies, Groups.SameButGroup, Holding.StandAhead}
 
 -- bytes behind which a body stands begin with some gate
 gate_and_body : (bytes : List ℕ) (g s : ℕ) (c : Command) → drop 1 bytes ≡ slot_body g s c → (gate : ℕ)
@@ -106,6 +106,21 @@ same_bodies r c d g s (command ∷ commands) same bodies =
           ≡ s + 1 + k = omega arith in subst (λ (m : ℕ). drop 1 (slot r m d) ≡ drop 1 (slot r m c)) next
           (same (suc k) (omega (arith, less)))) bodies.1,
     )
+
+-- no commands stand everywhere
+pub none_there : (r : Ring) (s : ℕ) (commands : List Command) (file : List ℕ) → commands ≡ []
+    → StandAhead r s commands file
+none_there r s commands file none = subst (λ (l : List Command). StandAhead r s l file) (sym none)
+    (record { bodies = tt; fits = tt })
+
+-- commands stand where what is behind their gates is the same
+pub same_there : (r : Ring) (c d : List ℕ) (s : ℕ) (commands : List Command)
+    → ((k : ℕ) → k < length commands → drop 1 (slot r (s + k) d) ≡ drop 1 (slot r (s + k) c))
+    → StandAhead r s commands c → StandAhead r s commands d
+same_there r c d s commands same there = record {
+  bodies = same_bodies r c d (length commands) s commands same there.bodies;
+  fits = there.fits;
+}
 
 -- a body more, behind the others
 pub bodies_push : (r : Ring) (file : List ℕ) (g s : ℕ) (commands : List Command) (c : Command)

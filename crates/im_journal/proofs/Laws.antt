@@ -1,11 +1,11 @@
 -- What a journal's owner may rely on while other parts of the file are written.
-use Rattle.std.proofs.Common.{◌≡◌, ℕ, ◌+◌, ◌*◌, ◌<◌, ◌≤◌, ◌⊎◌, List, length, get_or, sym, ◌∙◌, subst, inl, inr, ⊎_elim}
-use Rattle.std.proofs.Common.{arith}
+use Rattle.std.proofs.Common.{◌≡◌, ℕ, ◌+◌, ◌*◌, ◌<◌, ◌≤◌, ◌⊎◌, List, length, get_or, drop, sym, ap, ◌∙◌, subst, inl}
+use Rattle.std.proofs.Common.{inr, ⊎_elim, arith}
 use Rattle.im_types.specs.Types.{open_gate, sequence_of, Ring, slot}
 use Rattle.im_disk.proofs.SinceLemmas.{left_sync, left_synced, left_torn}
 use Rattle.im_disk.specs.Moment.{Left, MayTick, Moment, Shaken, synced, Torn}
 use Rattle.im_disk.specs.Since.{SameBut}
-use Rattle.im_journal.proofs.{Slots.same_slot, Slots.slot_inside, Tails.tail_elsewhere}
+use Rattle.im_journal.proofs.{Groups.same_there, Slots.same_slot, Slots.slot_inside, Tails.tail_elsewhere}
 use Rattle.im_journal.specs.Holding.{AllHold, AreClosed, Holds, IsJournal, JournalState}
 
 -- a range before the ring, or behind it
@@ -44,6 +44,8 @@ module _ (j : JournalState) (known : IsJournal j) where
     enough = held.enough;
     behind = λ low k from to. subst (λ (l : List ℕ). sequence_of l < j.first)
         (sym (slot_elsewhere at n d c beside same (j.count + k))) (held.behind low k from to);
+    laid = same_there j.ring d c j.count j.ahead
+        (λ k less. ap (λ (l : List ℕ). drop 1 l) (slot_elsewhere at n d c beside same (j.count + k))) held.laid;
   }
 
   -- so a write elsewhere, failed or not, leaves it

@@ -11,6 +11,10 @@ pub mod Sweeping
 pub mod Groups
 pub mod Writing
 pub mod Appending
+pub mod Touching
+pub mod Laying
+pub mod Chaining
+pub mod Fitting
 pub mod Reading
 pub mod Laws
 mod Counterexamples

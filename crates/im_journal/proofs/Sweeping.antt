@@ -8,8 +8,8 @@ use Rattle.im_types.specs.Types.{Command, LAST, open_gate, is_open, sequence_of,
 use Rattle.im_types.specs.Types.{room_of, slot, tail}
 use Rattle.im_disk.proofs.SinceLemmas.{left_now, left_settled, only_weaker}
 use Rattle.im_disk.specs.{Moment.Moment, Since.LeavesOnly, Since.SameBut}
-use Rattle.im_journal.proofs.{Rings.closed_at, Rings.other_number, Tails.Parts, Tails.parts_of}
-use Rattle.im_journal.proofs.Slots.{away, closed_gate, same_slot, slot_inside}
+use Rattle.im_journal.proofs.{Groups.same_there, Rings.closed_at, Rings.other_number, Tails.Parts, Tails.parts_of}
+use Rattle.im_journal.proofs.Slots.{away, closed_gate, no_gate_behind, same_body, same_slot, slot_inside}
 use Rattle.im_journal.proofs.Sweeps.{boundaries_swept, no_less, tail_swept}
 use Rattle.im_journal.specs.Gates.{AreShut, closed_gate as shut_gate, HasClosed, MayClose, SameButGates}
 use Rattle.im_journal.specs.Holding.{AllHold, Holds, IsJournal, JournalState, KeepsBoundaries, MaySweep, SameRun}
@@ -78,6 +78,13 @@ module _ (j : JournalState) (known : IsJournal j) (n : ℕ) (low : j.count < LAS
     sequences_stay : (s : ℕ) → sequence_of (slot j.ring s d) ≡ sequence_of (slot j.ring s c)
     sequences_stay s = same_sequence j.ring s c d but.size
         (λ i less. but.same (slot_offset j.ring s + (8 + i)) (λ k few_k is. absurd (omega (arith, less, is))))
+
+    -- a body doesn't depend on a gate
+    body_stays : (s : ℕ) → drop 1 (slot j.ring s d) ≡ drop 1 (slot j.ring s c)
+    body_stays s = same_body j.ring s d c but.size (λ i lo hi. but.same i (λ k less is. ⊎_elim
+        (λ (before : slot_offset j.ring (next + k) ≤ slot_offset j.ring s). absurd (omega (arith, before, lo, is)))
+        (λ (behind : slot_offset j.ring s + 64 ≤ slot_offset j.ring (next + k)). absurd (omega (arith, behind, hi, is)))
+        (no_gate_behind j.ring (next + k) s)))
 
     -- the known room's gates
     count_is : j.first + length commands ≡ j.count
@@ -163,6 +170,7 @@ module _ (j : JournalState) (known : IsJournal j) (n : ℕ) (low : j.count < LAS
         enough = found_enough;
         behind = λ lower k from to. subst (λ (m : ℕ). m < j.first) (sym (sequences_stay (j.count + k)))
             (held.behind low k (omega (arith, from)) to);
+        laid = same_there j.ring c d j.count j.ahead (λ k less. body_stays (j.count + k)) held.laid;
       }
 
     none_closed : HasClosed j.ring next 0 d

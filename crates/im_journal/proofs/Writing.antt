@@ -19,7 +19,7 @@ pub record IsWriting {D : Type 0} (now : D → Moment) (past : D → List Moment
   pub fits : AllFit commands
   pub calls : Calls past d0 d (length commands)
 
-none_yet : (r : Ring) (s n : ℕ) (c : List ℕ) → SameButBodies r s n c c
+pub none_yet : (r : Ring) (s n : ℕ) (c : List ℕ) → SameButBodies r s n c c
 none_yet r s n c = record { size = refl; same = λ i out. refl }
 
 -- a body more

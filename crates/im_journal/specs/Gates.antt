@@ -1,7 +1,7 @@
 -- Closing the gates of a ring's slots.
 use Rattle.std.specs.Prelude.{◌≡◌, ℕ, ◌+◌, ◌*◌, ◌^◌, ◌<◌, List, [], length, slice_index}
-use Rattle.im_types.specs.Types.{Ring, slot_offset}
-use Rattle.im_disk.specs.Moment.{Left, Moment}
+use Rattle.im_types.specs.Types.{open_gate, Ring, slot_offset}
+use Rattle.im_disk.specs.{Moment.Left, Moment.Moment, Since.SameBut}
 
 -- the byte that closes a gate; any byte but that of an open gate would do
 abbrev pub closed_gate : ℕ
@@ -31,3 +31,14 @@ pub record AreShut (ring : Ring) (s n : ℕ) (old new : Moment) : Type 0 where
   pub kept : SameButGates ring s n old.bytes new.bytes
   pub closed : HasClosed ring s n new.bytes
   pub calm : new.ranges ≡ []
+
+-- outside the byte of a gate, the file is one that could be left
+pub record MayTouch (at : ℕ) (m : Moment) (file : List ℕ) : Type 0 where
+  pub from : List ℕ
+  pub left : Left m from
+  pub same : SameBut at 1 from file
+
+-- The gate at this offset is open for whoever reads it now, and all other bytes are as they were. It isn't synced.
+pub record HasOpened (at : ℕ) (old new : Moment) : Type 0 where
+  pub kept : SameBut at 1 old.bytes new.bytes
+  pub opened : slice_index new.bytes at ≡ open_gate

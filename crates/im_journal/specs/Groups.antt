@@ -53,3 +53,10 @@ pub record AreWritten (ring : Ring) (s : ℕ) (commands : List Command) (old new
   pub kept : SameButBodies ring s (length commands) old.bytes new.bytes
   pub bodies : HasBodies ring (length commands) s commands new.bytes
   pub fits : AllFit commands
+
+-- the same, and they are on the disk for good
+pub record AreLaid (ring : Ring) (s : ℕ) (commands : List Command) (old new : Moment) : Type 0 where
+  pub kept : SameButBodies ring s (length commands) old.bytes new.bytes
+  pub bodies : HasBodies ring (length commands) s commands new.bytes
+  pub fits : AllFit commands
+  pub calm : new.ranges ≡ []

@@ -1,3 +1,5 @@
 pub mod Holding
 pub mod Gates
 pub mod Groups
+pub mod Laid
+pub mod OnDisk

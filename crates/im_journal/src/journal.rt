@@ -1,33 +1,37 @@
 //! The journal as its owner sees it: how far its run of commands has come, how a command is added, and how the slots of
 //! commands before the run become room again.
-ghost use Rattle.std.specs.Prelude.{◌≡◌, ℕ, ◌+◌, ◌-◌, ◌*◌, ◌<◌, ◌≤◌, min, ◌&&◌, ◌⊎◌, List, [], ◌∷◌, length, drop, IfOk};
-ghost use Rattle.std.specs.Prelude.{IfErr, OnOk, nat_le, MatchResult, Some, None};
+ghost use Rattle.std.specs.Prelude.{◌≡◌, ℕ, ◌+◌, ◌-◌, ◌*◌, ◌<◌, ◌≤◌, min, ◌⊎◌, List, [], ◌∷◌, length, drop, IfOk};
+ghost use Rattle.std.specs.Prelude.{IfErr, OnOk, MatchResult, Some, None};
 ghost use Rattle.im_types.specs.Types.{tail};
 ghost use Rattle.im_disk.specs.{Runs.ReadsOrRefuses, Runs.RunsOrRefuses, Since.Calls};
-ghost use Rattle.im_journal.specs.Holding.{Adds, AllHold, AreClosed, Holds, IsFullBy, IsJournal, IsSwept, IsSweptBy};
-ghost use Rattle.im_journal.specs.Holding.{IsTail, longer, MayAppend, MayBeginAt, MaySweep, rest_behind, ring_in};
-ghost use Rattle.im_journal.specs.Holding.{ring_under, room_after, Sweeps, to_sweep};
+ghost use Rattle.im_journal.specs.Holding.{Adds, AllHold, AreClosed, Holds, IsFullBy, IsFullOrFault, IsJournal};
+ghost use Rattle.im_journal.specs.Holding.{IsSwept, IsSweptBy, IsTail, longer, MayAppend, MayBeginAt, MaySweep};
+ghost use Rattle.im_journal.specs.Holding.{rest_behind, ring_in, ring_under, Sweeps, to_sweep};
+ghost use Rattle.im_journal.specs.OnDisk.{KnownOf, LeadsFrom};
 
 use crate::bytes::read_bytes;
 use crate::gate::close_gates;
 use crate::group::write_bodies;
+use crate::laid::Laid;
 use crate::ring::tail_in;
+use crate::room::{at_once, has_room, room_after};
 use im_disk::{Disk, open_gate};
 use im_types::layout::{Version, journal_at};
 use im_types::{Command, LAST, Limits, MAX_GROUP, Refusal};
 use std::alloc::Global;
-use std::cmp::min;
 use std::marker::Model;
 
 /// The journal of an image: where its ring of slots is, and how far the run of commands in it has come. The command
-/// with sequence number s stands in slot s mod slots. The commands themselves are on the disk alone.
+/// with sequence number s stands in slot s mod slots. The commands themselves are on the disk alone. Commands may be
+/// ahead: their bodies are on the disk, and they are no part of the run until the gate before them is open.
 #[derive(Drop)]
 pub struct Journal {
-    base: usize,
-    slots: u32,
-    first: u64,
-    count: u64,
-    room: u32,
+    pub(crate) base: usize,
+    pub(crate) slots: u32,
+    pub(crate) first: u64,
+    pub(crate) count: u64,
+    pub(crate) room: u32,
+    pub(crate) laid: Laid,
 }
 
 impl Model for Journal {
@@ -35,45 +39,17 @@ impl Model for Journal {
 
     ghost Value = { JournalState };
 
-    ghost view = { λ j. journal_state j.base j.slots j.first j.count j.room };
+    ghost view = { λ j. journal_state j.base j.slots j.first j.count j.room j.laid };
 
-    ghost invariant = { λ j. IsJournal (journal_state j.base j.slots j.first j.count j.room) };
-}
-
-// Whether there is room for so many commands, and a count.
-fn has_room(count: u64, room: u32, group: usize) -> bool
-    requires few { group ≤ MAX_GROUP }
-    requires last { count ≤ LAST }
-    ensures { result ≡ (nat_le group room && nat_le (count + group) LAST) }
-{
-    group <= room as usize && count + group as u64 <= LAST
-}
-
-// The room behind so many commands, the first of them with this sequence number.
-fn room_after(count: u64, group: usize, room: u32) -> u32
-    requires enough { group ≤ room }
-    requires last { count + group ≤ LAST }
-    ensures { result ≡ room_after count group room }
-{
-    if count + group as u64 == LAST {
-        0
-    } else {
-        room - group as u32
-    }
-}
-
-// How many of so many slots are swept with one sync.
-fn at_once(slots: u32, most: u32) -> u32
-    ensures { result ≡ min most slots }
-{
-    min(most, slots)
+    ghost invariant = { λ j. IsJournal (journal_state j.base j.slots j.first j.count j.room j.laid) };
 }
 
 impl Journal {
     /// The journal of an image that was formatted under these limits: no commands yet, and room in every slot. It is
     /// the tail of each file whose gates are all closed.
     pub fn fresh(limits: Limits) -> Journal
-        ensures state { result ≡ record { ring = ring_under limits; first = 0; count = 0; room = limits.slots } }
+        ensures state { result
+            ≡ record { ring = ring_under limits; first = 0; count = 0; room = limits.slots; ahead = [] } }
         ensures holds { (file : List ℕ) → result.ring.base + 64 * result.ring.slots ≤ length file
             → AreClosed result.ring file → Holds result file }
     {
@@ -83,6 +59,7 @@ impl Journal {
             first: 0,
             count: 0,
             room: limits.slots,
+            laid: Laid::none(),
         }
     }
 
@@ -108,8 +85,8 @@ impl Journal {
             → IsTail (ring_in version limits) from r.0 r.1.items (D.now disk.old).bytes) }
         ensures bad { IfErr result (λ e. e ≡ Refusal.BadRecord → D.honest disk.new
             → tail (ring_in version limits) from (D.now disk.old).bytes ≡ None) }
-        ensures journal { IfOk result
-            (λ r. (r.0.ring ≡ ring_in version limits) × (r.0.first ≡ from) × (r.0.count ≡ from + length r.1.items)) }
+        ensures journal { IfOk result (λ r. (r.0.ring ≡ ring_in version limits) × (r.0.first ≡ from)
+            × (r.0.count ≡ from + length r.1.items) × (r.0.ahead ≡ [])) }
         ensures reads { ReadsOrRefuses D.Disk disk.old disk.new result
             (λ e. (e ≡ Refusal.BadRecord) ⊎ (e ≡ Refusal.NoMemory) ⊎ (e ≡ Refusal.Device)) }
         ensures calls { OnOk result (D.honest disk.new → Calls D.past disk.old disk.new 1) }
@@ -130,6 +107,7 @@ impl Journal {
             first: from,
             count: from + commands.len() as u64,
             room: room as u32,
+            laid: Laid::none(),
         };
         Ok((journal, commands))
     }
@@ -189,14 +167,12 @@ impl Journal {
     /// `JournalFull` exactly where there is no room; then no call is made. `Device` where a call of the disk failed;
     /// then the command is on the disk or not, the journal is as it was, and the image has to be opened again.
     pub fn append<D: Disk>(&mut self, disk: &mut D, command: &Command) -> Result<(), Refusal>
-        requires holds { D.honest disk.old → AllHold self.old (D.now disk.old) }
+        requires holds { KnownOf D.Disk disk.old (AllHold self.old) }
         // Each file that a crash may leave, from the start on, has the old run, or the old run and the command.
-        ensures runs { RunsOrRefuses D.Disk disk.old disk.new result
-            (λ e. (e ≡ Refusal.JournalFull) ⊎ (e ≡ Refusal.Device)) 4
+        ensures runs { RunsOrRefuses D.Disk disk.old disk.new result IsFullOrFault 4
             (MayAppend self.old (command.now ∷ []) (D.now disk.old)) }
         // Once it is done, each has the command.
-        ensures added { OnOk result (D.honest disk.new
-            → Adds self.old self.new (command.now ∷ []) (D.now disk.old) (D.now disk.new)) }
+        ensures added { OnOk result (LeadsFrom D.Disk disk.old disk.new (Adds self.old self.new (command.now ∷ []))) }
         ensures state { MatchResult result (λ _. self.new ≡ longer 1 self.old) (λ _. self.new ≡ self.old) }
         ensures full { IsFullBy (self.old.room ≡ 0) disk.old disk.new result }
     {
@@ -205,7 +181,7 @@ impl Journal {
 
     /// Adds commands at the end of the run as one group, 1 to [`MAX_GROUP`] of them: the body of each, a sync, the gate
     /// of the first, a sync. These are three calls of the disk more than there are commands. At `Ok` all of them are on
-    /// the disk. It takes no memory.
+    /// the disk, and nothing is ahead: their slots are those of the commands that were. It takes no memory.
     ///
     /// `JournalFull` exactly where there is less room, or the count would pass [`LAST`]; then no call is made. `Device`
     /// where a call of the disk failed; then all of them are on the disk or none is, the journal is as it was, and the
@@ -217,14 +193,12 @@ impl Journal {
     ) -> Result<(), Refusal>
         requires some { 0 < length commands.now }
         requires few { length commands.now ≤ MAX_GROUP }
-        requires holds { D.honest disk.old → AllHold self.old (D.now disk.old) }
+        requires holds { KnownOf D.Disk disk.old (AllHold self.old) }
         // Each file that a crash may leave, from the start on, has the old run, or the old run and all of the commands.
-        ensures runs { RunsOrRefuses D.Disk disk.old disk.new result
-            (λ e. (e ≡ Refusal.JournalFull) ⊎ (e ≡ Refusal.Device)) (length commands.now + 3)
+        ensures runs { RunsOrRefuses D.Disk disk.old disk.new result IsFullOrFault (length commands.now + 3)
             (MayAppend self.old commands.now (D.now disk.old)) }
         // Once it is done, each has the commands.
-        ensures added { OnOk result (D.honest disk.new
-            → Adds self.old self.new commands.now (D.now disk.old) (D.now disk.new)) }
+        ensures added { OnOk result (LeadsFrom D.Disk disk.old disk.new (Adds self.old self.new commands.now)) }
         ensures state { MatchResult result (λ _. self.new ≡ longer (length commands.now) self.old)
             (λ _. self.new ≡ self.old) }
         ensures full { IsFullBy ((self.old.room < length commands.now) ⊎ (LAST < self.old.count + length commands.now))
@@ -247,6 +221,7 @@ impl Journal {
         let room = room_after(self.count, group, self.room);
         self.count += group as u64;
         self.room = room;
+        self.laid = Laid::none();
         Ok(())
     }
 
@@ -257,13 +232,12 @@ impl Journal {
     /// the known room behind it on the disk.
     pub fn sweep<D: Disk>(&mut self, disk: &mut D, most: u32) -> Result<u32, Refusal>
         requires some { 0 < to_sweep self.old }
-        requires holds { D.honest disk.old → AllHold self.old (D.now disk.old) }
+        requires holds { KnownOf D.Disk disk.old (AllHold self.old) }
         // Each file that a crash may leave, from the start on, has the run and the known room.
         ensures runs { RunsOrRefuses D.Disk disk.old disk.new result (λ e. e ≡ Refusal.Device)
             (min most (to_sweep self.old) + 1) (MaySweep self.old (D.now disk.old)) }
         // Once it is done, the room is on the disk.
-        ensures swept { OnOk result (D.honest disk.new
-            → Sweeps self.old self.new (D.now disk.old) (D.now disk.new)) }
+        ensures swept { OnOk result (LeadsFrom D.Disk disk.old disk.new (Sweeps self.old self.new)) }
         ensures room { MatchResult result (λ n. IsSweptBy most self.old n self.new) (λ _. self.new ≡ self.old) }
     {
         let next = self.count + self.room as u64;
@@ -283,13 +257,12 @@ impl Journal {
     /// the known room behind it on the disk.
     pub fn sweep_turn<D: Disk>(&mut self, disk: &mut D) -> Result<u32, Refusal>
         requires some { 0 < to_sweep self.old }
-        requires holds { D.honest disk.old → AllHold self.old (D.now disk.old) }
+        requires holds { KnownOf D.Disk disk.old (AllHold self.old) }
         // Each file that a crash may leave, from the start on, has the run and the known room.
         ensures runs { RunsOrRefuses D.Disk disk.old disk.new result (λ e. e ≡ Refusal.Device)
             (min 3 (to_sweep self.old) + 1) (MaySweep self.old (D.now disk.old)) }
         // Once it is done, the room is on the disk.
-        ensures swept { OnOk result (D.honest disk.new
-            → Sweeps self.old self.new (D.now disk.old) (D.now disk.new)) }
+        ensures swept { OnOk result (LeadsFrom D.Disk disk.old disk.new (Sweeps self.old self.new)) }
         ensures room { MatchResult result (λ n. IsSwept self.old n self.new) (λ _. self.new ≡ self.old) }
     {
         self.sweep(disk, 3)

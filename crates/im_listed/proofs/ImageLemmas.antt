@@ -2,12 +2,12 @@
 use Rattle.std.proofs.Common.{◌≡◌, ℕ, zero, suc, Bool, true, false, ◌⊎◌, List, [], length, take, if◌then◌else◌, Ok, Err}
 use Rattle.std.proofs.Common.{Result, sym, refl, ap, ◌∙◌, subst, inl, inr, ⊎_elim, arith}
 use Rattle.std.proofs.lemmas.Bool.{false≢true}
-use Rattle.im_types.specs.Types.{Command, Outcome, Refusal, Device, NoMemory, WrongLength, is_accepted}
+use Rattle.im_types.specs.Types.{Command, Outcome, Served, Refusal, Device, Failed, NoMemory, WrongLength, is_accepted}
 use Rattle.im_disk.proofs.SinceLemmas.{leaves_now, left_now, left_synced, only_now}
 use Rattle.im_disk.specs.{Moment.Faults, Moment.Left, Moment.Moment, Moment.synced, Since.Leaves, Since.LeavesNow}
 use Rattle.im_checkpoint.specs.declared.TurnDone.{TurnDone}
 use Rattle.im_engine.specs.Answered.{Answered, is_device, SweepAnswered, TurnAnswered, TurnTaken}
-use Rattle.im_engine.specs.State.{EngineState, IsFirstFault, MeansState}
+use Rattle.im_engine.specs.{Chain.Advances, State.EngineState, State.IsFirstFault, State.MeansState}
 use Rattle.im_listed.{proofs.NumberLemmas.told_same, specs.History.given, specs.Numbers.told_number}
 use Rattle.im_listed.specs.Image.{begun_in, Carries, ImageState, IsFaultOf, IsWant, tells_device}
 use Rattle.im_listed.specs.Listing.{Accounts, carried, LeftOnTheWay, Listing, over, with_no_steps}
@@ -137,6 +137,16 @@ steady_sweep s new most (Ok swept) before after a f alive on = f
 steady_sweep s new most (Err refusal) before after a f alive on = ⊎_elim
     (λ l. absurd (false≢true (ap (λ (r : Result ℕ Refusal). tells_ok r) l.0)))
     (λ r. absurd (false≢true (sym on ∙ ap (λ (t : EngineState Listing). t.failed) r.1)))
+    (a.alive alive)
+
+pub steady_advance : (s new : EngineState Listing) (next : List Command) (answer : Result ℕ Refusal)
+    (answers : List Served) (before after : ℕ) → Advances s next answer answers new
+    → Faults (λ e. (e ≡ Failed) ⊎ (e ≡ Device)) answer before after → s.failed ≡ false → new.failed ≡ false
+    → after ≡ before
+steady_advance s new next (Ok many) answers before after a f alive on = f
+steady_advance s new next (Err refusal) answers before after a f alive on = ⊎_elim
+    (λ l. absurd (false≢true (ap (λ (r : Result ℕ Refusal). tells_ok r) l.1)))
+    (λ r. absurd (false≢true (sym on ∙ ap (λ (t : EngineState Listing). t.failed) r.2)))
     (a.alive alive)
 
 pub start_of : (e s : EngineState Listing) → s ≡ record e { disk = with_no_steps e.disk }

@@ -1,8 +1,8 @@
 -- An image in the hands of a caller that carries out the writes and syncs.
-use Rattle.std.specs.Prelude.{◌≡◌, ℕ, Bool, false, ◌⊎◌, List, [], length, take, if◌then◌else◌, Ok, Err, Result}
+use Rattle.std.specs.Prelude.{◌≡◌, ℕ, Bool, false, ◌⊎◌, List, [], length, take, IfOk, if◌then◌else◌, Ok, Err, Result}
 use Rattle.im_types.specs.Types.{Command, Served, Refusal, Device, NoMemory}
-use Rattle.im_disk.specs.{Moment.Moment, Since.LeavesNow}
-use Rattle.{im_groups.specs.Ahead.ServesPrefix, im_engine.specs.Answered.is_device}
+use Rattle.{im_disk.specs.Moment.Moment, im_disk.specs.Since.LeavesNow, im_groups.specs.Ahead.ServesPrefix}
+use Rattle.im_engine.specs.{Answered.is_device, Chain.Advances, Chain.TakesNext}
 use Rattle.im_engine.specs.Commands.{after_commands, commands_put, CommandsAnswered}
 use Rattle.im_engine.specs.State.{EngineState, IsFirstFault, MeansEither, MeansState}
 use Rattle.im_listed.specs.Listing.{carried, FileStep, LeftOnTheWay, Listing, MayLeave, with_no_steps}
@@ -56,3 +56,13 @@ pub record ServesFirst (old : ImageState) (members : List Command) (answers : Li
   -- on the way the file means the memory before those that are served, or after all of them
   pub carried : Carries old.engine.disk.now new
       (MeansEither (begun_in old) (after_commands (begun_in old) (take (length answers) members)))
+
+-- The next members are put ahead behind the group that is ahead of the image, whose members are answered.
+pub record PutsAhead (old : ImageState) (next : List Command) (result : Result ℕ Refusal) (answers : List Served)
+    (new : ImageState) : Type 0 where
+  pub answered : Advances (begun_in old) next result answers new.engine
+  -- how many of the next members are ahead, and where they end
+  pub takes : IfOk result (TakesNext (begun_in old) next new.engine)
+  -- on the way the file means the memory before the group that was ahead, or after all of it
+  pub carried : Carries old.engine.disk.now new
+      (MeansEither (begun_in old) (after_commands (begun_in old) old.engine.ahead))

@@ -27,8 +27,8 @@ use std::marker::Model;
 /// list begins where the last call's ended. A caller that can't carry out a step calls [`Image::lose`].
 #[derive(Drop)]
 pub struct Image {
-    engine: Engine<Listed>,
-    lost: bool,
+    pub(crate) engine: Engine<Listed>,
+    pub(crate) lost: bool,
 }
 
 impl Model for Image {
@@ -50,7 +50,7 @@ fn tells_device<T>(answer: &Result<T, Refusal>) -> bool
 }
 
 // What is known of an engine over a list.
-fn known(engine: &Engine<Listed>) -> bool
+pub(crate) fn known(engine: &Engine<Listed>) -> bool
     ensures failed { result ≡ engine.now.failed }
     ensures account { Accounts engine.now.disk }
     ensures means { engine.now.failed ≡ false → LeavesNow engine.now.disk.now (MeansState engine.now) }
@@ -134,7 +134,7 @@ impl Image {
         }
     }
 
-    /// Empties the list of steps. Each call of `serve`, `serve_commands`, `turn` and `sweep` does so first.
+    /// Empties the list of steps. Each call of `serve`, `serve_commands`, `advance`, `turn` and `sweep` does so first.
     pub fn forget_steps(&mut self)
         ensures { self.new ≡ record self.old { engine = begun_in self.old } }
     {

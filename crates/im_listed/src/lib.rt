@@ -4,6 +4,7 @@
 
 mod again;
 mod calls;
+mod chain;
 mod image;
 mod listed;
 mod settling;

@@ -103,6 +103,7 @@ pub record GroupActed {D : Type 0} (old : EngineState D) (members : List Request
   pub works : new.failed ≡ false
   pub memory : new.memory ≡ (after_group old members).memory
   pub count : new.count ≡ (after_group old members).count
+  pub ahead : (new.ahead ≡ old.ahead) ⊎ (new.ahead ≡ [])
 
 pub group_acted : {D : Type 0} (old new : EngineState D) (members : List Request) (answers : List Served)
     → GroupsAreRuns → ((s : Reached) (rs : List Request) → 0 < length (puts_of s rs)
@@ -122,6 +123,7 @@ group_acted {D} old new members answers runs fault f answered quiet = by_put (gr
           count =
               ap (λ (s : EngineState D). s.count) it.1 ∙ omega
               (arith, runs.count (reached_in old) members, ap length none);
+          ahead = inl (ap (λ (s : EngineState D). s.ahead) it.1);
         }
     by_put (command ∷ commands) some =
         let many : 0 < length (group_put old members) = omega (arith, ap length some) in
@@ -130,6 +132,7 @@ group_acted {D} old new members answers runs fault f answered quiet = by_put (gr
           works = ap (λ (s : EngineState D). s.failed) done.1 ∙ f;
           memory = ap (λ (s : EngineState D). s.memory) done.1;
           count = ap (λ (s : EngineState D). s.count) done.1;
+          ahead = inr (ap (λ (s : EngineState D). s.ahead) done.1);
         })
         (λ failed. let both : true ≡ false = sym (ap has_device failed.0 ∙ fault (reached_in old) members many) ∙ quiet
         in absurd (cc))
@@ -139,14 +142,18 @@ group_acted {D} old new members answers runs fault f answered quiet = by_put (gr
 pub group_asked : {D E : Type 0} (old mid : EngineState D) (opened new : EngineState E) (members : List Request)
     (events : List Event) (answers : List Answer) (said : List Served) → GroupActed old members mid
     → opened.failed ≡ false
-    → Recovers mid.memory mid.count events answers opened.memory opened.count
+    → Recovers mid.memory mid.count mid.ahead events answers opened.memory opened.count
     → GroupSaidAgain (reached_in old) opened members said new
     → GroupAskedOverACrash old members events answers said new
 group_asked old mid opened new members events answers said acted works found again = record {
+  ahead = mid.ahead;
+  left = acted.ahead;
   opened = opened;
   works = works;
   once =
-      subst (λ (k : ℕ). Recovers (after_group old members).memory k events answers opened.memory opened.count) acted.count
-      (subst (λ (x : Contents). Recovers x mid.count events answers opened.memory opened.count) acted.memory found);
+      subst (λ (k : ℕ). Recovers (after_group old members).memory k mid.ahead events answers opened.memory
+      opened.count) acted.count
+      (subst (λ (x : Contents). Recovers x mid.count mid.ahead events answers opened.memory opened.count) acted.memory
+      found);
   again = again;
 }

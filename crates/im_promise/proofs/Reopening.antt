@@ -1,19 +1,21 @@
 -- An image that is opened again.
 use Rattle.std.proofs.Common.{◌≡◌, ℕ, ◌⊎◌, List, IfOk, IfErr, Ok, Err, Result, subst, inl, inr, ⊎_elim}
-use Rattle.im_types.specs.Types.{Refusal, Device, NoMemory, Contents}
+use Rattle.im_types.specs.Types.{Command, Refusal, Device, NoMemory, Contents}
 use Rattle.{im_disk.specs.Recording.Recording, im_session.specs.declared.Event.Event}
 use Rattle.im_engine.specs.State.{EngineState, IsFirstFault, MeansState}
 use Rattle.im_promise.proofs.Recovering.{MeansOne, NoFault, still_means}
 use Rattle.im_promise.specs.{declared.recovery.Recovered.Recovered, Recovery.Recovers}
 
 -- a run after an opening that found the same
-pub again_by : (m n : Contents) (count other : ℕ) (events : List Event) (r : Result Recovered Refusal) → n ≡ m
-    → other ≡ count → IfOk r (λ x. Recovers n other events x.answers.items x.engine.memory x.engine.count)
-    → IfOk r (λ x. Recovers m count events x.answers.items x.engine.memory x.engine.count)
-again_by m n count other events (Ok x) same counted it =
-    subst (λ (y : Contents). Recovers y count events x.answers.items x.engine.memory x.engine.count) same
-    (subst (λ (k : ℕ). Recovers n k events x.answers.items x.engine.memory x.engine.count) counted it)
-again_by m n count other events (Err e) same counted it = tt
+pub again_by : (m n : Contents) (count other : ℕ) (ahead there : List Command) (events : List Event)
+    (r : Result Recovered Refusal) → n ≡ m → other ≡ count → there ≡ ahead
+    → IfOk r (λ x. Recovers n other there events x.answers.items x.engine.memory x.engine.count)
+    → IfOk r (λ x. Recovers m count ahead events x.answers.items x.engine.memory x.engine.count)
+again_by m n count other ahead there events (Ok x) same counted line it =
+    subst (λ (l : List Command). Recovers m count l events x.answers.items x.engine.memory x.engine.count) line
+    (subst (λ (y : Contents). Recovers y count there events x.answers.items x.engine.memory x.engine.count) same
+    (subst (λ (k : ℕ). Recovers n k there events x.answers.items x.engine.memory x.engine.count) counted it))
+again_by m n count other ahead there events (Err e) same counted line it = tt
 
 -- an opening that found what was left
 pub same_by : (s : EngineState Recording) (left : List ℕ → Type 0) (r : Result (EngineState Recording) Refusal)

@@ -58,6 +58,7 @@ pub record HasActed {D : Type 0} (old : EngineState D) (r : Request) (entry : En
   pub answered : (step old.memory (Asks r)).answer ≡ Ok (Tells entry)
   pub memory : new.memory ≡ (step old.memory (Asks r)).contents
   pub count : new.count ≡ count_after old.memory r old.count
+  pub ahead : (new.ahead ≡ old.ahead) ⊎ (new.ahead ≡ [])
 
 pub acted : {D : Type 0} (old new : EngineState D) (r : Request) (entry : Entry) (answer : Result Outcome Refusal)
     → old.failed ≡ false → Answered old (Asks r) answer new → answer ≡ Ok (Tells entry)
@@ -74,6 +75,7 @@ acted old new r entry answer f it is unaccepted = ⊎_elim
       count =
           ap (λ (s : EngineState _). s.count) done.1 ∙ sym
           (ap (λ (b : Bool). if b then old.count + 1 else old.count) yes);
+      ahead = inr (ap (λ (s : EngineState _). s.ahead) done.1);
     })
     (λ fault. let a : Ok (Tells entry) ≡ Err Device = sym is ∙ fault.0 in absurd (cc))
     (it.put f yes some))
@@ -85,6 +87,7 @@ acted old new r entry answer f it is unaccepted = ⊎_elim
       count =
           ap (λ (s : EngineState _). s.count) done.1 ∙ sym
           (ap (λ (b : Bool). if b then old.count + 1 else old.count) not);
+      ahead = inl (ap (λ (s : EngineState _). s.ahead) done.1);
     })
     (bool_cases (is_accepted old.memory (Asks r)))
 
@@ -99,7 +102,7 @@ agrees_after next m (command ∷ commands) it = agrees_after next (step m comman
 -- a request that was told, what a recovery gave, and the same request sent again
 pub asked : {D E : Type 0} (old mid : EngineState D) (now new : EngineState E) (r : Request) (entry : Entry)
     (answer : Result Outcome Refusal) (events : List Event) (answers : List Answer) → HasActed old r entry mid
-    → Recovers mid.memory mid.count events answers now.memory now.count
+    → Recovers mid.memory mid.count mid.ahead events answers now.memory now.count
     → IsSaidAgain now.memory r entry answer × (new ≡ now) × (answer ≡ (step now.memory (Asks r)).answer)
     → AskedOverACrash old r events answers entry answer new
 asked {D} {E} old mid now new r entry answer events answers first found again =
@@ -107,12 +110,16 @@ asked {D} {E} old mid now new r entry answer events answers first found again =
     record {
       again = subst (λ (s : EngineState E). IsSaidAgain s.memory r entry answer) back again.0;
       told = subst (λ (s : EngineState E). answer ≡ (step s.memory (Asks r)).answer) back again.2;
+      ahead = mid.ahead;
+      left = first.ahead;
       once =
           subst (λ (s : EngineState E). Recovers (step old.memory (Asks r)).contents
-          (count_after old.memory r old.count) events answers s.memory s.count) back
-          (subst (λ (k : ℕ). Recovers (step old.memory (Asks r)).contents k events answers now.memory now.count)
+          (count_after old.memory r old.count) mid.ahead events answers s.memory s.count) back
+          (subst (λ (k : ℕ). Recovers (step old.memory (Asks r)).contents k mid.ahead events answers now.memory
+          now.count)
           first.count
-          (subst (λ (x : Contents). Recovers x mid.count events answers now.memory now.count) first.memory found));
+          (subst (λ (x : Contents). Recovers x mid.count mid.ahead events answers now.memory now.count) first.memory
+          found));
     }
 
 -- a request that is there or not, and is told an entry when it is sent again

@@ -48,8 +48,8 @@ module _ {D : Type 0} (s : SessionState D) (left : List ℕ → Type 0)
 -- what a run of events comes to, if its session is recovered
 pub recovered : {D : Type 0} (s : EngineState D) (new : SessionState D) (events : List Event) (answers : List Answer)
     → new ≡ after_events (session_of (start_at s.disk s) [] [] s) events answers new.engine
-    → AreTold s.memory s.count events answers → (m : Contents) (n : ℕ) → RecoversSession new m n
-    → Recovers s.memory s.count events answers m n
+    → AreTold s.memory s.count s.ahead events answers → (m : Contents) (n : ℕ) → RecoversSession new m n
+    → Recovers s.memory s.count s.ahead events answers m n
 recovered {D} s new events answers is told m n it =
     let there : RecoversSession (after_events (session_of (start_at s.disk s) [] [] s) events answers new.engine) m n
     = subst (λ (x : SessionState D). RecoversSession x m n) is it in record {

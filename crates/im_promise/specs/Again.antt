@@ -1,5 +1,6 @@
 -- The answer to a request that is sent again. (Own.)
-use Rattle.std.specs.Prelude.{◌≡◌, ℕ, ◌+◌, ◌<◌, ◌≤◌, true, false, ◌⊎◌, List, ◌∷◌, ◌++◌, if◌then◌else◌, Ok, Err, Result}
+use Rattle.std.specs.Prelude.{◌≡◌, ℕ, ◌+◌, ◌<◌, ◌≤◌, true, false, ◌⊎◌, List, [], ◌∷◌, ◌++◌, if◌then◌else◌, Ok, Err}
+use Rattle.std.specs.Prelude.{Result}
 use Rattle.im_types.specs.Types.{Entry, Request, Command, Outcome, Asks, Tells, Refusal, Forgotten, JournalFull, Device}
 use Rattle.im_types.specs.Types.{Failed, Contents, WaitingAgrees, bounds, asker, step, is_accepted, after}
 use Rattle.im_laws.specs.{Entries.IsSameOrAnswer, Requests.after_request, Requests.IsAnswered, Windows.IsForgotten}
@@ -54,6 +55,9 @@ pub record AskedOverACrash {D E : Type 0} (old : EngineState D) (r : Request) (e
   -- it is told the same entry, or the answer that has come since, and just what the memory says
   pub again : IsSaidAgain new.memory r before said
   pub told : said ≡ (step new.memory (Asks r)).answer
+  -- the members that are ahead of the engine behind it: those that were, or none
+  pub ahead : List Command
+  pub left : (ahead ≡ old.ahead) ⊎ (ahead ≡ [])
   -- it has acted once: the memory and the count are those after it, and after what a recovery gives of the events
   pub once : Recovers (after_request old.memory r)
-      (count_after old.memory r old.count) events answers new.memory new.count
+      (count_after old.memory r old.count) ahead events answers new.memory new.count

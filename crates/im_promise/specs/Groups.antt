@@ -62,11 +62,14 @@ pub record GroupSaidAgain {D : Type 0} (before : Reached) (old : EngineState D) 
 -- and a crash left a file. The image was opened, and the group was sent again.
 pub record GroupAskedOverACrash {D E : Type 0} (old : EngineState D) (members : List Request) (events : List Event)
     (answers : List Answer) (said : List Served) (new : EngineState E) : Type 0 where
+  -- the members that are ahead of the engine behind the group: those that were, or none
+  pub ahead : List Command
+  pub left : (ahead ≡ old.ahead) ⊎ (ahead ≡ [])
   -- The engine of the opening works. It has the memory and the count after the group, once, and after what a recovery
   -- gives of the events.
   pub opened : EngineState E
   pub works : opened.failed ≡ false
   pub once : Recovers (after_group old members).memory
-      (after_group old members).count events answers opened.memory opened.count
+      (after_group old members).count ahead events answers opened.memory opened.count
   -- each member that was told an entry is told it again, or the answer that has come since, and doesn't act again
   pub again : GroupSaidAgain (reached_in old) opened members said new

@@ -1,5 +1,5 @@
 //! The result of a crash and an opening.
-ghost use Rattle.std.specs.Prelude.{◌≡◌, ℕ, false, ◌⊎◌, List, IfOk, IfErr};
+ghost use Rattle.std.specs.Prelude.{◌≡◌, ℕ, false, ◌⊎◌, List, [], IfOk, IfErr};
 ghost use Rattle.im_types.specs.Types.{Device, NoMemory, WrongLength, empty_contents};
 ghost use Rattle.{im_disk.specs.Moment.Left, im_engine.specs.State.IsFirstFault, im_engine.specs.State.MeansState};
 ghost use Rattle.im_promise.specs.Recovery.{HasNoRoom, Recovers, RecoversSession};
@@ -53,7 +53,8 @@ pub fn recover(
     crash: Crash,
 ) -> Result<Recovered, Refusal>
     ensures recovers { IfOk result (λ r. engine.failed ≡ false
-        → Recovers engine.memory engine.count events.now r.answers.items r.engine.memory r.engine.count) }
+        → Recovers engine.memory engine.count engine.ahead events.now r.answers.items
+        r.engine.memory r.engine.count) }
     ensures works { IfOk result (λ r. r.engine.failed ≡ false) }
     ensures refused { IfErr result (λ e. engine.failed ≡ false → HasNoRoom e) }
 {
@@ -103,7 +104,7 @@ pub fn recover_from_format(
     outage: Outage,
     events: &[Event],
 ) -> Result<Recovered, Refusal>
-    ensures recovers { IfOk result (λ r. Recovers (empty_contents limits.cells limits.elements) 0
+    ensures recovers { IfOk result (λ r. Recovers (empty_contents limits.cells limits.elements) 0 []
         events.now r.answers.items r.engine.memory r.engine.count) }
     ensures works { IfOk result (λ r. r.engine.failed ≡ false) }
     ensures refused { IfErr result (λ e. (e ≡ NoMemory) ⊎ (e ≡ Device) ⊎ (e ≡ WrongLength)) }
@@ -126,7 +127,8 @@ pub fn recover_again(
     events: &[Event],
 ) -> Result<Recovered, Refusal>
     ensures recovers { IfOk result (λ r. engine.failed ≡ false
-        → Recovers engine.memory engine.count events.now r.answers.items r.engine.memory r.engine.count) }
+        → Recovers engine.memory engine.count [] events.now r.answers.items
+        r.engine.memory r.engine.count) }
     ensures works { IfOk result (λ r. r.engine.failed ≡ false) }
     ensures refused { IfErr result (λ e. engine.failed ≡ false → HasNoRoom e) }
 {

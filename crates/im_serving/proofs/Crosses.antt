@@ -50,7 +50,8 @@ Checkpoint-send = search (sendable, crosses) depth 40
 
 module _ (D : RattleType) (d : disk.Ghosts D.Denot) where
   pub Engine-send : IsSend D → IsSend (Engine.the_field D d).row
-  Engine-send s = let m = Memory-send in let k = Checkpoint-send in search (sendable, crosses) depth 40
+  Engine-send s = let m = Memory-send in let k = Checkpoint-send in search
+      (sendable, crosses, snapshot_send) depth 40 fits 30000
 
   pub Session-send : IsSend D → IsSend (Session.the_field D d).row
   Session-send s = let e = Engine-send s in search (sendable, crosses, snapshot_send, noted.crosses) depth 40

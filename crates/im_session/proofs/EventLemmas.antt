@@ -1,6 +1,6 @@
 -- A run of events, one after another.
 use Rattle.std.proofs.Common.{◌≡◌, ℕ, ◌+◌, ◌<◌, Bool, true, false, not, ◌&&◌, ◌||◌, ◌⊎◌, List, [], ◌∷◌, ◌++◌, map}
-use Rattle.std.proofs.Common.{length, get_or, take, Ok, Err, Result, sym, refl, ap, ◌∙◌, subst, ap₂, ⊎_elim}
+use Rattle.std.proofs.Common.{length, get_or, take, IfOk, Ok, Err, Result, sym, refl, ap, ◌∙◌, subst, ap₂, ⊎_elim}
 use Rattle.std.proofs.Common.{append_assoc, append-nil, arith, length-append, length-take-le, take_all}
 use Rattle.arrayvec.specs.ArrayVec.{ArrayVec}
 use Rattle.std.proofs.lemmas.List.{take-append-le, take_more}
@@ -11,42 +11,54 @@ use Rattle.im_disk.proofs.SinceLemmas.{leaves_start, leaves_then}
 use Rattle.im_disk.specs.{declared.Disk.Ghosts, Since.LeavesWithin}
 use Rattle.im_checkpoint.{proofs.Fitting.none_or_some, specs.declared.TurnDone.TurnDone}
 use Rattle.im_engine.proofs.Requests.{all_served, put_is, requests_answered}
-use Rattle.im_engine.proofs.StepFaults.{step-no_device}
-use Rattle.im_engine.specs.{Answered.Answered, Answered.SweepAnswered, Answered.TurnAnswered, Commands.commands_put}
-use Rattle.im_engine.specs.{Commands.CommandsAnswered, Groups.GroupAnswered, Groups.reached_in, State.EngineState}
-use Rattle.im_session.proofs.GroupLemmas.{FailsBy, group_puts, lost_fails, same_fails}
-use Rattle.im_session.specs.declared.events.Answer.{Answer, TheVariants.Grouped, TheVariants.Served as Told}
-use Rattle.im_session.specs.declared.events.Answer.{TheVariants.Swept as DidSweep, TheVariants.Turned as TookTurn}
-use Rattle.im_session.specs.{declared.events.Event.Event, Keeping.LeavesWhole, Put.doubted_of, Put.sure_of}
-use Rattle.im_session.specs.declared.events.Event.TheVariants.{Command as Serve, Group as Together, Sweep, Turn}
+use Rattle.im_engine.{proofs.StepFaults.step-no_device, specs.Commands.commands_put, specs.Commands.CommandsAnswered}
+use Rattle.im_engine.specs.Answered.{Answered, SweepAnswered, TurnAnswered}
+use Rattle.im_engine.specs.{Chain.Advances, Chain.TakesNext, Groups.GroupAnswered, Groups.reached_in, State.EngineState}
+use Rattle.im_session.proofs.GroupLemmas.{ahead_puts, FailsBy, group_puts, lost_fails, same_fails}
+use Rattle.im_session.specs.declared.events.{Answer.Answer, Event.Event}
+use Rattle.im_session.specs.declared.events.Answer.TheVariants.{Advanced, Grouped, Served as Told, Swept as DidSweep}
+use Rattle.im_session.specs.declared.events.Answer.TheVariants.{Turned as TookTurn}
+use Rattle.im_session.specs.declared.events.Event.TheVariants.{Ahead, Command as Serve, Group as Together, Sweep, Turn}
 use Rattle.im_session.specs.Events.{acknowledged, acknowledged_by, after_event, after_events, AnsweredInTurn}
 use Rattle.im_session.specs.Events.{EventAnswered, has_fault, in_doubt, in_doubt_by, is_fault, MeansEvents}
+use Rattle.im_session.specs.{Keeping.LeavesWhole, Put.doubted_of, Put.sure_of, Serving.Rests, Serving.served_together}
 use Rattle.im_session.specs.Kept.{Kept, MeansPut, session_of, SessionState}
-use Rattle.im_session.specs.Serving.{Rests, served_together}
 
 -- what holds of each event that can be answered so
 module _ {D : Type 0} (old new : EngineState D) (P : Event → Answer → Type 0)
     (command : (c : Command) (a : Result Outcome Refusal) → Answered old c a new → P (Serve c) (Told a))
     (group : (members : List Request) (room : ℕ) (served : ArrayVec Served) → room ≡ old.room
     → GroupAnswered old members served.items new → P (Together members) (Grouped room served))
+    (ahead : (members : List Request) (were : ArrayVec Command) (result : Result ℕ Refusal) (served : ArrayVec Served)
+    → were.items ≡ old.ahead → Advances old (map Asks members) result served.items new
+    → IfOk result (TakesNext old (map Asks members) new) → P (Ahead members) (Advanced were result served))
     (turn : (a : Result TurnDone Refusal) → TurnAnswered old a new → P Turn (TookTurn a))
     (sweep : (most : ℕ) (a : Result ℕ Refusal) → SweepAnswered old most a new → P (Sweep most) (DidSweep a)) where
   pub by_event : (e : Event) (a : Answer) → EventAnswered old e a new → P e a
   by_event (Serve c) (Told a) it = command c a it
   by_event (Together members) (Grouped room served) it = group members room served it.0 it.1
+  by_event (Ahead members) (Advanced were result served) it = ahead members were result served it.0 it.1 it.2
   by_event Turn (TookTurn a) it = turn a it
   by_event (Sweep most) (DidSweep a) it = sweep most a it
   by_event (Serve c) (Grouped room served) it = absurd it
+  by_event (Serve c) (Advanced were result served) it = absurd it
   by_event (Serve c) (TookTurn a) it = absurd it
   by_event (Serve c) (DidSweep a) it = absurd it
   by_event (Together members) (Told a) it = absurd it
+  by_event (Together members) (Advanced were result served) it = absurd it
   by_event (Together members) (TookTurn a) it = absurd it
   by_event (Together members) (DidSweep a) it = absurd it
+  by_event (Ahead members) (Told a) it = absurd it
+  by_event (Ahead members) (Grouped room served) it = absurd it
+  by_event (Ahead members) (TookTurn a) it = absurd it
+  by_event (Ahead members) (DidSweep a) it = absurd it
   by_event Turn (Told a) it = absurd it
   by_event Turn (Grouped room served) it = absurd it
+  by_event Turn (Advanced were result served) it = absurd it
   by_event Turn (DidSweep a) it = absurd it
   by_event (Sweep most) (Told a) it = absurd it
   by_event (Sweep most) (Grouped room served) it = absurd it
+  by_event (Sweep most) (Advanced were result served) it = absurd it
   by_event (Sweep most) (TookTurn a) it = absurd it
 
 -- ---- failures
@@ -116,7 +128,9 @@ module _ {D : Type 0} (old new : EngineState D) where
   event_fails : (e : Event) (a : Answer) → EventAnswered old e a new → FailsBy (is_fault a) old.failed new.failed
   event_fails e a it = by_event old new (λ _ x. FailsBy (is_fault x) old.failed new.failed) command_fails
       (λ members room served same answered.
-      (group_puts old new members served.items room answered same).fails) turn_fails sweep_fails e a it
+      (group_puts old new members served.items room answered same).fails)
+      (λ members were result served are advanced takes.
+      (ahead_puts old new (map Asks members) were result served are advanced).fails) turn_fails sweep_fails e a it
 
 fails_then : (a b o m n : Bool) → FailsBy a o m → FailsBy b m n → FailsBy (a || b) o n
 fails_then a b true m n one two =
@@ -171,6 +185,24 @@ module _ {D : Type 0} (old new : SessionState D) (rs : List Request) (cs : List 
       ∙ ap (λ (l : List Command). session_of old.start (old.put ++ sure_of new.engine.failed l)
       (old.doubt ++ doubted_of old.engine.failed new.engine.failed l) new.engine) (put_is old.engine rs counted)
       ∙ ap₂ (λ (p d : List Command). session_of old.start (old.put ++ p) (old.doubt ++ d) new.engine) puts.sure
+      puts.doubt
+
+module _ {D : Type 0} (old new : SessionState D) (rs : List Request) (cs : List Command) (were : ArrayVec Command)
+    (result : Result ℕ Refusal) (served : ArrayVec Served) (is : cs ≡ map Asks rs) (are : were.items ≡ old.engine.ahead)
+    (answered : Advances old.engine cs result served.items new.engine)
+    (takes : IfOk result (TakesNext old.engine cs new.engine)) where
+  pub ahead_answered : EventAnswered old.engine (Ahead rs) (Advanced were result served) new.engine
+  ahead_answered = (
+    are,
+    subst (λ (l : List Command). Advances old.engine l result served.items new.engine) is answered,
+    subst (λ (l : List Command). IfOk result (TakesNext old.engine l new.engine)) is takes,
+  )
+
+  pub ahead_event : new ≡ served_together old old.engine.ahead new.engine
+      → new ≡ after_event old (Ahead rs) (Advanced were result served) new.engine
+  ahead_event put =
+      let puts = ahead_puts old.engine new.engine cs were result served are answered in
+      put ∙ ap₂ (λ (p d : List Command). session_of old.start (old.put ++ p) (old.doubt ++ d) new.engine) puts.sure
       puts.doubt
 
 -- ---- one event more at the end of a list

@@ -107,23 +107,25 @@ module _ {D : Type 0} (disk : Ghosts D) (mid new : EngineState D) (P : List ℕ 
         inl (all_of mid more new.memory new.count new.room file memory count (call.means h alive file left));
   }
 
+  pub puts_nothing : new.failed ≡ true → new.memory ≡ mid.memory → new.count ≡ mid.count
+      → Rises (disk.failures mid.disk) (disk.failures new.disk) → Puts disk mid new [] more
+  puts_nothing dead memory count rises = record {
+    works = works;
+    in_turn = in_turn;
+    memory = memory;
+    count = omega (arith, count);
+    undoubted = λ f. absurd (true_false (sym dead ∙ f));
+    rose = λ f. rises;
+    stayed = λ f. absurd (true_false (sym dead ∙ f));
+    honest = call.honest;
+    since = since_more;
+    now = λ h file left. either file (call.now h works file left);
+  }
+
   pub puts_none : new ≡ record mid { disk = new.disk; failed = true }
       → Rises (disk.failures mid.disk) (disk.failures new.disk) → Puts disk mid new [] more
-  puts_none fault rises =
-      let dead : new.failed ≡ true = ap (λ (e : EngineState D). e.failed) fault in
-      let count : new.count ≡ mid.count = ap (λ (e : EngineState D). e.count) fault in
-      record {
-        works = works;
-        in_turn = in_turn;
-        memory = ap (λ (e : EngineState D). e.memory) fault;
-        count = omega (arith, count);
-        undoubted = λ f. absurd (true_false (sym dead ∙ f));
-        rose = λ f. rises;
-        stayed = λ f. absurd (true_false (sym dead ∙ f));
-        honest = call.honest;
-        since = since_more;
-        now = λ h file left. either file (call.now h works file left);
-      }
+  puts_none fault rises = puts_nothing (ap (λ (e : EngineState D). e.failed) fault)
+      (ap (λ (e : EngineState D). e.memory) fault) (ap (λ (e : EngineState D). e.count) fault) rises
 
 -- the count of failures by an answer
 pub steady_by : {T : Type 0} (a : Result T Refusal) (x : T) (old new : ℕ) → Faults (λ e. Unit {0}) a old new → a ≡ Ok x

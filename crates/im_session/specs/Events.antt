@@ -1,21 +1,25 @@
 -- Events of a session: how they are answered, what is acknowledged of them, and what is in doubt.
-use Rattle.std.specs.Prelude.{◌≡◌, ℕ, ◌+◌, ◌≤◌, Bool, false, ◌||◌, List, [], ◌∷◌, ◌++◌, length, take, if◌then◌else◌, Ok}
-use Rattle.std.specs.Prelude.{Err}
-use Rattle.im_types.specs.Types.{Request, Command, Asks, Served, Unserved, Done, Refused, Contents, after, puts_of}
-use Rattle.im_types.specs.Types.{Reached}
+use Rattle.std.specs.Prelude.{◌≡◌, ℕ, ◌+◌, ◌≤◌, Bool, false, ◌||◌, List, [], ◌∷◌, ◌++◌, map, length, take, IfOk}
+use Rattle.std.specs.Prelude.{if◌then◌else◌, Ok, Err}
+use Rattle.im_types.specs.Types.{Command, Asks, Served, Unserved, Done, Refused, Contents, after, puts_of, Reached}
+use Rattle.im_groups.specs.Commands.{commands_at}
 use Rattle.im_engine.specs.Answered.{Answered, is_device, SweepAnswered, TurnAnswered}
-use Rattle.im_engine.specs.{Groups.GroupAnswered, State.EngineState}
-use Rattle.im_session.specs.declared.events.Answer.{Answer, TheVariants.Grouped, TheVariants.Served as Told}
-use Rattle.im_session.specs.declared.events.Answer.{TheVariants.Swept as DidSweep, TheVariants.Turned as TookTurn}
-use Rattle.im_session.specs.{declared.events.Event.Event, Put.doubted_by, Put.sure_by, Serving.served_answer}
-use Rattle.im_session.specs.declared.events.Event.TheVariants.{Command as Serve, Group as Together, Sweep, Turn}
-use Rattle.im_session.specs.Kept.{MeansPut, session_of, SessionState}
+use Rattle.im_engine.specs.{Chain.Advances, Chain.TakesNext, Groups.GroupAnswered, State.EngineState}
+use Rattle.im_session.specs.{declared.events.Answer.Answer, declared.events.Event.Event, Kept.MeansPut, Kept.session_of}
+use Rattle.im_session.specs.{Kept.SessionState, Put.doubted_by, Put.sure_by, Serving.served_answer}
+use Rattle.im_session.specs.declared.events.Answer.TheVariants.{Advanced, Grouped, Served as Told, Swept as DidSweep}
+use Rattle.im_session.specs.declared.events.Answer.TheVariants.{Turned as TookTurn}
+use Rattle.im_session.specs.declared.events.Event.TheVariants.{Ahead, Command as Serve, Group as Together, Sweep, Turn}
 
--- an engine's answer to one event; the answer to a group has the room that it found
+-- An engine's answer to one event. The answer to a group has the room that it found, and that to a group that is put
+-- ahead has the members that it found ahead, and what they are answered.
 abbrev pub EventAnswered : {D : Type 0} → EngineState D → Event → Answer → EngineState D → Type 0
 EventAnswered old (Serve command) (Told answer) new = Answered old command answer new
 EventAnswered old (Together members) (Grouped room served) new =
     (room ≡ old.room) × GroupAnswered old members served.items new
+EventAnswered old (Ahead members) (Advanced ahead result served) new =
+    (ahead.items ≡ old.ahead) × Advances old (map Asks members) result served.items new
+    × IfOk result (TakesNext old (map Asks members) new)
 EventAnswered old Turn (TookTurn answer) new = TurnAnswered old answer new
 EventAnswered old (Sweep most) (DidSweep answer) new = SweepAnswered old most answer new
 EventAnswered old event answer new = ⊥
@@ -46,6 +50,8 @@ abbrev pub is_fault : Answer → Bool
 is_fault (Told (Ok outcome)) = false
 is_fault (Told (Err refusal)) = is_device refusal
 is_fault (Grouped room served) = has_device served.items
+is_fault (Advanced ahead (Ok many) served) = false
+is_fault (Advanced ahead (Err refusal) served) = is_device refusal
 is_fault (TookTurn (Ok done)) = false
 is_fault (TookTurn (Err refusal)) = is_device refusal
 is_fault (DidSweep (Ok swept)) = false
@@ -59,17 +65,19 @@ has_fault (answer ∷ answers) = is_fault answer || has_fault answers
 -- ---- what was acknowledged
 
 -- the acknowledged commands of the members of a group, one after another
-abbrev pub acknowledged_members : Contents → List Request → List Served → List Command
+abbrev pub acknowledged_members : Contents → List Command → List Served → List Command
 acknowledged_members m [] served = []
-acknowledged_members m (r ∷ members) [] = []
-acknowledged_members m (r ∷ members) (answer ∷ served) =
-    sure_by m (Asks r) (served_answer answer)
-    ++ acknowledged_members (after m (sure_by m (Asks r) (served_answer answer))) members served
+acknowledged_members m (c ∷ members) [] = []
+acknowledged_members m (c ∷ members) (answer ∷ served) =
+    sure_by m c (served_answer answer)
+    ++ acknowledged_members (after m (sure_by m c (served_answer answer))) members served
 
--- the commands of this event that change the memory and were served
+-- the commands that this event acknowledges: those that change the memory and were served, and for a group that is put
+-- ahead those of the group that was ahead of it
 abbrev pub acknowledged_by : Contents → Event → Answer → List Command
 acknowledged_by m (Serve command) (Told answer) = sure_by m command answer
-acknowledged_by m (Together members) (Grouped room served) = acknowledged_members m members served.items
+acknowledged_by m (Together members) (Grouped room served) = acknowledged_members m (map Asks members) served.items
+acknowledged_by m (Ahead members) (Advanced ahead result served) = acknowledged_members m ahead.items served.items
 acknowledged_by m event answer = []
 
 -- the accepted commands that were acknowledged, in their order
@@ -86,11 +94,14 @@ abbrev pub reached_at : Contents → ℕ → ℕ → Reached
 reached_at m count room = record { contents = m; count = count; room = room }
 
 -- The command of this event, if it would change the memory and was answered `Device`. For a group answered `Device`,
--- these are all commands that it would have put into the room that it found.
+-- these are all commands that it would have put into the room that it found. For a group that is put ahead, these are
+-- all that the group ahead of it had put: nothing of its own is ever in doubt.
 abbrev pub in_doubt_by : Contents → ℕ → Event → Answer → List Command
 in_doubt_by m count (Serve command) (Told answer) = doubted_by m command answer
 in_doubt_by m count (Together members) (Grouped room served) =
     if has_device served.items then puts_of (reached_at m count room) members else []
+in_doubt_by m count (Ahead members) (Advanced ahead result served) =
+    if is_fault (Advanced ahead result served) then commands_at m (length ahead.items) ahead.items else []
 in_doubt_by m count event answer = []
 
 -- the commands in doubt: nobody knows whether all of them are on the disk, or none

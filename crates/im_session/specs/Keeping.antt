@@ -31,7 +31,12 @@ abbrev pub LeavesWhole : {D : Type 0} → Ghosts D → SessionState D → Sessio
 LeavesWhole disk old new = disk.honest new.engine.disk → LeavesWithin disk.now disk.past old.engine.disk new.engine.disk
     (λ file. MeansPut old.start (old.put ++ old.doubt) file ⊎ MeansPut new.start (new.put ++ new.doubt) file)
 
+-- it makes at most so many calls of the disk
+abbrev pub MakesAtMost : {D : Type 0} → Ghosts D → SessionState D → ℕ → SessionState D → Type 0
+MakesAtMost disk old most new =
+    disk.honest new.engine.disk → CallsAtMost disk.past old.engine.disk new.engine.disk most
+
 -- it makes no more calls of the disk than the engine for these commands
 abbrev pub MakesFewCalls : {D : Type 0} → Ghosts D → SessionState D → List Command → SessionState D → Type 0
-MakesFewCalls disk old members new = disk.honest new.engine.disk → CallsAtMost disk.past old.engine.disk new.engine.disk
-    (calls_for_group (length (commands_put old.engine members)))
+MakesFewCalls disk old members new =
+    MakesAtMost disk old (calls_for_group (length (commands_put old.engine members))) new

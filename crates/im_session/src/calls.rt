@@ -27,11 +27,12 @@ pub(crate) enum SessionCall {
     ),
 }
 
-/// What a group found: the memory, the places that were left, and whether the engine had failed.
+/// What a group found: the memory, the places that were left, and whether the engine had failed; and its members.
 pub(crate) struct GroupFound {
     pub memory: Snapshot<Memory>,
     pub places: Snapshot<u64>,
     pub failed: Snapshot<bool>,
+    pub members: Snapshot<ArrayVec<Command, MAX_GROUP>>,
 }
 
 /// The calls of a session so far. Contracts see the commands that were acknowledged, and those in doubt.
@@ -77,22 +78,22 @@ impl SessionCalls {
     pub(crate) fn note_all(
         &mut self,
         found: GroupFound,
-        members: &ArrayVec<Command, MAX_GROUP>,
         served: &ArrayVec<Served, MAX_GROUP>,
         failed: bool,
     )
         ensures { self.new ≡ put_with_all self.old (commands_at found.memory.value.contents found.places.value
-            (take (length served.now.items) members.now.items)) found.failed.value failed }
+            (take (length served.now.items) found.members.value.items)) found.failed.value failed }
     {
         let GroupFound {
             memory,
             places,
             failed: before,
+            members,
         } = found;
         let call = SessionCall::Together(
             memory,
             places,
-            Snapshot::of(members),
+            members,
             Snapshot::of(served),
             before,
             Snapshot::of(&failed),

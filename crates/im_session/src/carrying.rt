@@ -1,7 +1,7 @@
 //! Laws of sessions. Each function does nothing, and its contract is a law.
 ghost use Rattle.std.specs.Prelude.{◌≡◌, ◌<◌, true, false, List, [], map, length};
-ghost use Rattle.im_types.specs.Types.{Request, Refusal, Device, Failed, Contents, as_served, answers_of, puts_of};
-ghost use Rattle.im_types.specs.Types.{Reached};
+ghost use Rattle.im_types.specs.Types.{Request, Asks, Refusal, Device, Failed, Contents, as_served, answers_of};
+ghost use Rattle.im_types.specs.Types.{puts_of, Reached};
 ghost use Rattle.im_engine.specs.Groups.{all_refused};
 ghost use Rattle.im_session.specs.{Carrying.PrefixesCarry, Kept.SessionState};
 ghost use Rattle.im_session.specs.Events.{acknowledged_members, has_device};
@@ -29,11 +29,12 @@ pub fn prefixes_carry<D: Disk, P: Property>()
 /// `Failed`, it never does.
 pub fn groups_acknowledge_what_they_put()
     ensures put { (s : Reached) (members : List Request)
-        → acknowledged_members s.contents members (map as_served (answers_of s members)) ≡ puts_of s members }
+        → acknowledged_members s.contents (map Asks members) (map as_served (answers_of s members))
+        ≡ puts_of s members }
     ensures works { (s : Reached) (members : List Request)
         → has_device (map as_served (answers_of s members)) ≡ false }
     ensures refused { (m : Contents) (refusal : Refusal) (members : List Request)
-        → acknowledged_members m members (all_refused refusal members) ≡ [] }
+        → acknowledged_members m (map Asks members) (all_refused refusal members) ≡ [] }
     ensures fault { (s : Reached) (members : List Request)
         → 0 < length (puts_of s members) → has_device (all_refused Device members) ≡ true }
     ensures dead { (members : List Request) → has_device (all_refused Failed members) ≡ false }

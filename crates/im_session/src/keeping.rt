@@ -1,11 +1,11 @@
 //! The calls of a session once more, for a caller who has to know since when what it put is kept, as the receipts of
 //! threads have it. They also say how many calls of the disk they make, and where a group ends.
-ghost use Rattle.std.specs.Prelude.{◌≡◌, [], length, take};
+ghost use Rattle.std.specs.Prelude.{◌≡◌, ◌+◌, [], length, take, IfOk};
 ghost use Rattle.im_disk.specs.Since.{CallsAtMost, CallsBy};
 ghost use Rattle.{im_groups.specs.Ahead.ServesPrefix, im_checkpoint.specs.Turns.most_calls};
 ghost use Rattle.im_engine.specs.Answered.{Answered, calls_for, SweepAnswered, TurnAnswered};
-ghost use Rattle.im_engine.specs.Commands.{commands_put, CommandsAnswered};
-ghost use Rattle.im_session.specs.Keeping.{KeepsPut, LeavesWhole, MakesFewCalls};
+ghost use Rattle.im_engine.specs.{Chain.Advances, Chain.TakesNext, Commands.commands_put, Commands.CommandsAnswered};
+ghost use Rattle.im_session.specs.Keeping.{KeepsPut, LeavesWhole, MakesAtMost, MakesFewCalls};
 ghost use Rattle.im_session.specs.Serving.{Rests, served_one, served_together};
 
 use crate::calls::GroupFound;
@@ -57,10 +57,40 @@ impl<D: Disk> Session<D> {
             memory: Snapshot::of(self.engine.memory()),
             places: Snapshot::of(&places),
             failed: Snapshot::of(&failed),
+            members: Snapshot::of(members),
         };
         self.engine.serve_commands(members, served);
         let failed = self.engine.failed();
-        self.calls.note_all(found, members, served, failed);
+        self.calls.note_all(found, served, failed);
+    }
+
+    /// Does what [`Session::advance`] does. Each file that a crash may leave since then has all that was put before.
+    pub fn advance_kept(
+        &mut self,
+        next: &ArrayVec<Command, MAX_GROUP>,
+        served: &mut ArrayVec<Served, MAX_GROUP>,
+    ) -> Result<usize, Refusal>
+        requires empty { served.old.items ≡ [] }
+        ensures answered { Advances self.old.engine next.now.items result served.new.items self.new.engine }
+        // How many of the next members are ahead, and where they end.
+        ensures takes { IfOk result (λ many. TakesNext self.old.engine next.now.items self.new.engine many) }
+        ensures put { self.new ≡ served_together self.old self.old.engine.ahead self.new.engine }
+        ensures keeps { KeepsPut D.Disk self.old self.new }
+        ensures leaves { LeavesWhole D.Disk self.old self.new }
+        ensures few { MakesAtMost D.Disk self.old (length next.now.items + 2) self.new }
+    {
+        let failed = self.engine.failed();
+        let places = self.engine.places();
+        let found = GroupFound {
+            memory: Snapshot::of(self.engine.memory()),
+            places: Snapshot::of(&places),
+            failed: Snapshot::of(&failed),
+            members: Snapshot::of(self.engine.ahead()),
+        };
+        let result = self.engine.advance(next, served);
+        let has_failed = self.engine.failed();
+        self.calls.note_all(found, served, has_failed);
+        result
     }
 
     /// Does what [`Session::turn`] does. Each file that a crash may leave since then has all that was put before.

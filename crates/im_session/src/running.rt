@@ -1,15 +1,16 @@
-//! Runs commands, groups, turns and sweeps one after another.
+//! Runs commands, groups, groups put ahead, turns and sweeps one after another.
 ghost use Rattle.std.specs.Prelude.{◌≡◌, not, ◌&&◌, IfOk, IfErr, OnErr};
 ghost use Rattle.{im_types.specs.Types.NoMemory, im_engine.specs.Leaving.LeavesSince};
-ghost use Rattle.im_session.specs.{declared.events.Event.TheVariants.Group as Together, Keeping.LeavesWhole};
+ghost use Rattle.im_session.specs.declared.events.Event.TheVariants.{Ahead as Follow, Group as Together};
 ghost use Rattle.im_session.specs.Events.{after_event, after_events, AnsweredInTurn, EventAnswered, has_fault};
 ghost use Rattle.im_session.specs.Events.{MeansEvents};
+ghost use Rattle.im_session.specs.Keeping.{KeepsPut, LeavesWhole};
 
 use crate::events::{Answer, Event};
 use crate::session::Session;
 use arrayvec::ArrayVec;
 use im_disk::Disk;
-use im_engine::{Group, commands_of};
+use im_engine::{Group, commands_of, copy_members};
 use im_types::Refusal;
 use std::alloc::Global;
 
@@ -19,7 +20,7 @@ impl<D: Disk> Session<D> {
         ensures answered { EventAnswered self.old.engine (Together group.now) result self.new.engine }
         ensures put { self.new ≡ after_event self.old (Together group.now) result self.new.engine }
         ensures leaves { LeavesWhole D.Disk self.old self.new }
-        ensures honest { D.honest self.new.engine.disk → D.honest self.old.engine.disk }
+        ensures keeps { KeepsPut D.Disk self.old self.new }
     {
         let room = self.engine().room();
         let _places = self.engine().places(); // So that it is known that the count isn't past the last one.
@@ -30,24 +31,43 @@ impl<D: Disk> Session<D> {
         Answer::Grouped(room, served)
     }
 
-    // Serves a command or a group, makes a turn, or sweeps.
+    // Puts a group ahead, and tells which members were ahead of it, and what they are answered.
+    fn take_ahead(&mut self, group: &Group) -> Answer
+        ensures answered { EventAnswered self.old.engine (Follow group.now) result self.new.engine }
+        ensures put { self.new ≡ after_event self.old (Follow group.now) result self.new.engine }
+        ensures leaves { LeavesWhole D.Disk self.old self.new }
+        ensures keeps { KeepsPut D.Disk self.old self.new }
+    {
+        let mut ahead = ArrayVec::new();
+        copy_members(self.engine().ahead().as_slice(), &mut ahead);
+        let mut next = ArrayVec::new();
+        commands_of(group.requests().as_slice(), &mut next);
+        let mut served = ArrayVec::new();
+        let result = self.advance_kept(&next, &mut served);
+        Answer::Advanced(ahead, result, served)
+    }
+
+    // Serves a command or a group, puts a group ahead, makes a turn, or sweeps.
     fn take(&mut self, event: &Event) -> Answer
         ensures answered { EventAnswered self.old.engine event.now result self.new.engine }
         ensures put { self.new ≡ after_event self.old event.now result self.new.engine }
         ensures leaves { LeavesWhole D.Disk self.old self.new }
-        ensures honest { D.honest self.new.engine.disk → D.honest self.old.engine.disk }
+        ensures keeps { KeepsPut D.Disk self.old self.new }
     {
         match event {
             Event::Command(command) => Answer::Served(self.serve_kept(command)),
             Event::Group(group) => self.take_group(group),
+            Event::Ahead(group) => self.take_ahead(group),
             Event::Turn => Answer::Turned(self.turn_kept()),
             Event::Sweep(most) => Answer::Swept(self.sweep_kept(*most)),
         }
     }
 
-    /// Serves commands and groups, makes turns and sweeps in their order, and gives the answer to each.
+    /// Serves commands and groups, puts groups ahead, makes turns and sweeps in their order, and gives the answer to
+    /// each.
     ///
-    /// What is acknowledged is put. Where a command or a group was answered `Device`, its commands are in doubt.
+    /// What is acknowledged is put. Where a command or a group was answered `Device`, its commands are in doubt; where
+    /// a group that is put ahead was, those of the group that was ahead of it: what was only put ahead has no effect.
     /// Whenever it is stopped, a crash leaves the memory after the commands of a prefix of the events. `NoMemory` where
     /// `alloc` refused the room for the answers: then nothing was done.
     pub fn run(&mut self, alloc: Global, events: &[Event]) -> Result<Vec<Answer>, Refusal>

@@ -1,7 +1,7 @@
 //! A session, and its calls.
 ghost use Rattle.std.specs.Prelude.{◌≡◌, [], length, take};
 ghost use Rattle.im_engine.specs.Answered.{Answered, SweepAnswered, TurnAnswered};
-ghost use Rattle.im_engine.specs.Commands.{CommandsAnswered};
+ghost use Rattle.im_engine.specs.{Chain.Advances, Commands.CommandsAnswered};
 ghost use Rattle.im_session.specs.Kept.{Kept};
 ghost use Rattle.im_session.specs.Serving.{Rests, served_answer, served_one, served_together};
 
@@ -70,6 +70,20 @@ impl<D: Disk> Session<D> {
             self.new.engine }
     {
         self.serve_commands_kept(members, served)
+    }
+
+    /// Lets the group ahead act, and puts the next one ahead of it, as [`Engine::advance`] does. The commands of the
+    /// group ahead are put, all of them, or at `Device` they are in doubt. What is only put ahead is neither.
+    pub fn advance(
+        &mut self,
+        next: &ArrayVec<Command, MAX_GROUP>,
+        served: &mut ArrayVec<Served, MAX_GROUP>,
+    ) -> Result<usize, Refusal>
+        requires empty { served.old.items ≡ [] }
+        ensures answered { Advances self.old.engine next.now.items result served.new.items self.new.engine }
+        ensures put { self.new ≡ served_together self.old self.old.engine.ahead self.new.engine }
+    {
+        self.advance_kept(next, served)
     }
 
     /// Makes a turn of a checkpoint, as [`Engine::turn`] does. It puts nothing.

@@ -1,4 +1,4 @@
-//! Commands, groups, turns and sweeps. They are done one by one, or planned and run.
+//! Commands, groups, chains of groups, turns and sweeps. They are done one by one, or planned and run.
 
 use crate::engines::Engines;
 use crate::known::served;
@@ -7,7 +7,7 @@ use im_checkpoint::TurnDone;
 use im_engine::Group;
 use im_session::{Answer, Event};
 use im_story::{Cases, Phrase, Saying, command};
-use im_types::{Command, MAX_GROUP, Request, Served};
+use im_types::{Command, MAX_GROUP, Refusal, Request, Served};
 
 // Reads commands that are written with `with` between them.
 fn commands_of(words: &[&str]) -> Option<ArrayVec<Command, MAX_GROUP>> {
@@ -43,11 +43,13 @@ fn command_of(call: &Phrase, more: u64) -> Option<Command> {
 }
 
 // Reads an event, of which the one that comes behind `more` others is meant: `turn`, `3 turns`, `sweep 64`, requests of
-// different elements with `with` between them, or a command.
+// different elements with `with` between them, the same behind a group that is ahead, nothing behind it, or a command.
 fn event_of(call: &Phrase, more: u64) -> Option<Event> {
     match (call.form(), call.word(0)) {
         ("turn" | "_ turns", _) => Some(Event::Turn),
         ("sweep _", _) => Some(Event::Sweep(call.address(0))),
+        ("none behind", _) => Some(Event::Ahead(group_of(&[])?)),
+        (_, "behind") => Some(Event::Ahead(group_of(&commands_of(call.rest(1))?)?)),
         (_, "together") => Some(Event::Group(group_of(&commands_of(call.rest(1))?)?)),
         _ => Some(Event::Command(command_of(call, more)?)),
     }
@@ -77,7 +79,7 @@ fn act(engines: &mut Engines, event: Event, said: &mut Saying) -> u32 {
         }
         Event::Turn => Answer::Turned(engine.turn()),
         Event::Sweep(most) => Answer::Swept(engine.sweep(most)),
-        Event::Group(_) => {
+        Event::Group(_) | Event::Ahead(_) => {
             said.fail("a group is served otherwise");
             return 0;
         }
@@ -121,6 +123,22 @@ fn serve_group(engines: &mut Engines, call: &Phrase, said: &mut Saying) {
     add_served(said, served.as_slice())
 }
 
+// Puts commands ahead behind the group that is. Tells how many are ahead, and the answers of that group.
+fn advance(engines: &mut Engines, call: &Phrase, said: &mut Saying) {
+    let is_last = call.form() == "none behind";
+    let next = if is_last {
+        Some(ArrayVec::new())
+    } else {
+        commands_of(call.rest(1))
+    };
+    let (Some(engine), Some(next)) = (&mut engines.file.engine, next) else {
+        return said.fail("no engine, or no commands");
+    };
+    let mut served = ArrayVec::new();
+    let result = engine.advance(&next, &mut served);
+    add_advanced(said, result, served.as_slice())
+}
+
 // Plans that the next run has an event as often as the words say, or serves the commands of the story so far. Tells how
 // many events there are then.
 fn plan(engines: &mut Engines, call: &Phrase, said: &mut Saying) {
@@ -161,6 +179,19 @@ fn add_served(said: &mut Saying, served: &[Served]) {
     }
 }
 
+// Adds how many members are ahead, and the answers of the group that was.
+fn add_advanced(said: &mut Saying, result: Result<usize, Refusal>, served: &[Served]) {
+    match result {
+        Ok(many) => write!(said, "{many} ahead ["),
+        Err(refusal) => {
+            said.refusal(refusal);
+            said.text(" [")
+        }
+    }
+    add_served(said, served);
+    said.text("]")
+}
+
 // Adds an answer. Returns the number of its page, if it is one; then the text has none.
 fn add_answer(said: &mut Saying, answer: &Answer) -> Option<u32> {
     match answer {
@@ -170,6 +201,7 @@ fn add_answer(said: &mut Saying, answer: &Answer) -> Option<u32> {
             add_served(said, served.as_slice());
             said.text("]")
         }
+        Answer::Advanced(_, result, served) => add_advanced(said, *result, served.as_slice()),
         Answer::Turned(Ok(TurnDone::Idle)) => said.text("idle"),
         Answer::Turned(Ok(TurnDone::Began)) => said.text("began"),
         Answer::Turned(Ok(TurnDone::Page(page))) => {
@@ -215,6 +247,7 @@ pub fn tell(engines: &mut Engines, call: &Phrase, said: &mut Saying) {
             })
         }
         (_, "plan") => plan(engines, call, said),
+        ("none behind", _) | (_, "behind") => advance(engines, call, said),
         (_, "together" | "commands") => serve_group(engines, call, said),
         _ => act_each(engines, call, said),
     }

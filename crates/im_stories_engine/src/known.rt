@@ -12,6 +12,7 @@ use std::alloc::Global;
 
 /// An engine in a file, and what it has answered: the memory after it, and how many commands that is. The commands of
 /// the last call may be in doubt, with the room for them: all that are accepted and have room are on the disk, or none.
+/// Those that were put ahead have no effect.
 pub struct KnownEngine {
     /// The engine, or its file.
     pub file: StoryFile,
@@ -19,6 +20,8 @@ pub struct KnownEngine {
     pub plain: PlainMemory,
     /// How many commands were answered.
     pub count: u64,
+    /// The members of the group ahead.
+    pub ahead: ArrayVec<Command, MAX_GROUP>,
     doubt: ArrayVec<Command, MAX_GROUP>,
     room: usize,
 }
@@ -30,6 +33,7 @@ impl Drop for KnownEngine {
             file: _,
             plain: _,
             count: _,
+            ahead: _,
             doubt: _,
             room: _,
         } = self;
@@ -104,6 +108,7 @@ impl KnownEngine {
             file: StoryFile::new(alloc),
             plain: PlainMemory::new(alloc, limits).ok()?,
             count: 0,
+            ahead: ArrayVec::new(),
             doubt: ArrayVec::new(),
             room: 0,
         };
@@ -123,8 +128,8 @@ impl KnownEngine {
     }
 
     /// Takes in the answers to a group that found this room. They have to be those of the plain memory one after
-    /// another. A group ends behind its last member, or behind another and before a confirmation. Returns whether the
-    /// disk still works.
+    /// another. A group ends behind its last member, or behind another and before a confirmation. What was ahead is no
+    /// more behind one that is put on the disk. Returns whether the disk still works.
     pub fn hears(
         &mut self,
         members: &[Command],
@@ -139,9 +144,12 @@ impl KnownEngine {
             self.room = room;
             return false;
         }
-        let mut left = room;
+        let (mut left, before) = (room, self.count);
         for (member, answer) in taken.iter().zip(answers) {
             said.check(self.expected(member, &mut left) == *answer);
+        }
+        if self.count != before {
+            self.ahead = ArrayVec::new();
         }
         said.check(
             members.get(answers.len()).is_none_or(|next| {
@@ -149,6 +157,40 @@ impl KnownEngine {
             }),
         );
         true
+    }
+
+    /// Takes in what the members of the group ahead were answered, in the same way: there was a place for each. So many
+    /// of the next ones are ahead then, and none if the disk has failed.
+    pub fn hears_advanced(
+        &mut self,
+        next: &[Command],
+        result: Result<usize, Refusal>,
+        answers: &[Served],
+        said: &mut Saying,
+    ) -> bool {
+        let ahead = self.ahead.take();
+        said.check(answers.len() == ahead.len());
+        let Ok(many) = result else {
+            said.check(result == Err(Refusal::Device) && are_refused(answers, Refusal::Device));
+            said.check(self.doubt.try_extend_from_slice(ahead.as_slice()).is_ok());
+            self.room = usize::MAX;
+            return false;
+        };
+        let works = self.hears(ahead.as_slice(), answers, usize::MAX, said);
+        let taken = next.get(..many).unwrap_or(next);
+        said.check(taken.len() == many && self.ahead.try_extend_from_slice(taken).is_ok());
+        works
+    }
+
+    /// Puts commands ahead behind those that are, and takes in the answers in the same way.
+    pub fn advance(&mut self, next: &ArrayVec<Command, MAX_GROUP>, said: &mut Saying) -> bool {
+        let Some(engine) = &mut self.file.engine else {
+            said.fail("no engine");
+            return false;
+        };
+        let mut answers = ArrayVec::new();
+        let result = engine.advance(next, &mut answers);
+        self.hears_advanced(next.as_slice(), result, answers.as_slice(), said)
     }
 
     /// Serves a command, and takes in its answer in the same way.
@@ -172,12 +214,14 @@ impl KnownEngine {
     /// Opens the file, whose disk fails so. Returns whether the disk still works.
     pub fn opens(&mut self, fuse: (u64, Mode), said: &mut Saying) -> bool {
         self.file.close();
+        self.ahead = ArrayVec::new();
         self.file.fuse = fuse;
         does_work(self.file.start(None).err(), said)
     }
 
     /// Opens what a crash leaves, if there is one, and checks that it has all.
     pub fn reopen(&mut self, crash: Option<Crash>, said: &mut Saying) {
+        self.ahead = ArrayVec::new();
         said.check(self.file.reopen(crash));
         self.has_all(said)
     }

@@ -4,16 +4,18 @@
 use crate::engines::{Engines, StoryScript};
 use crate::events::{add_number, group_of};
 use crate::known::{KnownEngine, are_alike, are_refused, does_work, is_wrong_at, served};
+use arrayvec::ArrayVec;
 use im_disk::{Crash, Mode};
+use im_engine::Group;
 use im_session::{Answer, Event};
 use im_story::{Cases, Phrase, Saying, asked, crash, mode};
 use im_story_disk::{STEADY, StoryFile};
-use im_types::{Command, LAST, Op, Refusal};
+use im_types::{Command, LAST, MAX_GROUP, Op, Refusal};
 
 // What is stopped, and how: an opening of an image with the whole script, or a reopening of one that was stopped in its
-// last command; the script as one group; the turns after it; a call, which is an opening of a copy of the file with the
-// turns after that; or the run that was planned. Then the disk crashes, or is opened as it is; and it may crash again
-// after an opening.
+// last command; the script as one group, or as one that is put ahead; the turns after it; a call, which is an opening
+// of a copy of the file with the turns after that; or the run that was planned. Then the disk crashes, or is opened as
+// it is; and it may crash again after an opening.
 #[derive(Drop)]
 struct Trial<'s, 'c> {
     script: &'s StoryScript,
@@ -26,6 +28,15 @@ struct Trial<'s, 'c> {
     known: KnownEngine,
 }
 
+// Returns the requests of a group as commands.
+fn commands_of(group: &Group) -> ArrayVec<Command, MAX_GROUP> {
+    let mut commands = ArrayVec::new();
+    for request in group.requests().as_slice() {
+        let _pushed = commands.try_push(Command::Request(*request));
+    }
+    commands
+}
+
 // Returns whether an event was answered `Failed`.
 fn has_failed(answer: &Answer) -> bool {
     match answer {
@@ -33,6 +44,7 @@ fn has_failed(answer: &Answer) -> bool {
         Answer::Turned(answer) => *answer == Err(Refusal::Failed),
         Answer::Swept(answer) => *answer == Err(Refusal::Failed),
         Answer::Grouped(_, answers) => are_refused(answers, Refusal::Failed),
+        Answer::Advanced(_, result, _) => *result == Err(Refusal::Failed),
     }
 }
 
@@ -94,6 +106,13 @@ impl Trial<'_, '_> {
                     .known
                     .hears(&[*command], &[served(*answer)], usize::MAX, said);
             }
+            (Event::Ahead(group), Answer::Advanced(were, result, answers)) => {
+                said.check(were.as_slice() == self.known.ahead.as_slice());
+                let next = commands_of(group);
+                return self
+                    .known
+                    .hears_advanced(next.as_slice(), *result, answers, said);
+            }
             (Event::Group(_), Answer::Grouped(room, answers)) => {
                 let commands = self.script.commands.as_slice();
                 return self.known.hears(commands, answers, *room as usize, said);
@@ -132,7 +151,7 @@ impl Trial<'_, '_> {
         let count = self.script.len();
         let before = count.saturating_sub(1);
         let (commands, more, mode, serves) = match self.act {
-            "group" | "run" => (0, passes, self.mode, None),
+            "group" | "chain" | "run" => (0, passes, self.mode, None),
             "turn" => (count, passes, self.mode, Some(count)),
             "reopening" => (before, 3, Mode::Stop, Some(before)),
             "call" => (0, LAST, Mode::Stop, None),
@@ -218,17 +237,21 @@ impl Trial<'_, '_> {
     }
 }
 
-// Returns the events that are stopped: a group, which is put once more, or turns, more than there are to be made.
+// Returns the events that are stopped: a group, which is put once more, at once or in a chain, or turns, more than
+// there are to be made.
 fn events_of(act: &str, script: &StoryScript, said: &mut Saying) -> Vec<Event> {
     let mut events = Vec::new(said.alloc());
     let times = match act {
         "group" => 2,
+        "chain" => 3,
         "turn" | "call" => 200,
         _ => 0,
     };
-    for _ in 0..times {
+    for at in 0..times {
         let event = match act {
             "group" => group_of(&script.commands).map(Event::Group),
+            "chain" if at < 2 => group_of(&script.commands).map(Event::Ahead),
+            "chain" => group_of(&[]).map(Event::Ahead),
             _ => Some(Event::Turn),
         };
         said.check(event.is_some_and(|event| events.push(event).is_ok()))
@@ -236,10 +259,10 @@ fn events_of(act: &str, script: &StoryScript, said: &mut Saying) -> Vec<Event> {
     events
 }
 
-/// Makes the call `in each` with `serve`, `opening`, `reopening`, `group`, `turn`, `call` or `run`. Then come how the
-/// disk fails at each call of that, and what the crashes after it leave. `call` uses the closed file. All others but
-/// `run` use an image that gets the commands of the story so far, one by one or as one group. The plain memory has to
-/// answer the script as it was told, and the engine of the story has to have that memory.
+/// Makes the call `in each` with `serve`, `opening`, `reopening`, `group`, `chain`, `turn`, `call` or `run`. Then come
+/// how the disk fails at each call of that, and what the crashes after it leave. `call` uses the closed file. All
+/// others but `run` use an image that gets the commands of the story so far, one by one or as one group. The plain
+/// memory has to answer the script as it was told, and the engine of the story has to have that memory.
 pub fn tell(engines: &Engines, call: &Phrase, said: &mut Saying) {
     let (crash, next) = (crash(call.word(4)), crash(call.word(5)));
     let words = 4 + usize::from(crash.is_some()) + usize::from(next.is_some());
@@ -265,7 +288,9 @@ pub fn tell(engines: &Engines, call: &Phrase, said: &mut Saying) {
     trial.agrees_with(&engines.file, said);
     match act {
         "serve" => trial.tell_serves(said),
-        "opening" | "reopening" | "group" | "turn" | "call" | "run" => trial.tell_acts(said),
+        "opening" | "reopening" | "group" | "chain" | "turn" | "call" | "run" => trial.tell_acts(
+            said,
+        ),
         _ => said.fail("that is no act"),
     }
 }

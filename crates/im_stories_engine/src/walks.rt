@@ -29,18 +29,25 @@ const WAYS: [(Mode, Crash); 6] = [
     (Mode::Once, Crash::Lost),
 ];
 
-// Returns a command of an element of a memory, or of one element more, behind commands that haven't acted yet: they
-// take that many of its numbers. One in five confirms. Element 0 asks for nothing that may wait, so that one element
-// always continues. One in two requests under a number that is kept asks for what was asked for before.
-fn command(dice: &mut Dice, plain: &PlainMemory, before: &[Command]) -> Command {
-    let element = dice.below(plain.elements() as u32 + 1) as u16;
-    let (base, mut next) = plain.window(element).unwrap_or((1, 1));
-    for command in before {
+// Returns how many numbers of an element these commands take.
+fn numbers_of(element: u16, commands: &[Command]) -> u64 {
+    let mut numbers: u64 = 0;
+    for command in commands {
         if matches!(command, Command::Request(request) if request.element == element) {
-            next = next.saturating_add(1);
+            numbers = numbers.saturating_add(1);
         }
     }
-    let command = dice.command(element, (base, next), CELLS);
+    numbers
+}
+
+// Returns a command of an element of a memory, or of one element more, behind commands that haven't acted yet: those
+// that are ahead, and those before it. One in five confirms. Element 0 asks for nothing that may wait, so that one
+// element always continues. One in two requests under a number that is kept asks for what was asked for before.
+fn command(dice: &mut Dice, plain: &PlainMemory, ahead: &[Command], before: &[Command]) -> Command {
+    let element = dice.below(plain.elements() as u32 + 1) as u16;
+    let (base, known) = plain.window(element).unwrap_or((1, 1));
+    let taken = numbers_of(element, ahead).saturating_add(numbers_of(element, before));
+    let command = dice.command(element, (base, known.saturating_add(taken)), CELLS);
     let Command::Request(request) = command else {
         return command;
     };
@@ -52,11 +59,12 @@ fn command(dice: &mut Dice, plain: &PlainMemory, before: &[Command]) -> Command 
     Command::Request(Request { op, ..request })
 }
 
-// Returns up to sixteen commands of any elements, some of one element: each behind those before it.
-fn group(dice: &mut Dice, plain: &PlainMemory) -> ArrayVec<Command, MAX_GROUP> {
+// Returns up to sixteen commands of any elements, some of one element: each behind those before it, and behind those
+// that are ahead.
+fn group(dice: &mut Dice, plain: &PlainMemory, ahead: &[Command]) -> ArrayVec<Command, MAX_GROUP> {
     let mut members = ArrayVec::new();
     for _ in 0..dice.below(16) + 1 {
-        let member = command(dice, plain, members.as_slice());
+        let member = command(dice, plain, ahead, members.as_slice());
         let _is_full = members.try_push(member);
     }
     members
@@ -74,7 +82,7 @@ fn walk(limits: Limits, call: &Phrase, said: &mut Saying) -> u64 {
     };
     let (mut dice, mut accepted) = (Dice::new(call.number(1)), 0u64);
     for turn in 0..call.number(0) {
-        let command = command(&mut dice, &plain, &[]);
+        let command = command(&mut dice, &plain, &[], &[]);
         let judged = plain.judge(&command);
         let is_alike = fast.judge(&command) == judged
             && fast.step(&command) == plain.step(&command);
@@ -85,7 +93,16 @@ fn walk(limits: Limits, call: &Phrase, said: &mut Saying) -> u64 {
     accepted
 }
 
-// Makes a random turn, sweep, group or command; mostly a turn if there is no room. Returns whether the disk works on.
+// Returns the commands that are put ahead next: one time in three none.
+fn next(dice: &mut Dice, known: &KnownEngine) -> ArrayVec<Command, MAX_GROUP> {
+    if dice.below(3) == 0 {
+        return ArrayVec::new();
+    }
+    group(dice, &known.plain, known.ahead.as_slice())
+}
+
+// Makes a random turn, sweep, group or command, or puts a group ahead; mostly a turn if there is no room. Returns
+// whether the disk works on.
 fn goes(known: &mut KnownEngine, dice: &mut Dice, said: &mut Saying) -> bool {
     let Some(engine) = &mut known.file.engine else {
         said.fail("no engine");
@@ -95,17 +112,21 @@ fn goes(known: &mut KnownEngine, dice: &mut Dice, said: &mut Saying) -> bool {
     if room == 0 && dice.below(8) > 0 {
         return does_work(engine.turn().err(), said);
     }
-    match dice.below(6) {
+    match dice.below(8) {
         0 => does_work(engine.turn().err(), said),
         1 => does_work(engine.sweep(dice.below(20)).err(), said),
         2 | 3 => {
-            let members = group(dice, &known.plain);
+            let members = group(dice, &known.plain, &[]);
             let mut answers = ArrayVec::new();
             engine.serve_commands(&members, &mut answers);
             known.hears(&members, &answers, room, said)
         }
+        4 | 5 | 6 => {
+            let members = next(dice, known);
+            known.advance(&members, said)
+        }
         _ => {
-            let command = command(dice, &known.plain, &[]);
+            let command = command(dice, &known.plain, &[], &[]);
             known.serve(&command, said)
         }
     }

@@ -64,7 +64,9 @@ class lt_refusal(enum.IntEnum):
     BAD_RECORD = 16
     BAD_LIMITS = 17  # of lt_memory_new and lt_format
     OLD_VERSION = 21  # of lt_open: an image of the first layout; `imem migrate` makes one of this layout
-    UNSERVED = 254  # of a member of lt_serve_group: it isn't served, and changed nothing; put it again
+    # of a member of lt_serve_group: it isn't served, and changed nothing; put it again. Of lt_advance: no command was
+    # ahead there
+    UNSERVED = 254
     NO_CALL = 255  # an unknown tag, no such write, or no group
 
 
@@ -125,6 +127,19 @@ class lt_bounds(c.Structure):
     refusal: Any
     base: Any
     next: Any
+
+
+class lt_advanced(c.Structure):
+    """What lt_advance did. If `refusal` isn't 0, nothing is ahead."""
+
+    _fields_ = [
+        ("refusal", c.c_uint8),
+        ("ahead", c.c_uint8),
+        ("answered", c.c_uint8),
+    ]
+    refusal: Any
+    ahead: Any
+    answered: Any
 
 
 class lt_sizes(c.Structure):
@@ -241,6 +256,16 @@ CALLS: dict[str, tuple[Any, ...]] = {
         c.c_size_t,
     ),
     "lt_first_unknown": (c.c_size_t, c.POINTER(lt_command), c.c_size_t),
+    "lt_advance": (
+        c.c_uint8,
+        lt_image,
+        c.POINTER(lt_command),
+        c.c_size_t,
+        c.POINTER(lt_image),
+        c.POINTER(lt_advanced),
+        c.POINTER(lt_outcome),
+        c.c_size_t,
+    ),
     "lt_turn": (c.c_uint8, lt_image, c.POINTER(lt_image), c.POINTER(lt_outcome)),
     "lt_sweep": (c.c_uint8, lt_image, c.c_uint32, c.POINTER(lt_image), c.POINTER(lt_outcome)),
     "lt_failed": (None, lt_image, c.POINTER(lt_image)),
@@ -268,6 +293,15 @@ CALLS: dict[str, tuple[Any, ...]] = {
         c.POINTER(ltf),
         c.POINTER(lt_command),
         c.c_size_t,
+        c.POINTER(lt_outcome),
+        c.POINTER(c.c_size_t),
+    ),
+    "ltf_advance": (
+        c.c_int,
+        c.POINTER(ltf),
+        c.POINTER(lt_command),
+        c.c_size_t,
+        c.POINTER(c.c_size_t),
         c.POINTER(lt_outcome),
         c.POINTER(c.c_size_t),
     ),

@@ -4,6 +4,8 @@
 -- 16 times 1.1 fetch 0 = nocell x16   sixteen requests, 1.1 to 1.16
 -- together 0.1 alloc i 2 with 1.1 fetch 0 = base 0, waiting    requests of different elements as one group
 -- commands confirm 0 2 with 1.2 fetch 0 = confirmed, waiting   any commands as one group, which may end early
+-- behind 0.1 alloc i 2 with 1.1 fetch 0 = 2 ahead []           requests that are put ahead, behind the group that is
+-- none behind = 0 ahead [base 0, waiting]                      the group that is ahead, and none behind it
 -- 3 turns = began, page 0..1; room 0 x3
 -- sweep 64 = swept 16; room 16    closes at most 64 slots with one sync
 -- plan 1.1 fetch 0 = 1 events     what the next run does: commands, groups, turns, sweeps, or all commands as told
@@ -18,8 +20,8 @@
 -- in each length 0 to 9 = ..      the result of opening a copy of each length; equal ones in a row once
 -- in each value of 0 to 3 = ..    the same for each value of each of these bytes
 -- in each serve stop kept = ..    a stop in each call of each serve, a crash, and all is sent again; so of an opening, of
---                                 a reopening after a stop, of the script as a group, of each turn, of a call on the
---                                 closed file, and of the run that was planned
+--                                 a reopening after a stop, of the script as a group or a chain, of each turn, of a
+--                                 call on the closed file, and of the run that was planned
 
 # A fetch comes before its store
 -- An I cell is written at most once. A fetch that comes too early is deferred, and the store answers it.

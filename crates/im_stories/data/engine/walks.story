@@ -4,13 +4,13 @@
 walk 50000 from 2026 over 10000 = alike
 
 # Nothing that was answered is lost, whatever stops the engine
--- Four hundred times an engine is stopped at any call of any turn, command, group of up to sixteen or opening, with a
--- crash behind it. Each opening finds all that was answered, and besides at most the commands of the one call in doubt,
+-- Four hundred times an engine is stopped at any call of any turn, command, group of up to sixteen, also in a chain, or
+-- opening, with a crash behind it. Each opening finds all that was answered, and besides at most the commands of the one call in doubt,
 -- all of them. From seed 1989, over a thousand accepted.
 wander 400 from 1989 over 1000 = nothing lost
 
 # Nothing that was answered is lost, at whichever call the engine is stopped
--- Commands, groups and turns from a seed, a hundred, stopped at each of their over two hundred calls of the disk in turn:
+-- Commands, groups, chains and turns from a seed, a hundred, stopped at each of their over two hundred calls of the disk in turn:
 -- for good, with a crash that keeps all that wasn't synced, loses it, or leaves a byte a5 or 00 all over it; once, with a
 -- crash that loses it; and once with a byte a5 over what was to be written, which the crash keeps. What is found then has
 -- all that was answered, and of the call in doubt all commands or none; and it serves on.

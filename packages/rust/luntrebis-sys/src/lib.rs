@@ -138,7 +138,8 @@ pub const LT_BAD_LIMITS: u8 = 17;
 /// Of lt_open: an image of the first layout; `imem migrate` makes one of this layout
 pub const LT_OLD_VERSION: u8 = 21;
 
-/// Of a member of lt_serve_group: it isn't served, and changed nothing; put it again
+/// Of a member of lt_serve_group: it isn't served, and changed nothing; put it again. Of lt_advance: no command was
+/// ahead there
 pub const LT_UNSERVED: u8 = 254;
 
 /// An unknown tag, no such write, or no group
@@ -186,6 +187,17 @@ pub struct lt_bounds {
     pub refusal: u8,
     pub base: u64,
     pub next: u64,
+}
+
+/// What lt_advance did. If `refusal` isn't 0, nothing is ahead.
+#[repr(C)]
+#[derive(Clone, Copy, Debug, Default, PartialEq, Eq)]
+pub struct lt_advanced {
+    pub refusal: u8,
+    /// How many of the commands are ahead now
+    pub ahead: u8,
+    /// How many were ahead: the first outcomes are theirs
+    pub answered: u8,
 }
 
 /// The sizes of an image.
@@ -356,6 +368,29 @@ extern "C" {
     /// taking them. Returns `count` if there is none.
     pub fn lt_first_unknown(commands: *const lt_command, count: usize) -> usize;
 
+    /// Lets the commands that are ahead of the image act, and puts 0 to 16 next ones ahead of it, by one sync for both.
+    /// So a chain of n groups needs n + 1 syncs, where n calls of lt_serve_group need two each. What is ahead has no
+    /// effect until the next such call: until then a crash leaves nothing of it. lt_serve and lt_serve_group forget
+    /// what is ahead if they put a command on the disk; lt_turn and lt_sweep keep it.
+    ///
+    /// The first commands are put ahead: as many as there is room for, up to a confirmation if it isn't known, before
+    /// those that were ahead act, whether each entry that it would drop is answered. Put the others again. If nothing
+    /// was ahead and there is room, at least one is put. `done` says how many are ahead, and how many were: the first
+    /// outcomes are theirs, each as lt_serve would give it after those before it, and each outcome behind them is
+    /// LT_UNSERVED. If the steps couldn't be listed, each of theirs is LT_DEVICE.
+    ///
+    /// Returns the refusal of `done`: 0, LT_DEVICE, or LT_NO_CALL if a tag is unknown, `count` is more than 16, or
+    /// `places` isn't 16. After LT_NO_CALL, and after a lost step, the outcomes are as they were.
+    pub fn lt_advance(
+        image: lt_image,
+        commands: *const lt_command,
+        count: usize,
+        next: *mut lt_image,
+        done: *mut lt_advanced,
+        outcomes: *mut lt_outcome,
+        places: usize,
+    ) -> u8;
+
     /// Makes one turn of a checkpoint. Returns its refusal, and writes what it did at `outcome`.
     pub fn lt_turn(image: lt_image, next: *mut lt_image, outcome: *mut lt_outcome) -> u8;
 
@@ -463,9 +498,10 @@ extern "C" {
     pub fn ltf_serve(file: *mut ltf, command: *const lt_command, outcome: *mut lt_outcome) -> core::ffi::c_int;
 
     /// Serves any commands, in their order, with the outcomes that ltf_serve would give for one after another. Up to 16
-    /// neighbours share two syncs: requests, of one element or of several, and confirmations. Returns 0, and writes the
-    /// outcome of each command at its place in `outcomes`. Returns LT_DEVICE if a step failed: then each outcome may be
-    /// untrue. Returns LT_NO_MEMORY for more than 16 commands if there is no memory for them: then none was served.
+    /// neighbours are a group: requests, of one element or of several, and confirmations. The groups are a chain, in
+    /// which each shares a sync with the next: n groups need n + 1 syncs. Returns 0, and writes the outcome of each
+    /// command at its place in `outcomes`. Returns LT_DEVICE if a step failed: then each outcome may be untrue. Returns
+    /// LT_NO_MEMORY for more than 16 commands if there is no memory for them: then none was served.
     pub fn ltf_serve_all(
         file: *mut ltf,
         commands: *const lt_command,
@@ -484,9 +520,26 @@ extern "C" {
         served: *mut usize,
     ) -> core::ffi::c_int;
 
-    /// Returns the requests that the last ltf_serve, ltf_serve_group or ltf_serve_all resumed: they waited before, and
-    /// are answered now. Those of one cell are in the order in which they came. Their number is at `count`. They stay
-    /// there until the next of these calls.
+    /// Lets the commands that are ahead act, and puts the first of these ahead, as lt_advance does: at most 16, which
+    /// may be none. How many are ahead now is at `ahead`; the others are untouched, and are put again. If nothing was
+    /// ahead and nothing can be put there, ltf_serve_group serves them: it makes room, and answers an unknown tag.
+    /// Writes the outcomes of the commands that were ahead at `outcomes`, which has 16 places, and their number at
+    /// `answered`. Returns 0, or LT_DEVICE if a step failed: then nobody is answered, and nothing is ahead.
+    ///
+    /// What is ahead has no effect before the next ltf_advance or ltf_serve_all, in which it acts first. ltf_serve and
+    /// ltf_serve_group forget it if they put a command on the disk, and so does ltf_close.
+    pub fn ltf_advance(
+        file: *mut ltf,
+        commands: *const lt_command,
+        count: usize,
+        ahead: *mut usize,
+        outcomes: *mut lt_outcome,
+        answered: *mut usize,
+    ) -> core::ffi::c_int;
+
+    /// Returns the requests that the last ltf_serve, ltf_serve_group, ltf_serve_all or ltf_advance resumed: they waited
+    /// before, and are answered now. Those of one cell are in the order in which they came. Their number is at `count`.
+    /// They stay there until the next of these calls.
     pub fn ltf_woken(file: *const ltf, count: *mut usize) -> *const lt_waiter;
 
     /// Makes a sweep, or a turn of a checkpoint, if less than half of the journal is free. Returns 1, or 0 if there is

@@ -5,7 +5,7 @@ use Rattle.im_types.specs.Types.{Command, Contents, accept_each}
 use Rattle.{im_laws.proofs.Tests.some_same, im_checkpoint.specs.Keeping.IsKept}
 use Rattle.im_disk.proofs.SinceLemmas.{leaves_start, left_now, only_weaker}
 use Rattle.im_journal.specs.Holding.{Holds, JournalState, longer, MayAppend}
-use Rattle.im_engine.proofs.{Keeping.all_mean, Keeping.kept_longer, Keeping.may_append_means, Members.longer_none}
+use Rattle.im_engine.proofs.{Keeping.all_mean, Keeping.kept_longer, Keeping.may_put_means, Members.longer_none}
 use Rattle.im_engine.proofs.groups.put_on.Goals as goal
 
 both_ok : {T E P Q R : Type 0} (N : E → Type 0) (r : Result T E) → OnOk r P → MatchResult r (λ _. Q) N → (P → Q → R)
@@ -36,7 +36,8 @@ returns-clause-leaves g c = λ h k x m after accepts kept.
     only_weaker g.D.Disk.now g.D.Disk.past c.args.disk.now c.append_group.new.disk
     (MayAppend c.args.journal.now c.args.commands.now (g.D.Disk.now c.args.disk.now)) _
     (c.append_group.ensures.runs.leaves h)
-    (may_append_means k x m c.args.journal.now (g.D.Disk.now c.args.disk.now) kept c.args.commands.now after accepts)
+    (may_put_means k x m c.args.journal.now (g.D.Disk.now c.args.disk.now) kept c.args.commands.now after accepts
+    (length c.args.commands.now))
 
 pub returns-clause-kept : goal.returns-clause-kept
 returns-clause-kept g c = both_ok _ c.append_group.result c.append_group.ensures.added c.append_group.ensures.state
@@ -45,5 +46,6 @@ returns-clause-kept g c = both_ok _ c.append_group.result c.append_group.ensures
     let new = g.D.Disk.now c.append_group.new.disk in
     let added = adds h in
     subst (λ (y : JournalState). IsKept k x after y (g.D.Disk.now c.append_group.new.disk)) (sym state)
-    (kept_longer k x m j (g.D.Disk.now c.args.disk.now) kept c.args.commands.now after accepts new added.kept added.calm (added.added new.bytes (left_now new))
+    (kept_longer k x m j (g.D.Disk.now c.args.disk.now) kept c.args.commands.now after accepts new added.kept added.calm
+    (added.added new.bytes (left_now new))
     (subst (λ (y : JournalState). Holds y new.bytes) state (added.holds new.bytes (left_now new)))))

@@ -1,7 +1,7 @@
 use Rattle.std.proofs.Common.{◌≡◌, Ok, inl, inr, ⊎_elim}
 use Rattle.im_types.specs.Types.{layout_in_use, header_of, Reads}
 use Rattle.im_image.specs.Headers.{seen}
-use Rattle.im_engine.proofs.Opening.{kept_read, opens_leaves, settled}
+use Rattle.im_engine.proofs.Opening.{kept_read, opens_leaves, ring_young, settled}
 use Rattle.im_engine.specs.State.{IsFirstFault}
 use Rattle.im_engine.proofs.open.read_synced.Goals as goal
 
@@ -38,3 +38,17 @@ returns-in-Ok-clause-found g c = λ h.
     settled (g.D.Disk.now c.args.disk.now) (g.D.Disk.now synced) (g.D.Disk.now c.read_image.new.disk)
     (λ file. (seen i.header ≡ header_of file) × Reads layout_in_use file (Ok (record { contents = i.memory.contents; count = i.journal.count; room = i.journal.room })))
     sure (c.read_image.ensures.reads.reads h).now (c.in-Ok.ensures.header h, c.in-Ok.ensures.means h)
+
+pub returns-in-Ok-clause-fits : goal.returns-in-Ok-clause-fits
+returns-in-Ok-clause-fits g c =
+    let i = c.in-Ok.image in
+    let parts = c.in-Ok.ensures.parts in (
+      record {
+        cells = parts.sizes.cells;
+        elements = parts.sizes.elements;
+        ring = ring_young (seen i.header) i.journal c.in-Ok.ensures.version parts.journal;
+        first = parts.journal.first;
+        step = tt;
+      },
+      parts.journal.none,
+    )

@@ -7,7 +7,7 @@ use Rattle.im_groups.proofs.ahead.judge_confirm.Goals as goal
 pub returns-in-Err-clause-found : goal.returns-in-Err-clause-found
 returns-in-Err-clause-found c = confirm-lost c.args.memory.now.contents c.args.ahead.now c.args.element c.args.upto
     c.in-Err.field-0 c.requires.accepted
-    (sym c.bounds_behind_all.ensures.bounds ∙ c.in-Err.is)
+    (sym c.bounds_after.ensures.bounds ∙ c.in-Err.is)
 
 pub returns-then-upto-base-clause-found : goal.returns-then-upto-base-clause-found
 returns-then-upto-base-clause-found c =
@@ -18,13 +18,13 @@ returns-then-upto-base-clause-found c =
     ] in
     confirm-out c.args.memory.now.contents c.args.ahead.now c.args.element c.args.upto c.in-Ok.bounds.0
     c.in-Ok.bounds.1 c.requires.accepted
-    (sym c.bounds_behind_all.ensures.bounds ∙ c.in-Ok.is) out
+    (sym c.bounds_after.ensures.bounds ∙ c.in-Ok.is) out
 
 pub returns-then-are_sure-clause-found : goal.returns-then-are_sure-clause-found
 returns-then-are_sure-clause-found c =
     confirm-in c.args.memory.now.contents c.args.ahead.now c.args.element c.args.upto c.in-Ok.bounds.0
     c.in-Ok.bounds.1 c.requires.accepted
-    c.bounds_behind_all.ensures.memory.agrees (sym c.bounds_behind_all.ensures.bounds ∙ c.in-Ok.is)
+    c.bounds_after.ensures.memory.agrees (sym c.bounds_after.ensures.bounds ∙ c.in-Ok.is)
     (omega (arith, c.if-upto-base.false)) (omega (arith, c.if-upto-next.false)) (c.are_sure.ensures.all
     c.if-are_sure.true)
 
@@ -35,7 +35,7 @@ returns-else-are_sure-clause-unsure c = λ none.
       base = c.in-Ok.bounds.0;
       next = c.in-Ok.bounds.1;
       are = bounds-moved c.args.memory.now.contents c.args.ahead.now c.args.element c.requires.accepted
-          ∙ sym c.bounds_behind_all.ensures.bounds ∙ c.in-Ok.is;
+          ∙ sym c.bounds_after.ensures.bounds ∙ c.in-Ok.is;
       reached = omega (arith, c.if-upto-next.false);
       number = found.0;
       from = found.1;

@@ -89,5 +89,6 @@ returns-then-replay-clause-parts g c =
             ∙ ap (λ (l : Layout). ring_of l (sizes_of c.args.header.limits)) c.layout-version.ensures;
         first = c.in-Ok.ensures.journal.1;
         begun = omega (arith, c.in-Ok.ensures.journal.2);
+        none = c.in-Ok.ensures.journal.3;
       };
     }

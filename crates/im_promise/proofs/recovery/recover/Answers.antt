@@ -10,7 +10,7 @@ pub returns-then-failed-clause-recovers : goal.returns-then-failed-clause-recove
 returns-then-failed-clause-recovers c =
     let s : EngineState Fused = c.args.engine in
     under (s.failed ≡ false)
-    (λ x. Recovers s.memory s.count c.args.events.now x.answers.items x.engine.memory x.engine.count)
+    (λ x. Recovers s.memory s.count s.ahead c.args.events.now x.answers.items x.engine.memory x.engine.count)
     c.recover_failed.result
     (λ f. absurd (true_false (sym c.if-failed.true ∙ c.failed.ensures.failed ∙ f)))
 

@@ -1,4 +1,4 @@
-use Rattle.std.proofs.Common.{◌≡◌, false, ap, ◌∙◌, subst, inl, inr, ⊎_elim}
+use Rattle.std.proofs.Common.{◌≡◌, false, [], ap, ◌∙◌, subst, inl, inr, ⊎_elim}
 use Rattle.{im_disk.proofs.SinceLemmas.left_now, im_engine.specs.State.EngineState, im_engine.specs.State.MeansState}
 use Rattle.im_disk.specs.{Fuse.Fused, Moment.Left, Recording.Recording, Since.LeavesNow}
 use Rattle.im_promise.{proofs.Recovering.still_means, proofs.Recovering.was_left, specs.Recovery.Recovers}
@@ -11,9 +11,11 @@ returns-in-Ok-clause-recovers c =
     let e : EngineState Fused = c.in-Ok.opened in
     let works : e.failed ≡ false = c.in-Ok.ensures.works in
     under (s.failed ≡ false)
-    (λ x. Recovers s.memory s.count c.args.events.now x.answers.items x.engine.memory x.engine.count) c.recover.result
+    (λ x. Recovers s.memory s.count [] c.args.events.now x.answers.items x.engine.memory x.engine.count)
+    c.recover.result
     (λ f.
-    let fresh : c.new-fused.result.disk ≡ s.disk = ap (λ (x : Fused). x.disk) c.new-fused.ensures.fresh ∙ c.close.ensures.disk in
+    let fresh : c.new-fused.result.disk ≡ s.disk = ap (λ (x : Fused). x.disk) c.new-fused.ensures.fresh ∙
+    c.close.ensures.disk in
     let said : LeavesNow s.disk.moment (MeansState s) =
     subst (λ (d : Recording). LeavesNow d.moment (MeansState s)) c.close.ensures.disk (c.close.ensures.means tt f) in
     let here : Left s.disk.moment e.disk.disk.moment.bytes =
@@ -24,16 +26,19 @@ returns-in-Ok-clause-recovers c =
     still_means s e e.disk.disk.moment.bytes c.files_mean_one_thing.ensures.memory
     (said e.disk.disk.moment.bytes here)
     (c.in-Ok.ensures.means tt e.disk.disk.moment.bytes (left_now e.disk.disk.moment)) in
-    again_by s.memory e.memory s.count e.count c.args.events.now c.recover.result same.0 same.1
+    again_by s.memory e.memory s.count e.count [] e.ahead c.args.events.now c.recover.result same.0 same.1
+    c.in-Ok.ensures.idle.2
     (over (e.failed ≡ false)
-    (λ x. Recovers e.memory e.count c.args.events.now x.answers.items x.engine.memory x.engine.count) c.recover.result
+    (λ x. Recovers e.memory e.count e.ahead c.args.events.now x.answers.items x.engine.memory x.engine.count)
+    c.recover.result
     works c.recover.ensures.recovers))
 
 pub returns-clause-refused : goal.returns-clause-refused
 returns-clause-refused c = λ f.
     let s : EngineState Recording = c.args.engine in
     let d : Fused = c.in-Err.field-0-1 in
-    let fresh : c.new-fused.result.disk ≡ s.disk = ap (λ (x : Fused). x.disk) c.new-fused.ensures.fresh ∙ c.close.ensures.disk in
+    let fresh : c.new-fused.result.disk ≡ s.disk = ap (λ (x : Fused). x.disk) c.new-fused.ensures.fresh ∙
+    c.close.ensures.disk in
     let said : LeavesNow s.disk.moment (MeansState s) =
     subst (λ (x : Recording). LeavesNow x.moment (MeansState s)) c.close.ensures.disk (c.close.ensures.means tt f) in
     let here : Left s.disk.moment d.disk.moment.bytes =

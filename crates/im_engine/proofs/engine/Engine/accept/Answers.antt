@@ -1,11 +1,11 @@
 use Rattle.std.proofs.Common.{◌≡◌, true, false, [], ◌∷◌, sym, ap, ◌∙◌, subst, inl}
-use Rattle.{im_types.specs.Types.step, im_types.specs.Types.is_accepted, im_journal.specs.Holding.MayAppend}
-use Rattle.im_disk.proofs.SinceLemmas.{leaves_start, only_weaker}
-use Rattle.im_disk.specs.Since.{CallsBy, LeavesNow, LeavesOnly}
+use Rattle.{im_types.specs.Types.step, im_types.specs.Types.is_accepted, im_disk.proofs.SinceLemmas.leaves_start}
+use Rattle.{im_disk.proofs.SinceLemmas.only_weaker, im_disk.specs.Since.CallsBy, im_disk.specs.Since.LeavesNow}
+use Rattle.{im_disk.specs.Since.LeavesOnly, im_journal.specs.Holding.JournalState, im_journal.specs.Holding.MayAppend}
 use Rattle.im_checkpoint.specs.{Keeping.Fits, Keeping.paged, Step.CheckpointState}
-use Rattle.im_engine.proofs.Keeping.{accept_one, all_hold, all_mean, kept_prepared, may_append_means}
-use Rattle.im_engine.proofs.Serving.{calls_after, fits_longer, kept_with_it}
-use Rattle.im_engine.specs.State.{EngineState, MeansEither, MeansState, with_command}
+use Rattle.im_engine.proofs.{Chaining.nothing_ahead, Serving.calls_after, Serving.fits_longer, Serving.kept_with_it}
+use Rattle.im_engine.proofs.Keeping.{accept_one, all_hold, all_mean, kept_prepared, may_put_means}
+use Rattle.im_engine.specs.{Chain.IsAhead, State.EngineState, State.MeansEither, State.MeansState, State.with_command}
 use Rattle.im_engine.proofs.engine.Engine.accept.Goals as goal
 
 pub returns-then-room-eq0-clause-leaves : goal.returns-then-room-eq0-clause-leaves
@@ -46,10 +46,10 @@ returns-in-Err-clause-leaves g c = λ h.
     let accepted : is_accepted e.memory.contents c.args.command.now
     ≡ true = ap (λ (s : EngineState g.row.D.Denot). is_accepted s.memory c.args.command.now) c.self.view_is
     ∙ c.requires.accepted in
-    let means = may_append_means e.checkpoint.state (paged e.checkpoint e.memory) e.memory.contents e.journal
+    let means = may_put_means e.checkpoint.state (paged e.checkpoint e.memory) e.memory.contents e.journal
     (g.D.Disk.now e.disk) (c.self.invariant.1 (c.append.ensures.runs.honest h) alive) (c.args.command.now ∷ [])
     (step e.memory.contents c.args.command.now).contents
-    (accept_one e.memory.contents c.args.command.now accepted) in
+    (accept_one e.memory.contents c.args.command.now accepted) 1 in
     subst (λ (s : EngineState g.row.D.Denot). LeavesOnly g.D.Disk.now g.D.Disk.past s.disk c.append.new.disk
     (MeansEither s (with_command s c.args.command.now))) c.self.view_is
     (only_weaker g.D.Disk.now g.D.Disk.past e.disk c.append.new.disk
@@ -64,7 +64,8 @@ invariant_of-self-2 g c =
     let done = c.in_default.ensures in (
       subst (λ (s : CheckpointState). Fits s c.accept.new.self.contents c.append.new.self)
           (sym c.before-2.ensures.state)
-          (fits_longer e.checkpoint.state e.memory.contents c.accept.new.self.contents e.journal c.append.new.self c.args.command.now c.self.invariant.0 c.accept.ensures.contents done.state),
+          (fits_longer e.checkpoint.state e.memory.contents c.accept.new.self.contents e.journal c.append.new.self
+          c.args.command.now c.self.invariant.0 c.accept.ensures.contents done.state),
       λ h f. kept_prepared e.checkpoint c.before-2.new.self e.memory c.accept.new.self c.args.command.now
           c.before-2.ensures
           (record { cells = c.self.invariant.0.cells; elements = c.self.invariant.0.elements }) c.accept.ensures.changes
@@ -74,6 +75,8 @@ invariant_of-self-2 g c =
           c.accept.new.self.contents c.accept.ensures.contents c.append.new.self done.state
           (g.D.Disk.now c.append.new.disk) (done.added h).kept (done.added h).calm (done.added h).added
           (done.added h).holds),
+      nothing_ahead c.accept.new.self.contents c.append.new.self _ _ _ c.forget.ensures.members
+          c.forget.ensures.commands c.forget.ensures.taken (ap (λ j. j.ahead) done.state),
     )
 
 pub returns-clause-leaves : goal.returns-clause-leaves
@@ -83,10 +86,10 @@ returns-clause-leaves g c = λ h.
     let accepted : is_accepted e.memory.contents c.args.command.now
     ≡ true = ap (λ (s : EngineState g.row.D.Denot). is_accepted s.memory c.args.command.now) c.self.view_is
     ∙ c.requires.accepted in
-    let means = may_append_means e.checkpoint.state (paged e.checkpoint e.memory) e.memory.contents e.journal
+    let means = may_put_means e.checkpoint.state (paged e.checkpoint e.memory) e.memory.contents e.journal
     (g.D.Disk.now e.disk) (c.self.invariant.1 (c.append.ensures.runs.honest h) alive) (c.args.command.now ∷ [])
     (step e.memory.contents c.args.command.now).contents
-    (accept_one e.memory.contents c.args.command.now accepted) in
+    (accept_one e.memory.contents c.args.command.now accepted) 1 in
     subst (λ (s : EngineState g.row.D.Denot). LeavesOnly g.D.Disk.now g.D.Disk.past s.disk c.append.new.disk
     (MeansEither s (with_command s c.args.command.now))) c.self.view_is
     (only_weaker g.D.Disk.now g.D.Disk.past e.disk c.append.new.disk
@@ -118,3 +121,13 @@ accept-requires g c = record {
   accepted = ap (λ (s : EngineState g.row.D.Denot). is_accepted s.memory c.args.command.now) c.self.view_is
       ∙ c.requires.accepted;
 }
+
+pub invariant_of-self : goal.invariant_of-self
+invariant_of-self g c =
+    let e = c.self.inside in
+    let same = c.in-Err.ensures.state in (
+      subst (λ (j : JournalState). Fits e.checkpoint.state e.memory.contents j) (sym same) c.self.invariant.0,
+      λ h f. absurd (cc),
+      subst (λ (j : JournalState). IsAhead e.memory.contents j e.ahead.members.items e.ahead.commands.items
+          e.ahead.taken.items) (sym same) c.self.invariant.2,
+    )

@@ -8,4 +8,5 @@ invariant_of-self g c =
       λ honest alive.
           subst (λ (m : Moment). IsKept e.checkpoint.state (paged e.checkpoint e.memory) e.memory.contents e.journal m)
           (sym c.empty.ensures.now) (c.self.invariant.1 (c.empty.ensures.honest honest) alive),
+      c.self.invariant.2,
     )

@@ -1,4 +1,4 @@
-use Rattle.std.proofs.Common.{◌≡◌, true, sym, ap, ◌∙◌, subst}
+use Rattle.std.proofs.Common.{◌≡◌, true, sym, refl, ap, ◌∙◌, subst}
 use Rattle.{im_types.specs.Types.sizes_of, im_journal.specs.Holding.JournalState, im_image.specs.Fresh.new_header}
 use Rattle.{im_image.specs.Fresh.new_image, im_checkpoint.specs.Step.CheckpointState}
 use Rattle.im_disk.{proofs.SinceLemmas.left_settled, specs.Since.LeavesNow}
@@ -8,11 +8,13 @@ use Rattle.im_engine.proofs.engine.Engine.format.Goals as goal
 
 pub started-requires-clause-fits : goal.started-requires-clause-fits
 started-requires-clause-fits g c =
-    fresh_fits c.args.limits c.args.limits.in_range c.in-Ok.checkpoint c.in-Ok.ensures.idle c.in-Ok.memory c.in-Ok.ensures.empty.0 c.in-Ok.ensures.empty.1 c.fresh.result c.fresh.ensures.state
+    fresh_fits c.args.limits c.args.limits.in_range c.in-Ok.checkpoint c.in-Ok.ensures.idle c.in-Ok.memory
+    c.in-Ok.ensures.empty.0 c.in-Ok.ensures.empty.1 c.fresh.result c.fresh.ensures.state
 
 pub started-requires-clause-kept : goal.started-requires-clause-kept
 started-requires-clause-kept g c = λ h.
-    fresh_kept c.args.limits c.args.limits.in_range c.in-Ok.checkpoint c.in-Ok.ensures.idle c.in-Ok.memory c.in-Ok.ensures.empty.0 c.in-Ok.ensures.empty.1 c.fresh.result c.fresh.ensures.state c.fresh.ensures.holds
+    fresh_kept c.args.limits c.args.limits.in_range c.in-Ok.checkpoint c.in-Ok.ensures.idle c.in-Ok.memory
+    c.in-Ok.ensures.empty.0 c.in-Ok.ensures.empty.1 c.fresh.result c.fresh.ensures.state c.fresh.ensures.holds
     (g.D.Disk.now c.lay_down.new.disk) (c.in-Ok.ensures.written h) (c.in-Ok.ensures.calm h)
 
 pub returns-in-Ok-clause-image : goal.returns-in-Ok-clause-image
@@ -34,4 +36,5 @@ returns-in-Ok-clause-empty g c =
       ap (λ (s : CheckpointState). s.header) idle.state,
       ap (λ (s : CheckpointState). s.step) idle.state,
       first_pages c.in-Ok.checkpoint (new_header (sizes_of c.args.limits)) true idle,
+      refl,
     )

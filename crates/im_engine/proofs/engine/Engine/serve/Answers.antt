@@ -2,7 +2,7 @@ use Rattle.std.proofs.Common.{◌≡◌, true, false, Ok, sym, ap, ◌∙◌, su
 use Rattle.{im_types.specs.Types.step, im_types.specs.Types.is_accepted, im_memory.specs.State.MemoryState}
 use Rattle.im_disk.specs.Since.{CallsBy, LeavesNow}
 use Rattle.im_checkpoint.specs.{Keeping.Fits, Keeping.IsKept, Keeping.paged, Step.changed_in}
-use Rattle.im_engine.{proofs.Keeping.all_mean, specs.Answered.calls_for}
+use Rattle.im_engine.{proofs.Keeping.all_mean, specs.Answered.calls_for, specs.Chain.IsAhead}
 use Rattle.im_engine.proofs.Serving.{accepts, answered_unaccepted, calls_accepted, calls_none}
 use Rattle.im_engine.specs.State.{EngineState, MeansEither, MeansState, with_command}
 use Rattle.im_engine.proofs.engine.Engine.serve.Goals as goal
@@ -17,6 +17,8 @@ invariant_of-self g c =
       subst (λ (m : MemoryState). Fits e.checkpoint.state m.contents e.journal) (sym same) c.self.invariant.0,
       λ h f. subst (λ (m : MemoryState). IsKept e.checkpoint.state (paged e.checkpoint m) m.contents e.journal
           (g.D.Disk.now e.disk)) (sym same) (c.self.invariant.1 h f),
+      subst (λ (m : MemoryState). IsAhead m.contents e.journal e.ahead.members.items e.ahead.commands.items
+          e.ahead.taken.items) (sym same) c.self.invariant.2,
     )
 
 pub returns-in-Ok-true-clause-leaves : goal.returns-in-Ok-true-clause-leaves
@@ -31,7 +33,8 @@ returns-in-Ok-true-clause-calls g c = λ h.
     let accepted : is_accepted e.memory.contents c.args.command.now
     ≡ true = accepts e.memory.contents c.args.command.now true c.judge.result c.judge.ensures
     (c.in-Ok-true.is ∙ ap (λ b. Ok b) c.in-Ok-true.field-0-test) in
-    calls_accepted g.D.Disk.past c.args.self.now.disk c.accept.new.self.disk c.args.self.now.memory c.args.command.now c.accept.result
+    calls_accepted g.D.Disk.past c.args.self.now.disk c.accept.new.self.disk c.args.self.now.memory c.args.command.now
+    c.accept.result
     (sym (ap (λ (s : EngineState g.row.D.Denot). is_accepted s.memory c.args.command.now) c.self.view_is) ∙ accepted)
     (c.accept.ensures.calls h)
 
@@ -97,4 +100,16 @@ returns-in-Ok-false-clause-answered g c =
     (c.step.ensures.answer
     ∙ ap (λ (s : EngineState g.row.D.Denot). (step s.memory c.args.command.now).answer) c.self.view_is)
     (ap (λ (m : MemoryState).
-    (let s : EngineState g.row.D.Denot = record { disk = e.disk; header = e.checkpoint.state.header; step = e.checkpoint.state.step; pages = changed_in e.checkpoint; memory = m.contents; count = e.journal.count; room = e.journal.room; failed = e.failed } in s)) same ∙ c.self.view_is)
+    (let s : EngineState g.row.D.Denot = record {
+      disk = e.disk;
+      header = e.checkpoint.state.header;
+      step =
+          e.checkpoint.state.step;
+      pages = changed_in e.checkpoint;
+      memory = m.contents;
+      count = e.journal.count;
+      room =
+          e.journal.room;
+      ahead = e.ahead.members.items;
+      failed = e.failed;
+    } in s)) same ∙ c.self.view_is)

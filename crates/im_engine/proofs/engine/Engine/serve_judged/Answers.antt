@@ -1,14 +1,15 @@
 use Rattle.std.proofs.Common.{◌≡◌, ℕ, true, false, List, map, length, Ok, Err, Result, sym, ap, ◌∙◌, subst, rules}
 use Rattle.im_types.specs.Types.{Served, Device, Contents, as_served}
-use Rattle.im_disk.proofs.SinceLemmas.{only_weaker}
+use Rattle.{im_disk.proofs.SinceLemmas.only_weaker, im_journal.specs.Holding.JournalState}
 use Rattle.im_groups.specs.Commands.{answers_with, contents_after_all, most_pages_with, places}
-use Rattle.im_checkpoint.specs.{Keeping.IsKept, Keeping.paged, Step.changed_in, Turns.AddsAtMost}
-use Rattle.im_engine.proofs.{Keeping.all_hold, Keeping.all_mean, Members.length_answers, Members.length_refused}
+use Rattle.im_checkpoint.specs.{Keeping.Fits, Keeping.IsKept, Keeping.paged, Step.changed_in, Turns.AddsAtMost}
+use Rattle.im_engine.proofs.{Chaining.still_ahead, Chaining.unchanged_after, Keeping.all_hold, Keeping.all_mean}
+use Rattle.im_engine.proofs.Members.{length_answers, length_refused}
 use Rattle.im_engine.proofs.Together.{accepts, calls_done, calls_failed, fits_group, group_done, group_failed, last_for}
 use Rattle.im_engine.proofs.Together.{means_group, room_for}
+use Rattle.im_engine.specs.{Chain.IsAhead, State.engine_of, State.EngineState, State.MeansEither}
 use Rattle.im_engine.specs.Commands.{after_commands, AreParted, AreWhole, commands_put, CommandsAnswered}
 use Rattle.im_engine.specs.Commands.{ServesCommands}
-use Rattle.im_engine.specs.State.{engine_of, EngineState, MeansEither}
 use Rattle.im_engine.proofs.engine.Engine.serve_judged.Goals as goal
 
 pub put_on-requires-clause-fits : goal.put_on-requires-clause-fits
@@ -19,9 +20,11 @@ put_on-requires-clause-fits g c =
     record {
       known = c.places_in-places.ensures.known;
       few = c.requires.few;
-      room = room_for e.disk e.checkpoint e.memory e.journal e.failed c.args.members.now.all.now
+      room = room_for e.disk e.checkpoint e.memory e.journal e.ahead.members.items e.failed
+          c.args.members.now.all.now
           c.places_in-places.ensures.known c.args.commands.now are;
-      last = last_for e.disk e.checkpoint e.memory e.journal e.failed c.args.members.now.all.now
+      last = last_for e.disk e.checkpoint e.memory e.journal e.ahead.members.items e.failed
+          c.args.members.now.all.now
           c.places_in-places.ensures.known c.args.commands.now are;
     }
 
@@ -44,8 +47,9 @@ returns-in-Err-clause-answered g c =
     let alive : e.failed ≡ false = ap (λ (s : EngineState g.row.D.Denot). s.failed) c.self.view_is ∙ c.requires.alive in
     subst (λ (s : EngineState g.row.D.Denot). CommandsAnswered s c.args.members.now.all.now
     c.refuse_all.new.served.items (engine_of c.put_on.new.disk e.checkpoint e.memory c.put_on.new.journal
-    true)) c.self.view_is
-    (group_failed e.disk e.checkpoint e.memory e.journal e.failed c.args.members.now.all.now
+    e.ahead.members.items true)) c.self.view_is
+    (group_failed e.disk e.checkpoint e.memory e.journal e.ahead.members.items e.failed
+    c.args.members.now.all.now
     c.places_in-places.ensures.known
     c.args.commands.now are alive c.put_on.new.disk c.put_on.new.journal c.in-Err.ensures.state
     (λ none. not_both c.put_on.result tt c.in-Err.field-0 c.in-Err.is (c.put_on.ensures.calls.none none).0)
@@ -64,19 +68,23 @@ returns-in-Err-clause-runs g c =
     let known = c.places_in-places.ensures.known in
     let only = λ (h : g.D.Disk.honest c.put_on.new.disk). only_weaker g.D.Disk.now g.D.Disk.past e.disk
     c.put_on.new.disk _
-    (MeansEither (engine_of e.disk e.checkpoint e.memory e.journal e.failed)
-    (after_commands (engine_of e.disk e.checkpoint e.memory e.journal e.failed) c.args.members.now.all.now))
+    (MeansEither (engine_of e.disk e.checkpoint e.memory e.journal e.ahead.members.items e.failed)
+    (after_commands (engine_of e.disk e.checkpoint e.memory e.journal e.ahead.members.items e.failed)
+    c.args.members.now.all.now))
     (c.put_on.ensures.leaves h e.checkpoint.state (paged e.checkpoint e.memory) e.memory.contents
     (contents_after_all e.memory.contents (places e.journal.count e.journal.room) c.args.members.now.all.now)
-    (accepts e.disk e.checkpoint e.memory e.journal e.failed c.args.members.now.all.now known c.args.commands.now are)
+    (accepts e.disk e.checkpoint e.memory e.journal e.ahead.members.items e.failed
+    c.args.members.now.all.now known c.args.commands.now are)
     (c.self.invariant.1 (c.put_on.ensures.honest h) alive))
-    (means_group e.disk e.checkpoint e.memory e.journal e.failed c.args.members.now.all.now known c.args.commands.now
+    (means_group e.disk e.checkpoint e.memory e.journal e.ahead.members.items e.failed
+    c.args.members.now.all.now known c.args.commands.now
     are) in
     subst (λ (s : EngineState g.row.D.Denot). ServesCommands g.D.Disk s (engine_of c.put_on.new.disk e.checkpoint
-    e.memory c.put_on.new.journal true) c.args.members.now.all.now) c.self.view_is
+    e.memory c.put_on.new.journal e.ahead.members.items true) c.args.members.now.all.now) c.self.view_is
     (record {
       honest = λ h. c.put_on.ensures.honest h;
-      calls = λ h. calls_failed e.disk e.checkpoint e.memory e.journal e.failed c.args.members.now.all.now known
+      calls = λ h. calls_failed e.disk e.checkpoint e.memory e.journal e.ahead.members.items e.failed
+          c.args.members.now.all.now known
           c.args.commands.now are g.D.Disk.past c.put_on.new.disk c.put_on.result c.in-Err.field-0 c.in-Err.is
           (c.put_on.ensures.calls.made h);
       faults = search rules;
@@ -106,9 +114,15 @@ invariant_of-self-2 g c =
           c.put_on.new.journal (g.D.Disk.now c.put_on.new.disk)
           (c.in_default.ensures.kept h e.checkpoint.state (paged e.checkpoint e.memory) e.memory.contents
           (contents_after_all e.memory.contents (places e.journal.count e.journal.room) c.args.members.now.all.now)
-          (accepts e.disk e.checkpoint e.memory e.journal e.failed c.args.members.now.all.now known c.args.commands.now
+          (accepts e.disk e.checkpoint e.memory e.journal e.ahead.members.items e.failed
+          c.args.members.now.all.now known c.args.commands.now
           are)
           (c.self.invariant.1 (c.put_on.ensures.honest h) f))),
+      still_ahead e.memory.contents c.act_all.new.memory.contents e.journal c.put_on.new.journal
+          c.args.commands.now _ _ _ _ _ _ c.in_default.ensures.state c.forget_behind.ensures.members
+          c.forget_behind.ensures.commands c.forget_behind.ensures.taken
+          (λ none. contents ∙ unchanged_after e.memory.contents (places e.journal.count e.journal.room)
+          c.args.members.now.all.now c.args.commands.now are none) c.places_in-places.ensures.known c.self.invariant.2,
     )
 
 pub returns-clause-answered : goal.returns-clause-answered
@@ -126,12 +140,14 @@ returns-clause-answered g c =
     (changed_in e.checkpoint) (changed_in c.act_all.new.checkpoint)) c.places_in-places.ensures.places
     c.act_all.ensures.stays.pages in
     subst (λ (s : EngineState g.row.D.Denot). CommandsAnswered s c.args.members.now.all.now c.act_all.new.served.items
-    (engine_of c.put_on.new.disk c.act_all.new.checkpoint c.act_all.new.memory c.put_on.new.journal e.failed))
-    c.self.view_is
-    (group_done e.disk e.checkpoint e.memory e.journal e.failed c.args.members.now.all.now
+    (engine_of c.put_on.new.disk c.act_all.new.checkpoint c.act_all.new.memory c.put_on.new.journal
+    c.forget_behind.new.self.members.items e.failed)) c.self.view_is
+    (group_done e.disk e.checkpoint e.memory e.journal e.ahead.members.items e.failed
+    c.args.members.now.all.now
     c.places_in-places.ensures.known
     c.args.commands.now are alive c.put_on.new.disk c.act_all.new.checkpoint c.act_all.new.memory
-    c.put_on.new.journal c.in_default.ensures.state (λ none. (c.put_on.ensures.calls.none none).1)
+    c.put_on.new.journal _ c.in_default.ensures.state c.forget_behind.ensures.members (λ none.
+    (c.put_on.ensures.calls.none none).1)
     c.act_all.ensures.stays.state contents
     c.act_all.new.served.items answers adds)
 
@@ -151,20 +167,24 @@ returns-clause-runs g c =
     c.places_in-places.ensures.places in
     let only = λ (h : g.D.Disk.honest c.put_on.new.disk). only_weaker g.D.Disk.now g.D.Disk.past e.disk
     c.put_on.new.disk _
-    (MeansEither (engine_of e.disk e.checkpoint e.memory e.journal e.failed)
-    (after_commands (engine_of e.disk e.checkpoint e.memory e.journal e.failed) c.args.members.now.all.now))
+    (MeansEither (engine_of e.disk e.checkpoint e.memory e.journal e.ahead.members.items e.failed)
+    (after_commands (engine_of e.disk e.checkpoint e.memory e.journal e.ahead.members.items e.failed)
+    c.args.members.now.all.now))
     (c.put_on.ensures.leaves h e.checkpoint.state (paged e.checkpoint e.memory) e.memory.contents
     (contents_after_all e.memory.contents (places e.journal.count e.journal.room) c.args.members.now.all.now)
-    (accepts e.disk e.checkpoint e.memory e.journal e.failed c.args.members.now.all.now known c.args.commands.now are)
+    (accepts e.disk e.checkpoint e.memory e.journal e.ahead.members.items e.failed
+    c.args.members.now.all.now known c.args.commands.now are)
     (c.self.invariant.1 (c.put_on.ensures.honest h) alive))
-    (means_group e.disk e.checkpoint e.memory e.journal e.failed c.args.members.now.all.now known c.args.commands.now
+    (means_group e.disk e.checkpoint e.memory e.journal e.ahead.members.items e.failed
+    c.args.members.now.all.now known c.args.commands.now
     are) in
     subst (λ (s : EngineState g.row.D.Denot). ServesCommands g.D.Disk s (engine_of c.put_on.new.disk
-    c.act_all.new.checkpoint c.act_all.new.memory c.put_on.new.journal e.failed) c.args.members.now.all.now)
-    c.self.view_is
+    c.act_all.new.checkpoint c.act_all.new.memory c.put_on.new.journal c.forget_behind.new.self.members.items e.failed)
+    c.args.members.now.all.now) c.self.view_is
     (record {
       honest = λ h. c.put_on.ensures.honest h;
-      calls = λ h. calls_done e.disk e.checkpoint e.memory e.journal e.failed c.args.members.now.all.now known
+      calls = λ h. calls_done e.disk e.checkpoint e.memory e.journal e.ahead.members.items e.failed
+          c.args.members.now.all.now known
           c.args.commands.now are g.D.Disk.past c.put_on.new.disk c.put_on.result _ c.in_default.is
           (c.put_on.ensures.calls.made h);
       faults = search rules;
@@ -182,7 +202,8 @@ returns-clause-runs g c =
           c.put_on.new.journal (g.D.Disk.now c.put_on.new.disk)
           (c.in_default.ensures.kept h e.checkpoint.state (paged e.checkpoint e.memory) e.memory.contents
           (contents_after_all e.memory.contents (places e.journal.count e.journal.room) c.args.members.now.all.now)
-          (accepts e.disk e.checkpoint e.memory e.journal e.failed c.args.members.now.all.now known c.args.commands.now
+          (accepts e.disk e.checkpoint e.memory e.journal e.ahead.members.items e.failed
+          c.args.members.now.all.now known c.args.commands.now
           are)
           (c.self.invariant.1 (c.put_on.ensures.honest h) f))));
     })
@@ -203,3 +224,13 @@ act_all-requires-clause-judged g c =
 
 pub refuse_all-requires-clause-fits : goal.refuse_all-requires-clause-fits
 refuse_all-requires-clause-fits g c = c.requires.members.few
+
+pub invariant_of-self : goal.invariant_of-self
+invariant_of-self g c =
+    let e = c.self.inside in
+    let same = c.in-Err.ensures.state in (
+      subst (λ (j : JournalState). Fits e.checkpoint.state e.memory.contents j) (sym same) c.self.invariant.0,
+      λ h f. absurd (cc),
+      subst (λ (j : JournalState). IsAhead e.memory.contents j e.ahead.members.items e.ahead.commands.items
+          e.ahead.taken.items) (sym same) c.self.invariant.2,
+    )

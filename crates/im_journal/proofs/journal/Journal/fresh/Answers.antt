@@ -1,6 +1,6 @@
 use Rattle.std.proofs.Common.{◌<◌, [], refl, arith}
 use Rattle.im_types.specs.Types.{Ring}
-use Rattle.im_journal.proofs.Tails.{tail_closed}
+use Rattle.im_journal.proofs.{Groups.none_there, Tails.tail_closed}
 
 pub returns-clause-holds : Rattle.im_journal.proofs.journal.Journal.fresh.Goals.returns-clause-holds
 returns-clause-holds c = λ file size closed.
@@ -14,4 +14,5 @@ returns-clause-holds c = λ file size closed.
       count = refl;
       enough = omega arith;
       behind = λ low k from to. absurd (omega (arith, from, to));
+      laid = none_there ring 0 c.none.result file c.none.ensures;
     }

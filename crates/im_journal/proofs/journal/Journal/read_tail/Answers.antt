@@ -1,6 +1,7 @@
 use Rattle.std.proofs.Common.{◌≡◌, ℕ, ◌+◌, ◌*◌, ◌<◌, ◌≤◌, length, take, drop, Err, sym, ap, ◌∙◌, subst, arith, rules}
 use Rattle.im_types.specs.Types.{Ring}
-use Rattle.im_journal.{proofs.Sweeps.behind_read, proofs.Tails.tail_alone, specs.Holding.ring_in}
+use Rattle.im_journal.proofs.{Groups.none_there, Sweeps.behind_read, Tails.tail_alone}
+use Rattle.im_journal.specs.Holding.{ring_in}
 use Rattle.im_journal.proofs.journal.Journal.read_tail.Goals as goal
 
 pub returns-in-Err-tail_in-clause-bad : goal.returns-in-Err-tail_in-clause-bad
@@ -43,5 +44,7 @@ returns-clause-tail g c = λ h.
         enough = omega arith;
         behind = behind_read ring c.args.«from»
             (g.D.Disk.now c.args.disk.now).bytes c.in-Ok-tail_in.read.0.items c.in-Ok-tail_in.read.1 reads c.len.result count;
+        laid = none_there ring (c.args.«from» + c.len.result) c.none.result (g.D.Disk.now c.args.disk.now).bytes
+            c.none.ensures;
       };
     }

@@ -22,7 +22,7 @@ loop-event-preserved g c =
       run = run_more g.D.Disk c.args.self.now c.loop-event.self c.take-answer.new.self c.args.events.now
           c.loop-event.answers.items c.push.new.self.items c.loop-event.event-index _ c.event-item.result
           c.take-answer.result c.loop-event-test.true c.event-item.is inv.size c.in_default-push.ensures.items inv.kept
-          c.engine-in-loop-event.ensures.kept inv.run e.answered e.put e.honest e.leaves;
+          c.engine-in-loop-event.ensures.kept inv.run e.answered e.put e.keeps.honest e.leaves;
     }
 
 pub returns-clause-answers : goal.returns-clause-answers

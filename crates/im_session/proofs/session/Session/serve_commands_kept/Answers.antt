@@ -1,5 +1,6 @@
 use Rattle.std.proofs.Common.{refl, ap, ◌∙◌}
-use Rattle.im_memory.specs.State.{MemoryState}
+use Rattle.arrayvec.specs.ArrayVec.{ArrayVec}
+use Rattle.{im_types.specs.Types.Command, im_memory.specs.State.MemoryState}
 use Rattle.im_session.proofs.{CallLemmas.commands_go, KeptLemmas.keeps_on, KeptLemmas.kept_on, KeptLemmas.whole_on}
 use Rattle.im_session.proofs.session.Session.serve_commands_kept.Goals as goal
 
@@ -8,7 +9,8 @@ invariant_of-self g c =
     let memory = ap (λ (m : MemoryState). m.contents) c.of.ensures ∙ c.memory.ensures in
     let places = c.of-2.ensures ∙ c.places-places.ensures.places in
     let before = c.of-3.ensures ∙ c.failed-failed.ensures.failed in
-    rw (c.note_all.ensures, memory, places, before, c.failed-failed-2.ensures.failed) (kept_on g.D.Disk
+    let them = ap (λ (v : ArrayVec Command). v.items) c.of-4.ensures in
+    rw (c.note_all.ensures, memory, places, before, them, c.failed-failed-2.ensures.failed) (kept_on g.D.Disk
     c.self.inside.start c.self.inside.calls.sure c.self.inside.calls.doubt c.self.inside.engine
     c.serve_commands.new.self c.self.invariant _ _
     (commands_go g.D.Disk c.self.inside.engine c.serve_commands.new.self _ c.serve_commands.new.served.items
@@ -19,7 +21,8 @@ returns-clause-put g c =
     let memory = ap (λ (m : MemoryState). m.contents) c.of.ensures ∙ c.memory.ensures in
     let places = c.of-2.ensures ∙ c.places-places.ensures.places in
     let before = c.of-3.ensures ∙ c.failed-failed.ensures.failed in
-    rw (c.note_all.ensures, memory, places, before, c.failed-failed-2.ensures.failed, ← c.self.view_is) refl
+    let them = ap (λ (v : ArrayVec Command). v.items) c.of-4.ensures in
+    rw (c.note_all.ensures, memory, places, before, them, c.failed-failed-2.ensures.failed, ← c.self.view_is) refl
 
 pub returns-clause-answered : goal.returns-clause-answered
 returns-clause-answered g c = rw (← c.self.view_is) c.serve_commands.ensures.answered
@@ -32,7 +35,8 @@ returns-clause-keeps g c =
     let memory = ap (λ (m : MemoryState). m.contents) c.of.ensures ∙ c.memory.ensures in
     let places = c.of-2.ensures ∙ c.places-places.ensures.places in
     let before = c.of-3.ensures ∙ c.failed-failed.ensures.failed in
-    rw (c.note_all.ensures, memory, places, before, c.failed-failed-2.ensures.failed, ← c.self.view_is)
+    let them = ap (λ (v : ArrayVec Command). v.items) c.of-4.ensures in
+    rw (c.note_all.ensures, memory, places, before, them, c.failed-failed-2.ensures.failed, ← c.self.view_is)
     (keeps_on g.D.Disk c.self.inside.start c.self.inside.calls.sure c.self.inside.calls.doubt c.self.inside.engine
     c.serve_commands.new.self c.self.invariant _ _
     (commands_go g.D.Disk c.self.inside.engine c.serve_commands.new.self _ c.serve_commands.new.served.items
@@ -43,7 +47,8 @@ returns-clause-leaves g c =
     let memory = ap (λ (m : MemoryState). m.contents) c.of.ensures ∙ c.memory.ensures in
     let places = c.of-2.ensures ∙ c.places-places.ensures.places in
     let before = c.of-3.ensures ∙ c.failed-failed.ensures.failed in
-    rw (c.note_all.ensures, memory, places, before, c.failed-failed-2.ensures.failed, ← c.self.view_is)
+    let them = ap (λ (v : ArrayVec Command). v.items) c.of-4.ensures in
+    rw (c.note_all.ensures, memory, places, before, them, c.failed-failed-2.ensures.failed, ← c.self.view_is)
     (whole_on g.D.Disk c.self.inside.start c.self.inside.calls.sure c.self.inside.calls.doubt c.self.inside.engine
     c.serve_commands.new.self c.self.invariant _ _
     (commands_go g.D.Disk c.self.inside.engine c.serve_commands.new.self _ c.serve_commands.new.served.items
