@@ -125,15 +125,14 @@ calls_alone (PagesLeft count left) j most = refl
 calls_alone (PagesDone count) j most = refl
 calls_alone (Synced count) j most = refl
 
-pub swept_here : (c : CheckpointState) (m : Contents) (j : JournalState) (most : ℕ) → Fits c m j
-    → swept_at_once c.step j most ≡ swept_at_once c.step (journal_of c.header j.count j.room) most
-swept_here c m j most it = sym (swept_alone c.step j most)
-    ∙ ap (λ (x : JournalState). swept_at_once c.step x most) (sym (alone_is c m j it))
+-- so what a checkpoint's step makes of a journal is the same for a journal of its header
+pub here : {A : Type 0} (f : JournalState → A) (c : CheckpointState) (m : Contents) (j : JournalState)
+    → f (with_ahead [] j) ≡ f j → Fits c m j → f j ≡ f (journal_of c.header j.count j.room)
+here f c m j alone it = sym alone ∙ ap f (sym (alone_is c m j it))
 
 pub calls_here : (c : CheckpointState) (m : Contents) (j : JournalState) (most : ℕ) → Fits c m j
     → calls_to_sweep c.step j most ≡ calls_to_sweep c.step (journal_of c.header j.count j.room) most
-calls_here c m j most it = sym (calls_alone c.step j most)
-    ∙ ap (λ (x : JournalState). calls_to_sweep c.step x most) (sym (alone_is c m j it))
+calls_here c m j most = here (λ x. calls_to_sweep c.step x most) c m j (calls_alone c.step j most)
 
 -- a memory and a journal fit a header whatever is ahead
 step_ahead : (h : Header) (j : JournalState) (next : List Command) (s : Step) → StepFits h j s
