@@ -1,5 +1,5 @@
 -- The group ahead of an engine.
-use Rattle.std.proofs.Common.{◌≡◌, ℕ, ◌+◌, ◌-◌, ◌≤◌, Bool, List, [], ◌∷◌, length, sym, refl, ap, ◌∙◌, subst, arith}
+use Rattle.std.proofs.Common.{◌≡◌, ℕ, ◌≤◌, Bool, List, [], ◌∷◌, length, sym, refl, ap, ◌∙◌, subst, arith}
 use Rattle.im_types.specs.Types.{Command, Contents, after, Header}
 use Rattle.im_journal.specs.Holding.{ahead_after, IsJournal, JournalState, longer, with_ahead, with_room}
 use Rattle.im_groups.proofs.CommandLemmas.{at-after}
@@ -125,15 +125,10 @@ calls_alone (PagesLeft count left) j most = refl
 calls_alone (PagesDone count) j most = refl
 calls_alone (Synced count) j most = refl
 
-pub swept_here : (c : CheckpointState) (m : Contents) (j : JournalState) (most : ℕ) → Fits c m j
-    → swept_at_once c.step j most ≡ swept_at_once c.step (journal_of c.header j.count j.room) most
-swept_here c m j most it = sym (swept_alone c.step j most)
-    ∙ ap (λ (x : JournalState). swept_at_once c.step x most) (sym (alone_is c m j it))
-
-pub calls_here : (c : CheckpointState) (m : Contents) (j : JournalState) (most : ℕ) → Fits c m j
-    → calls_to_sweep c.step j most ≡ calls_to_sweep c.step (journal_of c.header j.count j.room) most
-calls_here c m j most it = sym (calls_alone c.step j most)
-    ∙ ap (λ (x : JournalState). calls_to_sweep c.step x most) (sym (alone_is c m j it))
+-- so a number that doesn't speak of it is that of the journal behind a header
+pub number_here : (n : JournalState → ℕ) (c : CheckpointState) (m : Contents) (j : JournalState)
+    → n (with_ahead [] j) ≡ n j → Fits c m j → n j ≡ n (journal_of c.header j.count j.room)
+number_here n c m j alone it = sym alone ∙ ap n (sym (alone_is c m j it))
 
 -- a memory and a journal fit a header whatever is ahead
 step_ahead : (h : Header) (j : JournalState) (next : List Command) (s : Step) → StepFits h j s
