@@ -1,5 +1,5 @@
 -- The group ahead of an engine.
-use Rattle.std.proofs.Common.{◌≡◌, ℕ, ◌+◌, ◌-◌, ◌≤◌, Bool, List, [], ◌∷◌, length, sym, refl, ap, ◌∙◌, subst, arith}
+use Rattle.std.proofs.Common.{◌≡◌, ℕ, ◌≤◌, Bool, List, [], ◌∷◌, length, sym, refl, ap, ◌∙◌, subst, arith}
 use Rattle.im_types.specs.Types.{Command, Contents, after, Header}
 use Rattle.im_journal.specs.Holding.{ahead_after, IsJournal, JournalState, longer, with_ahead, with_room}
 use Rattle.im_groups.proofs.CommandLemmas.{at-after}
@@ -125,14 +125,10 @@ calls_alone (PagesLeft count left) j most = refl
 calls_alone (PagesDone count) j most = refl
 calls_alone (Synced count) j most = refl
 
--- so what a checkpoint's step makes of a journal is the same for a journal of its header
-pub here : {A : Type 0} (f : JournalState → A) (c : CheckpointState) (m : Contents) (j : JournalState)
-    → f (with_ahead [] j) ≡ f j → Fits c m j → f j ≡ f (journal_of c.header j.count j.room)
-here f c m j alone it = sym alone ∙ ap f (sym (alone_is c m j it))
-
-pub calls_here : (c : CheckpointState) (m : Contents) (j : JournalState) (most : ℕ) → Fits c m j
-    → calls_to_sweep c.step j most ≡ calls_to_sweep c.step (journal_of c.header j.count j.room) most
-calls_here c m j most = here (λ x. calls_to_sweep c.step x most) c m j (calls_alone c.step j most)
+-- so a number that doesn't speak of it is that of the journal behind a header
+pub number_here : (n : JournalState → ℕ) (c : CheckpointState) (m : Contents) (j : JournalState)
+    → n (with_ahead [] j) ≡ n j → Fits c m j → n j ≡ n (journal_of c.header j.count j.room)
+number_here n c m j alone it = sym alone ∙ ap n (sym (alone_is c m j it))
 
 -- a memory and a journal fit a header whatever is ahead
 step_ahead : (h : Header) (j : JournalState) (next : List Command) (s : Step) → StepFits h j s

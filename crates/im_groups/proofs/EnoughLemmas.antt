@@ -35,70 +35,49 @@ enough_left m l n c enough = by_test (takes_place m l c)
     by_test true = omega (arith, enough)
     by_test false = omega (arith, enough)
 
+-- what the members come to one after another is the same
+module _ {X : Type 0} (f : Contents → ℕ → List Command → X) (one : Contents → ℕ → Command → X → X)
+    (ends : (m : Contents) (k l : ℕ) → f m k [] ≡ f m l [])
+    (goes : (m : Contents) (k : ℕ) (c : Command) (cs : List Command)
+    → f m k (c ∷ cs) ≡ one m k c (f (contents_with m k c) (places_behind m k c) cs))
+    (same : (m : Contents) (k l : ℕ) (c : Command) (x : X) → 0 < k → 0 < l → one m k c x ≡ one m l c x) where
+  enough : (m : Contents) (k l : ℕ) (cs : List Command) → length cs ≤ k → length cs ≤ l → f m k cs ≡ f m l cs
+  enough m k l [] at_k at_l = ends m k l
+  enough m k l (c ∷ cs) at_k at_l =
+      let some_k : 0 < k = omega (arith, at_k) in
+      let some_l : 0 < l = omega (arith, at_l) in
+      goes m k c cs
+      ∙ same m k l c (f (contents_with m k c) (places_behind m k c) cs) some_k some_l
+      ∙ ap (λ (n : Contents). one m l c (f n (places_behind m k c) cs)) (same_contents m k l c some_k some_l)
+      ∙ ap (λ (x : X). one m l c x) (enough (contents_with m l c) (places_behind m k c) (places_behind m l c) cs
+      (enough_left m k (length cs) c at_k) (enough_left m l (length cs) c at_l))
+      ∙ sym (goes m l c cs)
+
 pub enough-commands : (m : Contents) (k l : ℕ) (cs : List Command) → length cs ≤ k → length cs ≤ l
     → commands_at m k cs ≡ commands_at m l cs
-enough-commands m k l [] at_k at_l = refl
-enough-commands m k l (c ∷ cs) at_k at_l =
-    let some_k : 0 < k = omega (arith, at_k) in
-    let some_l : 0 < l = omega (arith, at_l) in
-    ap (λ (b : Bool). (if b then c ∷ [] else []) ++ commands_at (contents_with m k c) (places_behind m k c) cs)
-    (same_takes m k l c some_k some_l)
-    ∙ ap (λ (n : Contents). command_at m l c ++ commands_at n (places_behind m k c) cs)
-    (same_contents m k l c some_k some_l)
-    ∙ ap (λ (x : List Command). command_at m l c ++ x)
-    (enough-commands (contents_with m l c) (places_behind m k c) (places_behind m l c) cs
-    (enough_left m k (length cs) c at_k) (enough_left m l (length cs) c at_l))
+enough-commands = enough commands_at (λ m k c x. command_at m k c ++ x) (λ m k l. refl) (λ m k c cs. refl)
+    (λ m k l c x some_k some_l. ap (λ (b : Bool). (if b then c ∷ [] else []) ++ x) (same_takes m k l c some_k some_l))
 
 pub enough-takes : (m : Contents) (k l : ℕ) (cs : List Command) → length cs ≤ k → length cs ≤ l
     → takes_at m k cs ≡ takes_at m l cs
-enough-takes m k l [] at_k at_l = refl
-enough-takes m k l (c ∷ cs) at_k at_l =
-    let some_k : 0 < k = omega (arith, at_k) in
-    let some_l : 0 < l = omega (arith, at_l) in
-    ap (λ (b : Bool). b ∷ takes_at (contents_with m k c) (places_behind m k c) cs)
-    (same_takes m k l c some_k some_l)
-    ∙ ap (λ (n : Contents). takes_place m l c ∷ takes_at n (places_behind m k c) cs)
-    (same_contents m k l c some_k some_l)
-    ∙ ap (λ (x : List Bool). takes_place m l c ∷ x)
-    (enough-takes (contents_with m l c) (places_behind m k c) (places_behind m l c) cs
-    (enough_left m k (length cs) c at_k) (enough_left m l (length cs) c at_l))
+enough-takes = enough takes_at (λ m k c x. takes_place m k c ∷ x) (λ m k l. refl) (λ m k c cs. refl)
+    (λ m k l c x some_k some_l. ap (λ (b : Bool). b ∷ x) (same_takes m k l c some_k some_l))
 
 pub enough-answers : (m : Contents) (k l : ℕ) (cs : List Command) → length cs ≤ k → length cs ≤ l
     → answers_with m k cs ≡ answers_with m l cs
-enough-answers m k l [] at_k at_l = refl
-enough-answers m k l (c ∷ cs) at_k at_l =
-    let some_k : 0 < k = omega (arith, at_k) in
-    let some_l : 0 < l = omega (arith, at_l) in
-    ap (λ (a : Result Outcome Refusal). a ∷ answers_with (contents_with m k c) (places_behind m k c) cs)
-    (same_answer m k l c some_k some_l)
-    ∙ ap (λ (n : Contents). answer_with m l c ∷ answers_with n (places_behind m k c) cs)
-    (same_contents m k l c some_k some_l)
-    ∙ ap (λ (x : List (Result Outcome Refusal)). answer_with m l c ∷ x)
-    (enough-answers (contents_with m l c) (places_behind m k c) (places_behind m l c) cs
-    (enough_left m k (length cs) c at_k) (enough_left m l (length cs) c at_l))
+enough-answers = enough answers_with (λ m k c x. answer_with m k c ∷ x) (λ m k l. refl) (λ m k c cs. refl)
+    (λ m k l c x some_k some_l. ap (λ (a : Result Outcome Refusal). a ∷ x) (same_answer m k l c some_k some_l))
 
 pub enough-contents : (m : Contents) (k l : ℕ) (cs : List Command) → length cs ≤ k → length cs ≤ l
     → contents_after_all m k cs ≡ contents_after_all m l cs
-enough-contents m k l [] at_k at_l = refl
-enough-contents m k l (c ∷ cs) at_k at_l =
-    ap (λ (n : Contents). contents_after_all n (places_behind m k c) cs)
-    (same_contents m k l c (omega (arith, at_k)) (omega (arith, at_l)))
-    ∙ enough-contents (contents_with m l c) (places_behind m k c) (places_behind m l c) cs
-    (enough_left m k (length cs) c at_k) (enough_left m l (length cs) c at_l)
+enough-contents = enough contents_after_all (λ m k c x. x) (λ m k l. refl) (λ m k c cs. refl)
+    (λ m k l c x some_k some_l. refl)
 
 pub enough-pages : (m : Contents) (k l : ℕ) (cs : List Command) → length cs ≤ k → length cs ≤ l
     → most_pages_with m k cs ≡ most_pages_with m l cs
-enough-pages m k l [] at_k at_l = refl
-enough-pages m k l (c ∷ cs) at_k at_l =
-    let some_k : 0 < k = omega (arith, at_k) in
-    let some_l : 0 < l = omega (arith, at_l) in
-    ap (λ (b : Bool). (if b then most_pages m c else 0)
-    + most_pages_with (contents_with m k c) (places_behind m k c) cs) (same_takes m k l c some_k some_l)
-    ∙ ap (λ (n : Contents). most_pages_at m l c + most_pages_with n (places_behind m k c) cs)
-    (same_contents m k l c some_k some_l)
-    ∙ ap (λ (x : ℕ). most_pages_at m l c + x)
-    (enough-pages (contents_with m l c) (places_behind m k c) (places_behind m l c) cs
-    (enough_left m k (length cs) c at_k) (enough_left m l (length cs) c at_l))
+enough-pages = enough most_pages_with (λ m k c x. most_pages_at m k c + x) (λ m k l. refl) (λ m k c cs. refl)
+    (λ m k l c x some_k some_l. ap (λ (b : Bool). (if b then most_pages m c else 0) + x)
+    (same_takes m k l c some_k some_l))
 
 -- no more commands than members
 pub at_most_members : (m : Contents) (l : ℕ) (cs : List Command) → length (commands_at m l cs) ≤ length cs

@@ -98,7 +98,7 @@ module _ (known : Known) where
   }
 
   -- an event of an engine that has failed
-  record IsPast {D : Type 0} (mid : EngineState D) (e : Event) (a : Answer) : Type 0 where
+  record IsPast {D : Type 0} (old mid : EngineState D) (e : Event) (a : Answer) : Type 0 where
     pub sure : is_doubt a ≡ false
     pub none : (m : Contents) (n : ℕ) → in_doubt_by m n e a ≡ []
     pub failed : IsFailed e a
@@ -106,8 +106,8 @@ module _ (known : Known) where
     pub same : mid ≡ old
 
   past : {D : Type 0} (old mid : EngineState D) (e : Event) (a : Answer) → old.failed ≡ true → EventAnswered old e a mid
-      → IsPast mid e a
-  past {D} old mid e a dead it = by_event old mid (IsPast mid)
+      → IsPast old mid e a
+  past {D} old mid e a dead it = by_event old mid (IsPast old mid)
       (λ c x one. let is = one.dead dead in
       let sure = ap (λ (y : Result Outcome Refusal). is_doubt (Told y)) is.0 in record {
         sure = sure;
@@ -490,7 +490,7 @@ module _ (known : Known) {D : Type 0} (old mid : EngineState D) (f : old.failed 
           sure = ap (λ (x : Result ℕ Refusal). is_doubt (Advanced were x served)) told;
           none = ap (λ (b : Bool). if b then commands_at old.memory (length were.items) were.items else []) calm;
           answer = inl (
-            subst (λ (x : Result ℕ Refusal). IsOk x) (sym told) tt,
+            subst (λ (x : Result ℕ Refusal). IsOk x) (sym told) refl,
             answers
                 ∙ ap (map as_served) (enough-answers old.memory (places old.count old.room) (length old.ahead) old.ahead
                 it.enough (omega arith))

@@ -1,4 +1,4 @@
-use Rattle.std.proofs.Common.{◌≡◌, ℕ, ◌≤◌, true, false, List, [], map, length, take, Ok, Err, Result, sym, refl, ap}
+use Rattle.std.proofs.Common.{◌≡◌, ℕ, ◌≤◌, true, false, List, [], length, take, Ok, Err, sym, refl, ap}
 use Rattle.std.proofs.Common.{◌∙◌, subst, inl, inr, arith}
 use Rattle.im_types.specs.Types.{Command, Device, Failed, Contents, after}
 use Rattle.im_disk.{proofs.SinceLemmas.only_weaker, specs.Since.Calls}

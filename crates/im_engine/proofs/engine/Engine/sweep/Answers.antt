@@ -3,7 +3,7 @@ use Rattle.{im_types.specs.Types.Refusal, im_journal.specs.Holding.JournalState}
 use Rattle.im_disk.specs.Since.{CallsBy, Leaves, LeavesNow}
 use Rattle.im_checkpoint.{proofs.Fitting.room_fits, specs.Turns.calls_to_sweep, specs.Turns.swept_at_once}
 use Rattle.im_checkpoint.specs.{Keeping.Fits, Keeping.IsKept, Keeping.paged, Step.changed_in}
-use Rattle.im_engine.proofs.Chaining.{calls_here, here, more_room, swept_alone}
+use Rattle.im_engine.proofs.Chaining.{calls_alone, more_room, number_here, swept_alone}
 use Rattle.im_engine.proofs.Keeping.{all_hold, all_mean}
 use Rattle.im_engine.specs.{Answered.SweepAnswered, Chain.IsAhead}
 use Rattle.im_engine.specs.State.{engine_of, EngineState, journal_in, journal_of, MeansState}
@@ -69,8 +69,8 @@ returns-in-Ok-clause-answered g c =
     let works : e.failed ≡ false = c.if-self.false in
     let many : c.in-Ok.swept ≡ swept_at_once e.checkpoint.state.step
     (journal_of e.checkpoint.state.header e.journal.count e.journal.room) most = c.in-Ok.ensures.swept.0
-    ∙ here (λ (x : JournalState). swept_at_once e.checkpoint.state.step x most) e.checkpoint.state e.memory.contents
-    e.journal (swept_alone e.checkpoint.state.step e.journal most) c.self.invariant.0 in
+    ∙ number_here (λ (k : JournalState). swept_at_once e.checkpoint.state.step k most) e.checkpoint.state
+    e.memory.contents e.journal (swept_alone e.checkpoint.state.step e.journal most) c.self.invariant.0 in
     let journal = c.in-Ok.ensures.swept.1 in
     subst (λ (s : EngineState g.row.D.Denot). SweepAnswered s most (Ok c.in-Ok.swept) (engine_of c.sweep.new.disk
     e.checkpoint e.memory c.sweep.new.journal e.ahead.members.items e.failed)) c.self.view_is (record {
@@ -98,7 +98,8 @@ returns-in-Ok-clause-calls g c = λ h.
     subst (λ (s : EngineState g.row.D.Denot). CallsBy {E = Refusal} g.D.Disk.past s.disk c.sweep.new.disk
     (calls_to_sweep s.step (journal_in s) most) (Ok c.in-Ok.swept)) c.self.view_is
     (subst (λ (n : ℕ). CallsBy {E = Refusal} g.D.Disk.past e.disk c.sweep.new.disk n (Ok c.in-Ok.swept))
-    (calls_here e.checkpoint.state e.memory.contents e.journal most c.self.invariant.0)
+    (number_here (λ (k : JournalState). calls_to_sweep e.checkpoint.state.step k most) e.checkpoint.state
+    e.memory.contents e.journal (calls_alone e.checkpoint.state.step e.journal most) c.self.invariant.0)
     (subst (λ (r : Result ℕ Refusal). CallsBy {E = Refusal} g.D.Disk.past e.disk c.sweep.new.disk
     (calls_to_sweep e.checkpoint.state.step e.journal most) r) c.in-Ok.is (c.sweep.ensures.runs.kept h)))
 
@@ -109,7 +110,8 @@ returns-in-Err-clause-calls g c = λ h.
     subst (λ (s : EngineState g.row.D.Denot). CallsBy {T = ℕ} g.D.Disk.past s.disk c.sweep.new.disk
     (calls_to_sweep s.step (journal_in s) most) (Err c.in-Err.refusal)) c.self.view_is
     (subst (λ (n : ℕ). CallsBy {T = ℕ} g.D.Disk.past e.disk c.sweep.new.disk n (Err c.in-Err.refusal))
-    (calls_here e.checkpoint.state e.memory.contents e.journal most c.self.invariant.0)
+    (number_here (λ (k : JournalState). calls_to_sweep e.checkpoint.state.step k most) e.checkpoint.state
+    e.memory.contents e.journal (calls_alone e.checkpoint.state.step e.journal most) c.self.invariant.0)
     (subst (λ (r : Result ℕ Refusal). CallsBy {T = ℕ} g.D.Disk.past e.disk c.sweep.new.disk
     (calls_to_sweep e.checkpoint.state.step e.journal most) r) c.in-Err.is (c.sweep.ensures.runs.kept h)))
 
