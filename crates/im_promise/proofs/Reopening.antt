@@ -37,15 +37,15 @@ refused_by s left (Err e) none said it =
 
 -- ---- under a premise
 
-pub under : {X : Type 0} (P : Type 0) (Q : X → Type 0) (r : Result X Refusal) → (P → IfOk r Q) → IfOk r (λ x. P → Q x)
-under P Q (Ok x) it = it
-under P Q (Err e) it = tt
+module _ {X : Type 0} (P : Type 0) where
+  pub under : (Q : X → Type 0) (r : Result X Refusal) → (P → IfOk r Q) → IfOk r (λ x. P → Q x)
+  under Q (Ok x) it = it
+  under Q (Err e) it = tt
 
-pub over : {X : Type 0} (P : Type 0) (Q : X → Type 0) (r : Result X Refusal) → P → IfOk r (λ x. P → Q x) → IfOk r Q
-over P Q (Ok x) p it = it p
-over P Q (Err e) p it = tt
+  pub over : (Q : X → Type 0) (r : Result X Refusal) → P → IfOk r (λ x. P → Q x) → IfOk r Q
+  over Q (Ok x) p it = it p
+  over Q (Err e) p it = tt
 
-pub under_err : {X : Type 0} (P : Type 0) (Q : Refusal → Type 0) (r : Result X Refusal) → (P → IfErr r Q)
-    → IfErr r (λ e. P → Q e)
-under_err P Q (Ok x) it = tt
-under_err P Q (Err e) it = it
+  pub under_err : (Q : Refusal → Type 0) (r : Result X Refusal) → (P → IfErr r Q) → IfErr r (λ e. P → Q e)
+  under_err Q (Ok x) it = tt
+  under_err Q (Err e) it = it
