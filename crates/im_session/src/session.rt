@@ -1,7 +1,8 @@
 //! A session, and its calls.
 ghost use Rattle.std.specs.Prelude.{◌≡◌, [], length, take};
+ghost use Rattle.im_groups.specs.Ahead.{ServesPrefix};
 ghost use Rattle.im_engine.specs.Answered.{Answered, SweepAnswered, TurnAnswered};
-ghost use Rattle.im_engine.specs.{Chain.Advances, Commands.CommandsAnswered};
+ghost use Rattle.im_engine.specs.{Chain.Advances, Commands.commands_put, Commands.CommandsAnswered};
 ghost use Rattle.im_session.specs.Kept.{Kept};
 ghost use Rattle.im_session.specs.Serving.{Rests, served_answer, served_one, served_together};
 
@@ -64,6 +65,9 @@ impl<D: Disk> Session<D> {
         served: &mut ArrayVec<Served, MAX_GROUP>,
     )
         requires empty { served.old.items ≡ [] }
+        // How many are served, and where it ends.
+        ensures begins { let many = length served.new.items in ServesPrefix self.old.engine.memory
+            (commands_put self.old.engine (take many members.now.items)) members.now.items many }
         ensures answered { CommandsAnswered self.old.engine (take (length served.new.items) members.now.items)
             served.new.items self.new.engine }
         ensures put { self.new ≡ served_together self.old (take (length served.new.items) members.now.items)
