@@ -4,6 +4,7 @@ use Rattle.core.proofs.snapshot.Sent.{snapshot_send}
 use Rattle.std.proofs.Crossing.{crosses}
 use Rattle.im_memory.specs.contracts.memory.Memory as Memory
 use Rattle.im_checkpoint.specs.contracts.checkpoint.Checkpoint as Checkpoint
+use Rattle.im_engine.specs.contracts.ahead.GroupAhead as GroupAhead
 use Rattle.im_listed.specs.contracts.listed.Listed as Listed
 use Rattle.im_noted.proofs.NoteList.TheLaws.TheKnot as noted
 use Rattle.im_listed.specs.contracts.image.Image as Image
@@ -17,12 +18,15 @@ Memory-row-send = let m = Memory-send in search sendable depth 20
 Checkpoint-send : IsSend Checkpoint.the_field.row
 Checkpoint-send = search (sendable, crosses) depth 40
 
+GroupAhead-send : IsSend GroupAhead.the_field.row
+GroupAhead-send = search (sendable, crosses) depth 40 fits 30000
+
 Listed-send : IsSend Listed.the_field.row
 Listed-send = search (sendable, crosses, snapshot_send, noted.crosses) depth 40 fits 30000
 
 Image-send : IsSend Image.the_field.row
 Image-send =
-    let m = Memory-send in let k = Checkpoint-send in let d = Listed-send in
+    let m = Memory-send in let k = Checkpoint-send in let a = GroupAhead-send in let d = Listed-send in
     search (sendable, crosses, snapshot_send) depth 40 fits 30000
 
 pub Image-row-send : IsSend Image.the_row

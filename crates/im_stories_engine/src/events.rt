@@ -180,8 +180,8 @@ fn add_served(said: &mut Saying, served: &[Served]) {
 }
 
 // Adds how many members are ahead, and the answers of the group that was.
-fn add_advanced(said: &mut Saying, result: Result<usize, Refusal>, served: &[Served]) {
-    match result {
+fn add_advanced(said: &mut Saying, taken: Result<usize, Refusal>, served: &[Served]) {
+    match taken {
         Ok(many) => write!(said, "{many} ahead ["),
         Err(refusal) => {
             said.refusal(refusal);

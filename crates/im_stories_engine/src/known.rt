@@ -164,14 +164,14 @@ impl KnownEngine {
     pub fn hears_advanced(
         &mut self,
         next: &[Command],
-        result: Result<usize, Refusal>,
+        advanced: Result<usize, Refusal>,
         answers: &[Served],
         said: &mut Saying,
     ) -> bool {
         let ahead = self.ahead.take();
         said.check(answers.len() == ahead.len());
-        let Ok(many) = result else {
-            said.check(result == Err(Refusal::Device) && are_refused(answers, Refusal::Device));
+        let Ok(many) = advanced else {
+            said.check(advanced == Err(Refusal::Device) && are_refused(answers, Refusal::Device));
             said.check(self.doubt.try_extend_from_slice(ahead.as_slice()).is_ok());
             self.room = usize::MAX;
             return false;

@@ -1,6 +1,6 @@
-use Rattle.std.proofs.Common.{◌≡◌, ℕ, ◌≤◌, false, length, IfOk, Ok, Err, Result, arith, rules}
-use Rattle.im_types.specs.Types.{Refusal}
-use Rattle.im_c.specs.Chain.{CanFollow}
+use Rattle.std.proofs.Common.{◌≡◌, ℕ, ◌≤◌, false, List, length, IfOk, Ok, Err, Result, ap, arith, rules}
+use Rattle.im_types.specs.Types.{Command, Refusal}
+use Rattle.im_c.specs.{Chain.CanFollow, Group.all_meant}
 use Rattle.im_c.proofs.chain.advance.Goals as goal
 
 pub tell_all-requires-clause-few : goal.tell_all-requires-clause-few
@@ -21,5 +21,7 @@ pub advanced_by-requires-clause-within : goal.advanced_by-requires-clause-within
 advanced_by-requires-clause-within c =
     let lives : c.args.image.now.lost ≡ false = search rules in
     let is : CanFollow c.args.commands.now (length c.args.outcomes.now) = search rules in
+    let same : c.gathered.new.members.items ≡ all_meant c.args.commands.now = search rules in
     let ahead = c.advance-told.ensures.ahead lives in
-    within_by c.advance-told.result _ (λ n it. omega (arith, it.within, is.few, is.each)) ahead.takes
+    within_by c.advance-told.result _
+        (λ n it. omega (arith, it.within, is.few, is.each, ap (λ (l : List Command). length l) same)) ahead.takes
