@@ -24,4 +24,4 @@ advanced_by-requires-clause-within c =
     let same : c.gathered.new.members.items ≡ all_meant c.args.commands.now = search rules in
     let ahead = c.advance-told.ensures.ahead lives in
     within_by c.advance-told.result _
-        (λ n it. omega (arith, it.within, is.few, is.each, ap (λ (l : List Command). length l) same)) ahead.takes
+    (λ n it. omega (arith, it.within, is.few, is.each, ap (λ (l : List Command). length l) same)) ahead.takes
