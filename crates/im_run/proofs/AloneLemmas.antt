@@ -87,17 +87,18 @@ quiet_all : (m : Contents) (marks : Line → Bool) (made : Type 0) (orders : Lis
 quiet_all m marks made [] parts [] have ended free = tt
 quiet_all m marks made [] parts (d ∷ ends) have ended free =
     absurd (subst (λ (l : List Asked). AreEnded m marks l (d ∷ ends)) have ended)
-quiet_all m marks made (o ∷ orders) parts ends (inl (never, others)) ended free =
-    quiet_all m marks made orders parts ends others ended
-    (λ call answer is. free call answer (or_right (is_call_of o call) (is_call_of_one orders call) is))
-quiet_all m marks made (o ∷ orders) parts [] (inr (p, (rest, (is, (part, others))))) ended free = tt
-quiet_all m marks made (o ∷ orders) parts (d ∷ ends) (inr (p, (rest, (is, (part, others))))) ended free =
-    let both : IsEnded m marks p d × AreEnded m marks rest ends =
-    subst (λ (l : List Asked). AreEnded m marks l (d ∷ ends)) is ended in (
+quiet_all m marks made (o ∷ orders) parts ends (mine, (others, (is, (inl (never, no), rest)))) ended free =
+    quiet_all m marks made orders others ends rest
+    (subst (λ (l : List Asked). AreEnded m marks l ends) (is ∙ ap (λ (l : List Asked). l ++ others) no) ended)
+    (λ call answer own. free call answer (or_right (is_call_of o call) (is_call_of_one orders call) own))
+quiet_all m marks made (o ∷ orders) parts [] (mine, (others, (is, (inr (p, (one, part)), rest)))) ended free = tt
+quiet_all m marks made (o ∷ orders) parts (d ∷ ends) (mine, (others, (is, (inr (p, (one, part)), rest)))) ended free =
+    let both : IsEnded m marks p d × AreEnded m marks others ends =
+    subst (λ (l : List Asked). AreEnded m marks l (d ∷ ends)) (is ∙ ap (λ (l : List Asked). l ++ others) one) ended in (
       quiet_end m marks o p d part both.0
-          (λ call answer is. free call answer (or_left (is_call_of o call) (is_call_of_one orders call) is)),
-      quiet_all m marks made orders rest ends others both.1
-          (λ call answer is. free call answer (or_right (is_call_of o call) (is_call_of_one orders call) is)),
+          (λ call answer own. free call answer (or_left (is_call_of o call) (is_call_of_one orders call) own)),
+      quiet_all m marks made orders others ends rest both.1
+          (λ call answer own. free call answer (or_right (is_call_of o call) (is_call_of_one orders call) own)),
     )
 
 -- so no line is marked if they were told all

@@ -11,11 +11,35 @@ use Rattle.im_serving.specs.declared.Intent.{Intent, TheVariants.Glance, TheVari
 use Rattle.im_serving.specs.Elements.{AreEnded, Asked, End, IsEnded}
 use Rattle.im_serving.specs.Serving.{AreDone, AreGlanced, HasAnswers, HasBegun, IsGlanced, ops_of, requests, sites}
 use Rattle.im_run.specs.{declared.served.Did.Did, declared.sheet.Order.Order, Orders.Ask, Orders.ask_of}
-use Rattle.im_run.specs.Doing.{AreAllNoted, AreAllTold, elements_at_end, glances_later, glances_told, HaveAllParts}
-use Rattle.im_run.specs.Doing.{HaveSeen, IsNoted, IsOrderTold, IsPartOf, MakesPart, NotesEnd, part_elements, told_among}
-use Rattle.im_run.specs.Doing.{told_at, told_for}
+use Rattle.im_run.specs.Doing.{AreAllNoted, AreAllTold, EachInTurn, glances_later, glances_told, HasPart, HaveAllParts}
+use Rattle.im_run.specs.Doing.{HaveSeen, IsNoted, IsOrderTold, IsPartOf, MakesPart, NotesEnd, told_among, told_at}
+use Rattle.im_run.specs.Doing.{told_for}
 use mathlib.Core.List.{IsPrefix}
 use Rattle.im_run.specs.declared.served.Did.TheVariants as did
+
+-- ---- what comes of each of several things
+
+each_map : {A B : Type 0} (P Q : A → List B → Type 0) → ((x : A) (mine : List B) → P x mine → Q x mine)
+    → (xs : List A) (all : List B) → EachInTurn P xs all → EachInTurn Q xs all
+each_map P Q f [] all it = it
+each_map P Q f (x ∷ xs) all (mine, (others, (is, (here, rest)))) =
+    (mine, (others, (is, (f x mine here, each_map P Q f xs others rest))))
+
+-- of one more
+each_more : {A B : Type 0} (P : A → List B → Type 0) (xs : List A) (all mine : List B) (x : A) → EachInTurn P xs all
+    → P x mine → EachInTurn P (xs ++ x ∷ []) (all ++ mine)
+each_more {A} {B} P [] all mine x it here =
+    (mine, ([], (ap (λ (l : List B). l ++ mine) it ∙ sym (append-nil mine), (here, refl))))
+each_more {A} {B} P (y ∷ xs) all mine x (first, (others, (is, (there, rest)))) here = (
+  first,
+  (
+    others ++ mine,
+    (
+      ap (λ (l : List B). l ++ mine) is ∙ append_assoc first others mine,
+      (there, each_more P xs others mine x rest here),
+    ),
+  ),
+)
 
 -- ---- the lines of an element
 
@@ -124,14 +148,18 @@ pub part_refused : (m : Contents) (order : Ask) (old new : List Asked) (before l
     → IsSome later → new ≡ old → MakesPart m order old new before later
 part_refused m order old new before later some same = record {
   none = λ is. absurd (not_none later some is);
-  made = inl (not_none later some, same);
+  mine = [];
+  is = same ∙ sym (append-nil old);
+  made = inl (not_none later some, refl);
 }
 
 pub part_added : (m : Contents) (order : Ask) (p : Asked) (old new : List Asked) (before later : Option (ℕ × Refusal))
     → IsPartOf m order p → later ≡ before → new ≡ old ++ p ∷ [] → MakesPart m order old new before later
 part_added m order p old new before later part same is = record {
   none = λ none. sym same ∙ none;
-  made = inr (p, (part, is));
+  mine = p ∷ [];
+  is = is;
+  made = inr (p, (refl, part));
 }
 
 pub part_made : (m : Contents) (order : Ask) (p : Asked) → p.deeds.port.element ≡ order.element
@@ -154,36 +182,10 @@ part_made m order p element first intents none last seen made untold = record {
       (seen, All-nil (IsGlanced m p.deeds.port.element)));
 }
 
-parts_more : (m : Contents) (none : Type 0) (orders : List Ask) (parts : List Asked) (order : Ask) (p : Asked)
-    → HaveAllParts m none orders parts → IsPartOf m order p
-    → HaveAllParts m none (orders ++ order ∷ []) (parts ++ p ∷ [])
-parts_more m none [] parts order p it part =
-    inr (p, ([], (ap (λ (l : List Asked). l ++ p ∷ []) it, (part, refl))))
-parts_more m none (o ∷ orders) parts order p (inl (never, others)) part =
-    inl (never, parts_more m none orders parts order p others part)
-parts_more m none (o ∷ orders) parts order p (inr (q, (rest, (is, (here, others))))) part = inr (
-  q,
-  (
-    rest ++ p ∷ [],
-    (ap (λ (l : List Asked). l ++ p ∷ []) is, (here, parts_more m none orders rest order p others part)),
-  ),
-)
-
-parts_none : (m : Contents) (none : Type 0) (orders : List Ask) (parts : List Asked) (order : Ask) → (none → ⊥)
-    → HaveAllParts m none orders parts → HaveAllParts m none (orders ++ order ∷ []) parts
-parts_none m none [] parts order never it = inl (never, it)
-parts_none m none (o ∷ orders) parts order never (inl (not, others)) =
-    inl (not, parts_none m none orders parts order never others)
-parts_none m none (o ∷ orders) parts order never (inr (q, (rest, (is, (here, others))))) =
-    inr (q, (rest, (is, (here, parts_none m none orders rest order never others))))
-
-parts_weaker : (m : Contents) (none less : Type 0) (orders : List Ask) (parts : List Asked) → (less → none)
-    → HaveAllParts m none orders parts → HaveAllParts m less orders parts
-parts_weaker m none less [] parts f it = it
-parts_weaker m none less (o ∷ orders) parts f (inl (never, others)) =
-    inl (λ l. never (f l), parts_weaker m none less orders parts f others)
-parts_weaker m none less (o ∷ orders) parts f (inr (q, (rest, (is, (here, others))))) =
-    inr (q, (rest, (is, (here, parts_weaker m none less orders rest f others))))
+part_weaker : (m : Contents) (none less : Type 0) → (less → none) → (order : Ask) (mine : List Asked)
+    → HasPart m none order mine → HasPart m less order mine
+part_weaker m none less f order mine (inl (never, is)) = inl (λ l. never (f l), is)
+part_weaker m none less f order mine (inr it) = inr it
 
 -- one order more
 pub parts_step : (m : Contents) (orders : List Order) (order : Order) (old new : List Asked)
@@ -191,60 +193,25 @@ pub parts_step : (m : Contents) (orders : List Order) (order : Order) (old new :
     → MakesPart m (ask_of order) old new before later
     → HaveAllParts m (later ≡ None) (map ask_of (orders ++ order ∷ [])) new
 parts_step m orders order old new before later it makes =
+    let here = each_map (HasPart m (before ≡ None)) (HasPart m (later ≡ None))
+    (part_weaker m (before ≡ None) (later ≡ None) makes.none) (map ask_of orders) old it in
     subst (λ (l : List Ask). HaveAllParts m (later ≡ None) l new) (sym (map-append ask_of orders (order ∷ [])))
-    (by_made makes.made (parts_weaker m (before ≡ None) (later ≡ None) (map ask_of orders) old makes.none it))
-  where
-    by_made : ((later ≡ None → ⊥) × (new ≡ old))
-        ⊎ ((p : Asked) × (IsPartOf m (ask_of order) p × (new ≡ old ++ p ∷ [])))
-        → HaveAllParts m (later ≡ None) (map ask_of orders) old
-        → HaveAllParts m (later ≡ None) (map ask_of orders ++ ask_of order ∷ []) new
-    by_made (inl (never, same)) here = subst (HaveAllParts m (later ≡ None) (map ask_of orders ++ ask_of order ∷ []))
-        (sym same) (parts_none m (later ≡ None) (map ask_of orders) old (ask_of order) never here)
-    by_made (inr (p, (part, is))) here = subst (HaveAllParts m (later ≡ None) (map ask_of orders ++ ask_of order ∷ []))
-        (sym is) (parts_more m (later ≡ None) (map ask_of orders) old (ask_of order) p here part)
+    (subst (HaveAllParts m (later ≡ None) (map ask_of orders ++ ask_of order ∷ [])) (sym makes.is)
+    (each_more (HasPart m (later ≡ None)) (map ask_of orders) old makes.mine (ask_of order) here makes.made))
 
 -- ---- ends
 
-noted_more : (trace : List Line) (none : Type 0) (ends : List End) (told mine : List Did) (d : End)
-    → AreAllNoted trace none ends told → IsNoted trace none d mine
-    → AreAllNoted trace none (ends ++ d ∷ []) (told ++ mine)
-noted_more trace none [] told mine d it here =
-    (mine, ([], (ap (λ (l : List Did). l ++ mine) it ∙ sym (append-nil mine), (here, refl))))
-noted_more trace none (e ∷ ends) told mine d (first, (others, (is, (there, rest)))) here = (
-  first,
-  (
-    others ++ mine,
-    (
-      ap (λ (l : List Did). l ++ mine) is ∙ append_assoc first others mine,
-      (there, noted_more trace none ends others mine d rest here),
-    ),
-  ),
-)
-
-noted_weaker : (trace : List Line) (none less : Type 0) (ends : List End) (told : List Did) → (less → none)
-    → AreAllNoted trace none ends told → AreAllNoted trace less ends told
-noted_weaker trace none less [] told f it = it
-noted_weaker trace none less (e ∷ ends) told f (first, (others, (is, (there, rest)))) = (
-  first,
-  (
-    others,
-    (
-      is,
-      (
-        record {
-          well = λ l. there.well (f l);
-          noted = by_noted there.noted;
-        },
-        noted_weaker trace none less ends others f rest,
-      ),
-    ),
-  ),
-)
+noted_weaker : (trace : List Line) (none less : Type 0) → (less → none) → (d : End) (mine : List Did)
+    → IsNoted trace none d mine → IsNoted trace less d mine
+noted_weaker trace none less f d mine it = record {
+  well = λ l. it.well (f l);
+  noted = by_noted it.noted;
+}
   where
-    by_noted : ((none → ⊥) × (first ≡ [])) ⊎ (IsPrefix e.deeds.port.history trace × (first ≡ told_at e))
-        → ((less → ⊥) × (first ≡ [])) ⊎ (IsPrefix e.deeds.port.history trace × (first ≡ told_at e))
+    by_noted : ((none → ⊥) × (mine ≡ [])) ⊎ (IsPrefix d.deeds.port.history trace × (mine ≡ told_at d))
+        → ((less → ⊥) × (mine ≡ [])) ⊎ (IsPrefix d.deeds.port.history trace × (mine ≡ told_at d))
     by_noted (inl (never, none_told)) = inl (λ l. never (f l), none_told)
-    by_noted (inr it) = inr it
+    by_noted (inr seen) = inr seen
 
 -- an end was noted with its lines, if there was room
 pub end_added : (d : End) (old mid new : List PortState) (told some more lines : List Did)
@@ -255,53 +222,35 @@ pub end_added : (d : End) (old mid new : List PortState) (told some more lines :
     → lines ≡ told_at d → more ≡ some → new ≡ mid → (later ≡ None → between ≡ None) → (later ≡ None → IsOk d.result)
     → NotesEnd d old new told more before later
 end_added d old mid new told some more lines before between later ports none added is same_told same_ports onto well =
-    record {
+    by_added added
+  where
+    notes : (mine : List Did) → some ≡ told ++ mine → ((trace : List Line) → HaveSeen trace mid
+        → ((later ≡ None → ⊥) × (mine ≡ [])) ⊎ (IsPrefix d.deeds.port.history trace × (mine ≡ told_at d)))
+        → NotesEnd d old new told more before later
+    notes mine same noted = record {
       ports = λ trace it. ports trace (subst (HaveSeen trace) same_ports it);
       none = λ n. none (onto n);
-      well = well;
-      noted = by_added added;
+      mine = mine;
+      is = same_told ∙ same;
+      noted = λ trace it. record { well = well; noted = noted trace (subst (HaveSeen trace) same_ports it) };
     }
-  where
+
     by_added : ((between ≡ None → ⊥) × (some ≡ told)) ⊎ (((trace : List Line) → HaveSeen trace mid
-        → IsPrefix d.deeds.port.history trace) × (some ≡ told ++ lines))
-        → ((later ≡ None → ⊥) × (more ≡ told)) ⊎ (((trace : List Line) → HaveSeen trace new
-        → IsPrefix d.deeds.port.history trace) × (more ≡ told ++ told_at d))
-    by_added (inl (never, same)) = inl (λ n. never (onto n), same_told ∙ same)
-    by_added (inr (port, same)) = inr (
-      λ trace it. port trace (subst (HaveSeen trace) same_ports it),
-      same_told ∙ same ∙ ap (λ (l : List Did). told ++ l) is,
-    )
+        → IsPrefix d.deeds.port.history trace) × (some ≡ told ++ lines)) → NotesEnd d old new told more before later
+    by_added (inl (never, same)) =
+        notes [] (same ∙ sym (append-nil told)) (λ trace it. inl (λ n. never (onto n), refl))
+    by_added (inr (port, same)) = notes lines same (λ trace it. inr (port trace it, is))
 
 -- one end more
 pub noted_step : (trace : List Line) (ends : List End) (d : End) (old new : List PortState) (told more : List Did)
     (before later : Option (ℕ × Refusal)) → (HaveSeen trace old → AreAllNoted trace (before ≡ None) ends told)
     → NotesEnd d old new told more before later → HaveSeen trace new
     → AreAllNoted trace (later ≡ None) (ends ++ d ∷ []) more
-noted_step trace ends d old new told more before later it notes seen = by_noted notes.noted
-  where
-    here : AreAllNoted trace (later ≡ None) ends told
-    here = noted_weaker trace (before ≡ None) (later ≡ None) ends told notes.none (it (notes.ports trace seen))
-
-    by_noted : ((later ≡ None → ⊥) × (more ≡ told)) ⊎ (((t : List Line) → HaveSeen t new
-        → IsPrefix d.deeds.port.history t) × (more ≡ told ++ told_at d))
-        → AreAllNoted trace (later ≡ None) (ends ++ d ∷ []) more
-    by_noted (inl (never, same)) = subst (AreAllNoted trace (later ≡ None) (ends ++ d ∷ []))
-        (append-nil told ∙ sym same) (noted_more trace (later ≡ None) ends told [] d here
-        (record { well = notes.well; noted = inl (never, refl) }))
-    by_noted (inr (port, is)) = subst (AreAllNoted trace (later ≡ None) (ends ++ d ∷ [])) (sym is)
-        (noted_more trace (later ≡ None) ends told (told_at d) d here
-        (record { well = notes.well; noted = inr (port trace seen, refl) }))
-
--- ---- their elements
-
-pub elements_end : (m : Contents) (marks : Line → Bool) (parts : List Asked) (ends : List End)
-    → AreEnded m marks parts ends
-    → elements_at_end ends ≡ part_elements parts
-elements_end m marks [] [] it = refl
-elements_end m marks [] (d ∷ ends) it = absurd it
-elements_end m marks (p ∷ parts) [] it = absurd it
-elements_end m marks (p ∷ parts) (d ∷ ends) it =
-    ap₂ (λ (x : ℕ) (l : List ℕ). x ∷ l) it.0.element (elements_end m marks parts ends it.1)
+noted_step trace ends d old new told more before later it notes seen =
+    let here = each_map (IsNoted trace (before ≡ None)) (IsNoted trace (later ≡ None))
+    (noted_weaker trace (before ≡ None) (later ≡ None) notes.none) ends told (it (notes.ports trace seen)) in
+    subst (AreAllNoted trace (later ≡ None) (ends ++ d ∷ [])) (sym notes.is)
+    (each_more (IsNoted trace (later ≡ None)) ends told notes.mine d here (notes.noted trace seen))
 
 -- ---- orders
 
@@ -329,31 +278,19 @@ none_of_all m trace none (order ∷ orders) told is never =
 
 pub told_weaker : (m : Contents) (trace : List Line) (none less : Type 0) (orders : List Ask) (told : List Did)
     → (less → none) → AreAllTold m trace none orders told → AreAllTold m trace less orders told
-told_weaker m trace none less [] told f it = it
-told_weaker m trace none less (order ∷ orders) told f (mine, (others, (is, (here, rest)))) = (
-  mine,
-  (
-    others,
-    (
-      is,
-      (
-        record {
-          done = here.done;
-          begins = here.begins;
-          all = λ l. here.all (f l);
-          entries = here.entries;
-          count = here.count;
-          answered = here.answered;
-          made = here.made;
-          places = here.places;
-          glanced = here.glanced;
-          is = here.is;
-        },
-        told_weaker m trace none less orders others f rest,
-      ),
-    ),
-  ),
-)
+told_weaker m trace none less orders told f it =
+    each_map (IsOrderTold m trace none) (IsOrderTold m trace less) (λ order mine here. record {
+      done = here.done;
+      begins = here.begins;
+      all = λ l. here.all (f l);
+      entries = here.entries;
+      count = here.count;
+      answered = here.answered;
+      made = here.made;
+      places = here.places;
+      glanced = here.glanced;
+      is = here.is;
+    }) orders told it
 
 -- an order whose part has ended so
 module _ (m : Contents) (marks : Line → Bool) (trace : List Line) (none : Type 0) (order : Ask) (p : Asked)
@@ -415,33 +352,27 @@ pub all_told : (m : Contents) (marks : Line → Bool) (trace : List Line) (made 
 all_told m marks trace made none [] parts [] told f have ended noted = noted
 all_told m marks trace made none [] parts (d ∷ ends) told f have ended noted =
     absurd (subst (λ (l : List Asked). AreEnded m marks l (d ∷ ends)) have ended)
-all_told m marks trace made none (order ∷ orders) parts ends told f (inl (never, others)) ended noted = (
-  [],
-  (
-    told,
-    (
-      refl,
-      (
-        none_told m trace none order (λ n. never (f n)),
-        all_told m marks trace made none orders parts ends told f others ended noted,
-      ),
-    ),
-  ),
-)
-all_told m marks trace made none (order ∷ orders) parts [] told f (inr (p, (rest, (is, (part, others))))) ended noted =
-    absurd (subst (λ (l : List Asked). AreEnded m marks l []) is ended)
-all_told m marks trace made none (order ∷ orders) parts (d ∷ ends) told f (inr (p, (rest, (is, (part, others))))) ended
-    (mine, (more, (told_is, (here, there)))) =
-    let both : IsEnded m marks p d × AreEnded m marks rest ends =
-    subst (λ (l : List Asked). AreEnded m marks l (d ∷ ends)) is ended in (
-      mine,
+all_told m marks trace made none (order ∷ orders) parts ends told f (mine, (others, (is, (inl (never, no), rest))))
+    ended noted =
+    let same : parts ≡ others = is ∙ ap (λ (l : List Asked). l ++ others) no in
+    let all = all_told m marks trace made none orders others ends told f rest
+    (subst (λ (l : List Asked). AreEnded m marks l ends) same ended) noted in
+    ([], (told, (refl, (none_told m trace none order (λ n. never (f n)), all))))
+all_told m marks trace made none (order ∷ orders) parts [] told f (mine, (others, (is, (inr (p, (one, part)), rest))))
+    ended noted = absurd (subst (λ (l : List Asked). AreEnded m marks l [])
+    (is ∙ ap (λ (l : List Asked). l ++ others) one) ended)
+all_told m marks trace made none (order ∷ orders) parts (d ∷ ends) told f
+    (mine, (others, (is, (inr (p, (one, part)), rest)))) ended (lines, (more, (told_is, (here, there)))) =
+    let both : IsEnded m marks p d × AreEnded m marks others ends =
+    subst (λ (l : List Asked). AreEnded m marks l (d ∷ ends)) (is ∙ ap (λ (l : List Asked). l ++ others) one) ended in (
+      lines,
       (
         more,
         (
           told_is,
           (
-            order_told m marks trace none order p d mine part both.0 here here.noted,
-            all_told m marks trace made none orders rest ends more f others both.1 there,
+            order_told m marks trace none order p d lines part both.0 here here.noted,
+            all_told m marks trace made none orders others ends more f rest both.1 there,
           ),
         ),
       ),

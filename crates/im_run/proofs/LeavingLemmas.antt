@@ -78,9 +78,9 @@ module _ {D : Type 0} (disk : Ghosts D) (limits : Limits) (planned : Bool) (text
     planned_found = began_with disk (HasRunByPlan limits text) run_session it.run.kept h before
 
     planned_stops : (earlier : List Command) (far : HasRunByPlan limits text earlier start.memory)
-        → Stops limits text earlier start.memory far it.fit it.made planned it.run.setup it.run.put it.run.doubt
+        → Stops limits text earlier start.memory far it.made planned it.run.setup it.run.put it.run.doubt
         calls.served status it.run.printed.did accepts it.run.put_is
-    planned_stops earlier far = plan_stops limits text earlier start.memory far it.fit it.made planned it.run.setup
+    planned_stops earlier far = plan_stops limits text earlier start.memory far it.made planned it.run.setup
         it.run.put it.run.doubt calls.served status it.run.printed.did accepts it.run.put_is by it.run.tells
 
     plan_keeps : LeavesNow (disk.now it.run.engine.disk) (LedBy (HasRunByPlan limits text))
@@ -112,7 +112,7 @@ module _ {D : Type 0} (disk : Ghosts D) (limits : Limits) (planned : Bool) (text
         let found = began_with disk (LeadTo limits) run_session it.run.kept h before in
         let works = it.run.works (inl well) in
         ends_with disk run_session it.run.kept h works (HasAll limits text) found.earlier found.count
-        (has_all limits text found.earlier start.memory found.holds it.fit planned it.run.setup it.run.put calls.served
+        (has_all limits text found.earlier start.memory found.holds planned it.run.setup it.run.put calls.served
         status it.run.printed.did
         (subst (λ (l : List Command). accept_each start.memory l ≡ Some (after start.memory l))
         (all_sure disk run_session it.run.kept h works) accepts) it.run.put_is it.run.doubt well it.run.tells)

@@ -3,7 +3,6 @@ pub mod BlocksLemmas
 pub mod CountLemmas
 pub mod DoingLemmas
 pub mod EndLemmas
-pub mod KnownLemmas
 pub mod LeavingLemmas
 pub mod OrdersLemmas
 pub mod PlannedLemmas

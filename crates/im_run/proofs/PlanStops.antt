@@ -6,8 +6,7 @@ use Rattle.{im_laws.proofs.RunLemmas.after-append, im_engine.proofs.Keeping.acce
 use Rattle.im_plans.specs.{Runs.HasServed, UnderWay.PlanGoesOn}
 use Rattle.im_controller.specs.{Kept.accepted_in, Planned.AreOnPlan}
 use Rattle.im_serial.proofs.BegunLemmas.{accepted_after, is_memory}
-use Rattle.im_serial.specs.Asked.{Leads, Wanted, wanted_of}
-use Rattle.im_serial.specs.{Begun.new_memory, Fitting.FitsScript, Once.HasMade}
+use Rattle.im_serial.specs.{Asked.Leads, Asked.Wanted, Asked.wanted_of, Begun.new_memory, Once.HasMade}
 use Rattle.im_run.proofs.CountLemmas.{accept_split, had_more}
 use Rattle.im_run.proofs.StopsLemmas.{accepted_on, both_on, own_same, quiet_names, quiet_setup, setup_asked}
 use Rattle.im_run.proofs.StopsLemmas.{setup_goes_on, setup_named}
@@ -19,8 +18,7 @@ use Rattle.im_run.specs.Stops.{HasAll, HasDoneByPlan, HasRunByPlan, IsByPlan, Is
 -- ---- one run more, by its plan
 
 module _ (limits : Limits) (text : List ℕ) (earlier : List Command) (n : Contents)
-    (was : HasRunByPlan limits text earlier n) (fit : FitsScript n (wanted_of text))
-    (made : HasMade n (wanted_of text)) where
+    (was : HasRunByPlan limits text earlier n) (made : HasMade n (wanted_of text)) where
   memory_is : n ≡ after (new_memory limits) earlier
   memory_is = accepted_after (new_memory limits) earlier n was.accepted
 
@@ -38,7 +36,7 @@ module _ (limits : Limits) (text : List ℕ) (earlier : List Command) (n : Conte
         by_blocks none =
             let alone : earlier ≡ was.setup = was.split ∙ ap (λ (l : List Command). was.setup ++ l) none
             ∙ append-nil was.setup in
-            let on = setup_goes_on limits text earlier n was.accepted fit was.left
+            let on = setup_goes_on limits text earlier n was.accepted was.left
             (subst (λ (l : List Command). Leads (new_memory limits) [] (setup_blocks text) l was.left) (sym alone)
             was.blocks) made put left set in
             record {
@@ -70,7 +68,7 @@ module _ (limits : Limits) (text : List ℕ) (earlier : List Command) (n : Conte
                   own = by.1.own;
                   goes_on = by.1.goes_on;
                   on_plan = both_on by.1.plan was.others put by.1.on_plan
-                      (quiet_setup limits text earlier n was.accepted fit was.setup was.others was.split blocks
+                      (quiet_setup limits text earlier n was.accepted was.setup was.others was.split blocks
                       by.1.plan put left set);
                 },
               );
@@ -124,7 +122,7 @@ module _ (limits : Limits) (text : List ℕ) (earlier : List Command) (n : Conte
     by_blocks none =
         let alone : earlier ≡ was.setup = was.split ∙ ap (λ (l : List Command). was.setup ++ l) none
         ∙ append-nil was.setup in
-        let further = setup_goes_on limits text earlier n was.accepted fit was.left
+        let further = setup_goes_on limits text earlier n was.accepted was.left
         (subst (λ (l : List Command). Leads (new_memory limits) [] (setup_blocks text) l was.left) (sym alone)
         was.blocks) made setup [] set in
         let behind : after n setup ≡ after (new_memory limits) (earlier ++ setup) =
@@ -141,7 +139,7 @@ module _ (limits : Limits) (text : List ℕ) (earlier : List Command) (n : Conte
     by_plan by =
         let blocks = subst (λ (l : List Wanted). Leads (new_memory limits) [] (setup_blocks text) was.setup l) by.0
         was.blocks in
-        let names = quiet_names limits text earlier n was.accepted fit was.setup was.others was.split blocks setup []
+        let names = quiet_names limits text earlier n was.accepted was.setup was.others was.split blocks setup []
         set in
         let same = own_same text (plan_of whole) by.1.plan (own_by names) by.1.own in
         comes_by was.setup (was.others ++ (setup ++ more))
@@ -152,7 +150,7 @@ module _ (limits : Limits) (text : List ℕ) (earlier : List Command) (n : Conte
           own = by.1.own;
           goes_on = by.1.goes_on;
           on_plan = both_on by.1.plan was.others (setup ++ more) by.1.on_plan
-              (both_on by.1.plan setup more (quiet_setup limits text earlier n was.accepted fit was.setup was.others
+              (both_on by.1.plan setup more (quiet_setup limits text earlier n was.accepted was.setup was.others
               was.split blocks by.1.plan setup [] set)
               (subst (λ (p : List Request). AreOnPlan (Some p) more) same on));
         }) same
@@ -194,7 +192,7 @@ module _ (limits : Limits) (text : List ℕ) (earlier : List Command) (n : Conte
       accepts_split = subst (λ (l : List Command). accept_each n l ≡ Some (after n l)) split accepts
 
       on_plan_stops : (whole : List Ask) → AreAllOrders (bases_made (rest_of n text) n setup) (script_heard text) whole
-          → RanByPlan (Unit {0}) (plan_of whole) (after n setup) trace doubt (after n told) (status ≡ 0) → Stops
+          → RanByPlan true (plan_of whole) (after n setup) trace doubt (after n told) (status ≡ 0) → Stops
       on_plan_stops whole all ran =
           let plan = plan_of whole in
           let it = comes setup (accepted_in (after n setup) trace ++ doubt) accepts_split t.made whole all
@@ -225,7 +223,7 @@ module _ (limits : Limits) (text : List ℕ) (earlier : List Command) (n : Conte
 -- ---- a run by threads that did all of it
 
 module _ (limits : Limits) (text : List ℕ) (earlier : List Command) (n : Contents)
-    (begun : accept_each (new_memory limits) earlier ≡ Some n) (fit : FitsScript n (wanted_of text)) where
+    (begun : accept_each (new_memory limits) earlier ≡ Some n) where
   start_is : n ≡ after (new_memory limits) earlier
   start_is = accepted_after (new_memory limits) earlier n begun
 
@@ -243,13 +241,13 @@ module _ (limits : Limits) (text : List ℕ) (earlier : List Command) (n : Conte
         let memory = subst (IsMemory limits.cells limits.elements)
         (after-append (new_memory limits) earlier setup ∙ ap (λ (x : Contents). after x setup) (sym start_is))
         (is_memory limits (earlier ++ setup)) in
-        let asked = setup_asked limits text earlier n begun fit setup t.made both.0 in
+        let asked = setup_asked limits text earlier n begun setup t.made both.0 in
         let more = had_more limits.cells limits.elements 0 put (after n setup) (after n told) memory both.1 in
         record {
           accepted = accept_both (new_memory limits) n (after n told) earlier told begun accepts;
           setup = omega (arith, asked, more);
           bases = bases_made (rest_of n text) n setup;
-          names = setup_named limits text earlier n begun fit setup t.made both.0;
+          names = setup_named limits text earlier n begun setup t.made both.0;
           whole = all.whole;
           requests = all.is_whole;
           served = all.served zero;

@@ -1,17 +1,17 @@
 -- A planned run whose requests were all told: each of them was served. (Own.)
-use Rattle.std.proofs.Common.{◌≡◌, ℕ, zero, suc, List, [], ◌∷◌, ◌++◌, length, IfSome, slice_get, Some, None, Option}
-use Rattle.std.proofs.Common.{sym, refl, ap, ◌∙◌, subst, inl, ⊎_elim, append_assoc, arith}
+use Rattle.std.proofs.Common.{◌≡◌, ℕ, zero, suc, List, [], ◌∷◌, ◌++◌, length, is_some, IfSome, slice_get, Some, None}
+use Rattle.std.proofs.Common.{Option, sym, refl, ap, ◌∙◌, subst, inl, ⊎_elim, append_assoc, arith}
 use Rattle.im_types.specs.Types.{Entry, Waiter, Request, Command, Call, Line, Asks, Commands, Collect, Window, Contents}
 use Rattle.im_types.specs.Types.{WaitingAgrees, asker, step, contents_after, IsLegal, end_of}
 use Rattle.im_laws.proofs.{EntryLemmas.told-kept, RunAgrees.step-agrees, Tests.some_same}
 use Rattle.{im_plans.proofs.Taken.kept-taken, im_plans.proofs.Taken.step-taken, im_serving.specs.declared.Intent.Intent}
 use Rattle.im_plans.specs.Runs.{HasServed, IsInPlan, IsTaken}
-use Rattle.im_controller.specs.Planned.{AreOnPlan, EndsAsPlanned, EndsBy}
+use Rattle.im_controller.specs.Planned.{AreOnPlan, EndsAsPlanned, EndsBy, MayStart}
 use Rattle.im_serving.specs.Serving.{asked_line, asked_lines, ops_of, StandIn}
 use Rattle.im_run.proofs.WholeLemmas.{all_served, in_either}
-use Rattle.im_run.specs.{declared.served.Did.Did, declared.sheet.AllOrders.AllOrders, Doing.AreAllTold, Orders.Ask}
-use Rattle.im_run.specs.{Orders.asks_in, Planned.AreServed, Planned.EndsOnPlan, Planned.FitsIfNew}
-use Rattle.im_run.specs.{Planned.HasServedWhole, Planned.plan_of, Planned.planned_orders, Planned.requests_from}
+use Rattle.im_run.specs.declared.{served.Did.Did, sheet.AllOrders.AllOrders}
+use Rattle.im_run.specs.{Doing.AreAllTold, Orders.Ask, Orders.asks_in}
+use Rattle.im_run.specs.Planned.{AreServed, EndsOnPlan, HasServedWhole, plan_of, planned_orders, requests_from}
 use Rattle.im_serving.specs.declared.intent.Intent.TheVariants as intent_kinds
 
 -- ---- the plan of the controller
@@ -124,11 +124,10 @@ pub ends_on_plan : (m : Contents) (trace : List Line) (whole : Option AllOrders)
     (doubt : List Command) (end : Contents) (none : Type 0) → IsLegal m trace → end_of m trace ≡ end
     → AreAllTold m trace none orders told
     → (none → IfSome whole (λ w. AreServed end.windows w.orders.items))
-    → FitsIfNew (asks_in whole) m (plan_of (planned_orders (asks_in whole) orders))
+    → MayStart (is_some whole) m (plan_of (planned_orders (asks_in whole) orders))
     → EndsAsPlanned m (plan_of (planned_orders (asks_in whole) orders)) trace end
     → AreOnPlan (Some (plan_of (planned_orders (asks_in whole) orders))) doubt
-    → EndsOnPlan (FitsIfNew (asks_in whole) m (plan_of (planned_orders (asks_in whole) orders)))
-    (plan_of (planned_orders (asks_in whole) orders)) m trace doubt end none
+    → EndsOnPlan (is_some (asks_in whole)) (plan_of (planned_orders (asks_in whole) orders)) m trace doubt end none
 ends_on_plan m trace None orders told doubt end none legal ends it served fits planned on = inl (record {
   fits = fits;
   ended = planned;

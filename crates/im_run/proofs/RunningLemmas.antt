@@ -1,7 +1,7 @@
 -- What the session of a run puts on a disk, and what the run prints. (Own.)
 use Rattle.std.proofs.Common.{◌≡◌, ℕ, zero, suc, ◌+◌, ◌≤◌, Bool, true, false, ◌⊎◌, List, [], ◌++◌, length, take}
-use Rattle.std.proofs.Common.{slice_get, Some, None, Option, sym, refl, ap, ◌∙◌, subst, inl, inr, ⊎_elim, append-nil}
-use Rattle.std.proofs.Common.{arith}
+use Rattle.std.proofs.Common.{is_some, slice_get, Some, None, Option, sym, refl, ap, ◌∙◌, subst, inl, inr, ⊎_elim}
+use Rattle.std.proofs.Common.{append-nil, arith}
 use Rattle.std.specs.Io.KnownBytes.{Appends}
 use Rattle.im_types.specs.Types.{Request, Command, Line, Contents, after, accepted, IsLegal, Means}
 use Rattle.{im_laws.proofs.Tests.true_false, im_engine.specs.State.EngineState, im_controller.specs.State.OpeningState}
@@ -15,9 +15,9 @@ use Rattle.im_serial.specs.{Asked.Course, Asked.Standing, Asked.Wanted, Noted.No
 use Rattle.im_run.proofs.DoingLemmas.{told_weaker}
 use Rattle.im_run.specs.declared.{run.TheConstants.STALLED, served.Did.Did}
 use Rattle.im_run.specs.{Doing.AreAllTold, Once.also_when, Once.RunWhen, Tracing.TraceState}
-use Rattle.im_run.specs.Orders.{AreOrders, ArePartsThere, Ask, bases_made, IsOfAll, Scope, scope_when, script_heard}
-use Rattle.im_run.specs.Orders.{SetsUp}
-use Rattle.im_run.specs.Planned.{EndsOnPlan, FitsIfNew, HasServedWhole, plan_of, planned_orders}
+use Rattle.im_run.specs.Orders.{AreOrders, ArePartsThere, Ask, bases_made, first_asked, IsOfAll, lines_when, scope_when}
+use Rattle.im_run.specs.Orders.{script_heard, SetsUp}
+use Rattle.im_run.specs.Planned.{EndsOnPlan, HasServedWhole, plan_of, planned_orders}
 use Rattle.im_run.specs.Running.{BeginsFinals, Closes, EndedOn, final_line, finals, PrintsFinals, ServersEnded}
 
 -- ---- where a session began
@@ -145,8 +145,8 @@ also_by : (once planned : Bool) (whole : Option (List Ask)) (m : Contents) (scri
     : List Command) (orders : List Ask) (trace : List Line) (none : Type 0)
     → IsOfAll once (bases_made (scope_when once m script) m setup) (script_heard script) whole
     → (none → HasServedWhole (after m put).windows whole)
-    → (planned ≡ true → EndsOnPlan (FitsIfNew whole (after m setup) (plan_of (planned_orders whole orders)))
-    (plan_of (planned_orders whole orders)) (after m setup) trace doubt (after m put) none)
+    → (planned ≡ true → EndsOnPlan (is_some whole) (plan_of (planned_orders whole orders)) (after m setup) trace doubt
+    (after m put) none)
     → also_when once planned m script trace none setup put doubt orders
 also_by false false whole m script setup put doubt orders trace none is served by = tt
 also_by false true None m script setup put doubt orders trace none is served by = by refl
@@ -160,9 +160,6 @@ also_by true planned (Some whole) m script setup put doubt orders trace none is 
 
 module _ {D : Type 0} (disk : Ghosts D) (once planned : Bool) (script : List ℕ) (start : SessionStart D)
     (t : SessionState D) where
-  abbrev scope : Scope
-  scope = scope_when once start.memory script
-
   -- the setup was ended
   pub halted_run : (course : Option Course) (waited : List Waited) (text : List ℕ) (was mid is : Option (List ℕ))
       (lines : Lines) (did : List Did) (new : D) (calls : TraceState) (status : ℕ)
@@ -207,11 +204,11 @@ module _ {D : Type 0} (disk : Ghosts D) (once planned : Bool) (script : List ℕ
       (text : List ℕ) (was held is : Option (List ℕ)) (lines : Lines) (new : D) (calls : TraceState) (status : ℕ)
       → IsServing start t s text n → Prints was held lines text
       → EndedOn disk planned whole orders t new held lines is calls.served status
-      → AreOrders (scope_when once start.memory script) t.engine.memory bases orders
+      → AreOrders (first_asked once t.engine.memory) bases (lines_when once start.memory script) orders
       → IsOfAll once bases (script_heard script) whole
       → SetsUp (scope_when once start.memory script) start.memory t.put []
       → bases ≡ bases_made (scope_when once start.memory script) start.memory t.put
-      → ArePartsThere (length start.memory.windows) (script_heard script)
+      → ArePartsThere (length start.memory.windows) (lines_when once start.memory script)
       → RunWhen disk once planned script start new was is calls status
   ended_run bases whole orders s n text was held is lines new calls status it prints ended of_script is_whole sets named
       there =
@@ -252,16 +249,18 @@ module _ {D : Type 0} (disk : Ghosts D) (once planned : Bool) (script : List ℕ
           made = sets;
           parts = there;
           orders = orders;
-          of_script = subst (λ (b : List ℕ). AreOrders scope (after m setup) b orders) named
-              (subst (λ (x : Contents). AreOrders scope x bases orders) begun of_script);
+          of_script = subst (λ (b : List ℕ). AreOrders (first_asked once (after m setup)) b (lines_when once m script)
+              orders) named
+              (subst (λ (x : Contents). AreOrders (first_asked once x) bases (lines_when once m script) orders) begun
+              of_script);
           all = subst (λ (x : Contents). AreAllTold x trace (status ≡ 0) orders ended.did) begun e.told;
           alone = e.alone;
           also = also_by once planned whole m script setup put e.doubt orders trace (status ≡ 0)
               (subst (λ (b : List ℕ). IsOfAll once b (script_heard script) whole) named is_whole)
               (λ zero. subst (λ (x : Contents). HasServedWhole x.windows whole) last (e.all_served zero))
-              (λ by. subst (λ (x : Contents). EndsOnPlan (FitsIfNew whole x plan) plan x trace e.doubt (after m put)
+              (λ by. subst (λ (x : Contents). EndsOnPlan (is_some whole) plan x trace e.doubt (after m put)
               (status ≡ 0)) begun
-              (subst (λ (x : Contents). EndsOnPlan (FitsIfNew whole t.engine.memory plan) plan t.engine.memory trace
-              e.doubt x (status ≡ 0)) last (e.as_planned it.works by)));
+              (subst (λ (x : Contents). EndsOnPlan (is_some whole) plan t.engine.memory trace e.doubt x (status ≡ 0))
+              last (e.as_planned it.works by)));
         });
       }

@@ -1,17 +1,17 @@
 -- A script's setup comes before its parts: what a memory has of the one and of the other. (Own.)
 use Rattle.std.proofs.Common.{◌≡◌, ℕ, zero, suc, ◌+◌, ◌-◌, Bool, true, false, ◌&&◌, List, [], ◌∷◌, ◌++◌, length, take}
 use Rattle.std.proofs.Common.{drop, if◌then◌else◌, nat_lt, ◌==◌, slice_set, Some, None, Option, option_map, sym, refl}
-use Rattle.std.proofs.Common.{ap, ◌∙◌, subst, inl, inr, append_assoc, arith}
+use Rattle.std.proofs.Common.{ap, ◌∙◌, subst, inl, inr, arith}
 use Rattle.std.{proofs.lemmas.Bool.Decides.nat_tests, specs.Option.option_map_or}
-use Rattle.{im_types.specs.Types.Contents, im_serial.specs.Once.AreMade}
-use Rattle.im_script.specs.declared.{Heard.Heard, Said.Said}
+use Rattle.{im_types.specs.Types.Contents, im_script.specs.declared.Said.Said}
+use Rattle.im_script.specs.declared.Heard.{Heard, TheVariants.Glances, TheVariants.Says}
+use Rattle.im_script.specs.declared.Said.TheVariants.{Asks, Begins, Block, Nothing}
 use Rattle.im_script.specs.Script.{Draft, heard, lines_of, new_draft}
-use Rattle.im_serial.proofs.{LeftLemmas.count_of, LeftLemmas.met_here, OnceLemmas.news_append}
+use Rattle.im_serial.{proofs.LeftLemmas.count_of, proofs.LeftLemmas.met_here, specs.Once.AreMade}
 use Rattle.im_serial.proofs.SetupLemmas.{AreUnnamed, HasSetup, IsBlock, setup_first}
 use Rattle.im_serial.specs.Asked.{said_by, Wanted, wanted_by, wanted_in, wanted_of}
-use Rattle.im_serial.specs.Had.{bases_had, has_next, left_of, length_asked, met, met_all, news, sums_of}
-use Rattle.im_run.specs.Orders.{blocks_among, blocks_of, line_blocks, lines_heard, script_heard, settled_past}
-use Rattle.im_run.specs.Stops.{setup_blocks}
+use Rattle.im_serial.specs.Had.{bases_had, has_next, left_of, length_asked, met, sums_of}
+use Rattle.im_run.specs.{Orders.blocks_of, Orders.lines_heard, Orders.script_heard, Stops.setup_blocks}
 
 -- ---- a list of requests in two parts
 
@@ -59,35 +59,23 @@ made_first m many (w ∷ blocks) parts it = (it.0, made_first m (met many w.elem
 
 -- ---- those that make blocks
 
-named_one : (w : Wanted) (rest : List Wanted) → w.named ≡ true → blocks_among (w ∷ rest) ≡ w ∷ blocks_among rest
-named_one w rest is = ap (λ (b : Bool). (if b then w ∷ [] else []) ++ blocks_among rest) is
+abbrev blocks_among : List Wanted → List Wanted
+blocks_among [] = []
+blocks_among (w ∷ wanted) = (if w.named then w ∷ [] else []) ++ blocks_among wanted
 
-unnamed_one : (w : Wanted) (rest : List Wanted) → w.named ≡ false → blocks_among (w ∷ rest) ≡ blocks_among rest
-unnamed_one w rest is = ap (λ (b : Bool). (if b then w ∷ [] else []) ++ blocks_among rest) is
+none_among : (parts : List Wanted) → AreUnnamed parts → blocks_among parts ≡ []
+none_among [] it = refl
+none_among (w ∷ parts) it = ap (λ (b : Bool). (if b then w ∷ [] else []) ++ blocks_among parts) it.0
+    ∙ none_among parts it.1
 
-among_append : (xs ys : List Wanted) → blocks_among (xs ++ ys) ≡ blocks_among xs ++ blocks_among ys
-among_append [] ys = refl
-among_append (w ∷ xs) ys = ap (λ (l : List Wanted). (if w.named then w ∷ [] else []) ++ l) (among_append xs ys)
-    ∙ sym (append_assoc (if w.named then w ∷ [] else []) (blocks_among xs) (blocks_among ys))
+all_among : (blocks parts : List Wanted) → AreBlocks blocks → AreUnnamed parts
+    → blocks_among (blocks ++ parts) ≡ blocks
+all_among [] parts are plain = none_among parts plain
+all_among (w ∷ blocks) parts are plain =
+    ap (λ (b : Bool). (if b then w ∷ [] else []) ++ blocks_among (blocks ++ parts)) are.0.named
+    ∙ ap (λ (l : List Wanted). w ∷ l) (all_among blocks parts are.1 plain)
 
-if_unnamed : (b : Bool) (w : Wanted) (rest : List Wanted) → w.named ≡ false → blocks_among rest ≡ []
-    → blocks_among ((if b then [] else w ∷ []) ++ rest) ≡ []
-if_unnamed true w rest plain none = none
-if_unnamed false w rest plain none = unnamed_one w rest plain ∙ none
-
--- none is among those of the parts
-none_among : (many : List ℕ) (parts : List Wanted) → AreUnnamed parts → blocks_among (news many parts) ≡ []
-none_among many [] it = refl
-none_among many (w ∷ parts) it = if_unnamed (has_next many w.element) w (news (met many w.element) parts) it.0
-    (none_among (met many w.element) parts it.1)
-
-drop_none : (n : ℕ) → ◌≡◌ {A = List Wanted} (drop n []) []
-drop_none zero = refl
-drop_none (suc n) = refl
-
-drop_one : (a b : ℕ) (w : Wanted) (l : List Wanted) → a + 1 ≡ b → drop a l ≡ drop b (w ∷ l)
-drop_one a zero w l e = absurd (omega (arith, e))
-drop_one a (suc b) w l e = ap (λ (n : ℕ). drop n l) (omega (arith, e))
+-- ---- their bases
 
 none_if : (n : ℕ) → nat_lt 0 n ≡ false → n ≡ 0
 none_if n e = grind (arith, nat_tests, e)
@@ -95,31 +83,6 @@ none_if n e = grind (arith, nat_tests, e)
 met_same : (many : List ℕ) (e : ℕ) → has_next many e ≡ false → met many e ≡ many
 met_same many e none = ap (λ (b : Bool). if b then slice_set many e (left_of many e - 1)
     else many) none
-
--- of the blocks and the others those are new that lie behind what element 0 has
-pub blocks_new : (many : List ℕ) (blocks parts : List Wanted) → AreBlocks blocks → AreUnnamed parts
-    → blocks_among (news many (blocks ++ parts)) ≡ drop (left_of many 0) blocks
-blocks_new many [] parts are plain = none_among many parts plain ∙ sym (drop_none (left_of many 0))
-blocks_new many (w ∷ blocks) parts are plain = by_next (has_next many w.element) refl
-    (blocks_new (met many w.element) blocks parts are.1 plain)
-  where
-    by_next : (b : Bool) → has_next many w.element ≡ b
-        → blocks_among (news (met many w.element) (blocks ++ parts)) ≡ drop (left_of (met many w.element) 0) blocks
-        → blocks_among ((if b then [] else w ∷ []) ++ news (met many w.element) (blocks ++ parts))
-        ≡ drop (left_of many 0) (w ∷ blocks)
-    by_next true has further = further ∙ drop_one (left_of (met many w.element) 0) (left_of many 0) w blocks
-        (subst (λ (x : ℕ). left_of (met many w.element) x + 1 ≡ left_of many x) are.0.element
-        (met_here many w.element has))
-    by_next false has further =
-        let none : left_of many 0 ≡ 0 = subst (λ (x : ℕ). left_of many x ≡ 0) are.0.element
-        (none_if (left_of many w.element) has) in
-        named_one w (news (met many w.element) (blocks ++ parts)) are.0.named
-        ∙ ap (λ (l : List Wanted). w ∷ l) (further
-        ∙ ap (λ (l : List ℕ). drop (left_of l 0) blocks) (met_same many w.element has)
-        ∙ ap (λ (n : ℕ). drop n blocks) none)
-        ∙ sym (ap (λ (n : ℕ). drop n (w ∷ blocks)) none)
-
--- ---- their bases
 
 no_base : (known : List ℕ) (end longer : ℕ) (b n : Bool) (parts : List Wanted) → n ≡ false
     → (if b && n then end ∷ [] else []) ++ bases_had known (if b && n then longer else end) parts
@@ -215,13 +178,13 @@ heard_wanted (line ∷ lines) d = by_line (heard true d line) (heard_wanted line
     by_line None behind = refl
     by_line (Some (next, h)) behind = ap (λ (l : List Wanted). wanted_by (said_by h) ++ l) (behind next)
 
-heard_blocks : (had : List ℕ) (hs : List Heard) → blocks_of had hs ≡ blocks_among (news had (all_wanted hs))
-heard_blocks had [] = refl
-heard_blocks had (h ∷ hs) =
-    let here = wanted_by (said_by h) in
-    ap (λ (l : List Wanted). line_blocks had h ++ l) (heard_blocks (settled_past had h) hs)
-    ∙ sym (among_append (news had here) (news (met_all had here) (all_wanted hs)))
-    ∙ ap blocks_among (sym (news_append had here (all_wanted hs)))
+heard_blocks : (hs : List Heard) → blocks_of hs ≡ blocks_among (all_wanted hs)
+heard_blocks [] = refl
+heard_blocks (Says Nothing ∷ hs) = heard_blocks hs
+heard_blocks (Says (Block b) ∷ hs) = ap (λ (l : List Wanted). wanted_by (Block b) ++ l) (heard_blocks hs)
+heard_blocks (Says (Begins element) ∷ hs) = heard_blocks hs
+heard_blocks (Says (Asks line) ∷ hs) = heard_blocks hs
+heard_blocks (Glances element place ∷ hs) = heard_blocks hs
 
 -- ---- those of a script
 
@@ -229,25 +192,16 @@ pub record HasSplit (text : List ℕ) : Type 0 where
   pub parts : List Wanted
   pub split : IsSplit (wanted_of text) (setup_blocks text) parts
 
--- the blocks of a script that are new, where so many requests are had
-blocks_by : (text : List ℕ) (had : List ℕ) (blocks parts : List Wanted) → IsSplit (wanted_of text) blocks parts
-    → blocks_of had (script_heard text) ≡ drop (left_of had 0) blocks
-blocks_by text had blocks parts it = heard_blocks had (script_heard text)
-    ∙ ap (λ (l : List Wanted). blocks_among (news had l)) (sym (heard_wanted (lines_of text) new_draft) ∙ it.all)
-    ∙ blocks_new had blocks parts it.first it.others
-
 pub has_split : (text : List ℕ) → HasSplit text
 has_split text =
     let it = split_by (wanted_of text) (setup_first text) in
-    let same : setup_blocks text ≡ it.0 = blocks_by text [] it.0 it.1.0 it.1.1 in
+    let same : setup_blocks text ≡ it.0 = heard_blocks (script_heard text)
+    ∙ ap blocks_among (sym (heard_wanted (lines_of text) new_draft) ∙ it.1.1.all)
+    ∙ all_among it.0 it.1.0 it.1.1.first it.1.1.others in
     record {
       parts = it.1.0;
       split = subst (λ (l : List Wanted). IsSplit (wanted_of text) l it.1.0) (sym same) it.1.1;
     }
-
-pub blocks_left_of : (text : List ℕ) (had : List ℕ)
-    → blocks_of had (script_heard text) ≡ drop (left_of had 0) (setup_blocks text)
-blocks_left_of text had = let it = has_split text in blocks_by text had (setup_blocks text) it.parts it.split
 
 pub bases_had_of : (text : List ℕ) (had : List ℕ)
     → bases_had had 0 (wanted_of text) ≡ sums_of 0 (take (left_of had 0) (setup_blocks text))

@@ -11,13 +11,12 @@ use Rattle.im_controller.specs.{Kept.accepted_in, Planned.AreOnPlan, Planned.IsO
 use Rattle.{im_serving.specs.declared.Intent.Intent, im_script.specs.declared.Heard.Heard}
 use Rattle.im_serial.proofs.BegunLemmas.{accepted_after, accepted_first, is_memory, IsStuck, leads_first, names_all}
 use Rattle.im_serial.proofs.BegunLemmas.{run_comes, Stands}
-use Rattle.im_serial.specs.{Asked.bases_after, Asked.Leads, Asked.Wanted, Asked.wanted_of, Begun.new_memory}
-use Rattle.im_serial.specs.{Fitting.FitsScript, Had.left_of, Had.numbers_had, Had.sums_of, Once.AreMade, Once.HasMade}
+use Rattle.im_serial.specs.Asked.{bases_after, Leads, Wanted, wanted_of}
+use Rattle.im_serial.specs.{Begun.new_memory, Had.left_of, Had.numbers_had, Had.sums_of, Once.AreMade, Once.HasMade}
 use Rattle.im_run.proofs.CountLemmas.{accept_split, blocks_asked_all, had_more, names_count, nothing_made, sums_count}
-use Rattle.im_run.proofs.KnownLemmas.{drop_past, Knows, knows}
-use Rattle.im_run.proofs.SplitLemmas.{AreBlocks, blocks_first, blocks_setup, count_blocks, has_split, made_first}
-use Rattle.im_run.specs.Orders.{AreAllOrders, Ask, ask_if, asks_from, bases_made, blocks_asked, rest_of, script_heard}
-use Rattle.im_run.specs.Orders.{SetsUp}
+use Rattle.im_run.proofs.SplitLemmas.{AreBlocks, bases_had_of, blocks_first, blocks_setup, count_blocks, has_split}
+use Rattle.im_run.proofs.SplitLemmas.{made_first}
+use Rattle.im_run.specs.Orders.{AreAllOrders, Ask, ask_if, asks_from, bases_made, rest_of, script_heard, SetsUp}
 use Rattle.im_run.specs.{Planned.plan_of, Stops.HasRunByPlan, Stops.IsOwnPlan, Stops.new_bases, Stops.setup_blocks}
 
 -- ---- lists
@@ -38,6 +37,17 @@ drop_front (w ∷ done) rest = drop_front done rest
 take_front : (done rest : List Wanted) → take (length done) (done ++ rest) ≡ done
 take_front [] rest = refl
 take_front (w ∷ done) rest = ap (λ (l : List Wanted). w ∷ l) (take_front done rest)
+
+drop_past : (n : ℕ) (l : List Wanted) → length l ≤ n → drop n l ≡ []
+drop_past zero [] le = refl
+drop_past (suc n) [] le = refl
+drop_past zero (w ∷ l) le = absurd (omega arith)
+drop_past (suc n) (w ∷ l) le = drop_past n l (omega arith)
+
+drop_taken : (n : ℕ) (l : List Wanted) → drop (length (take n l)) l ≡ drop n l
+drop_taken zero l = refl
+drop_taken (suc n) [] = refl
+drop_taken (suc n) (w ∷ l) = drop_taken n l
 
 drop_count : (n : ℕ) (l : List Wanted) → length l ≤ n + length (drop n l)
 drop_count zero l = omega arith
@@ -199,7 +209,7 @@ run_first limits text put m it many = ⊎_elim by_setup by_others (below_or_from
 -- ---- the setup of a run that goes on
 
 module _ (limits : Limits) (text : List ℕ) (put : List Command) (n : Contents)
-    (accepted : accept_each (new_memory limits) put ≡ Some n) (fit : FitsScript n (wanted_of text)) where
+    (accepted : accept_each (new_memory limits) put ≡ Some n) where
   n_is : n ≡ after (new_memory limits) put
   n_is = accepted_after (new_memory limits) put n accepted
 
@@ -209,8 +219,17 @@ module _ (limits : Limits) (text : List ℕ) (put : List Command) (n : Contents)
   are : AreBlocks (setup_blocks text)
   are = (has_split text).split.first
 
-  known : Knows n text
-  known = knows limits.cells limits.elements n memory text fit
+  first_known : (rest_of n text).bases ≡ sums_of 0 (take (left_of (numbers_had n) 0) (setup_blocks text))
+  first_known = bases_had_of text (numbers_had n)
+
+  -- the blocks that a run asks for are those that element 0 didn't ask for yet
+  asked_known : (rest_of n text).blocks ≡ drop (left_of (numbers_had n) 0) (setup_blocks text)
+  asked_known =
+      let taken = take (left_of (numbers_had n) 0) (setup_blocks text) in
+      ap (λ (b : List ℕ). drop (length b) (setup_blocks text)) first_known
+      ∙ ap (λ (k : ℕ). drop k (setup_blocks text))
+      (sums_count 0 taken (blocks_taken (left_of (numbers_had n) 0) (setup_blocks text) are))
+      ∙ drop_taken (left_of (numbers_had n) 0) (setup_blocks text)
 
   -- the setup by what is known
   leads_known : (setup : List Command) (left : List Wanted) → SetsUp (rest_of n text) n setup left
@@ -218,15 +237,15 @@ module _ (limits : Limits) (text : List ℕ) (put : List Command) (n : Contents)
       (drop (left_of (numbers_had n) 0) (setup_blocks text)) setup left
   leads_known setup left it =
       subst (λ (l : List Wanted). Leads n (sums_of 0 (take (left_of (numbers_had n) 0) (setup_blocks text))) l setup
-      left) known.asked
-      (subst (λ (b : List ℕ). Leads n b (blocks_asked (rest_of n text)) setup left) known.first it)
+      left) asked_known
+      (subst (λ (b : List ℕ). Leads n b ((rest_of n text).blocks) setup left) first_known it)
 
   bases_known : (setup : List Command) → bases_made (rest_of n text) n setup
       ≡ bases_after n (sums_of 0 (take (left_of (numbers_had n) 0) (setup_blocks text)))
       (drop (left_of (numbers_had n) 0) (setup_blocks text)) setup
-  bases_known setup = ap (λ (b : List ℕ). bases_after n b (blocks_asked (rest_of n text)) setup) known.first
+  bases_known setup = ap (λ (b : List ℕ). bases_after n b ((rest_of n text).blocks) setup) first_known
       ∙ ap (λ (l : List Wanted). bases_after n (sums_of 0 (take (left_of (numbers_had n) 0) (setup_blocks text))) l
-      setup) known.asked
+      setup) asked_known
 
   -- ---- all of it was asked for
 

@@ -5,42 +5,9 @@ use Rattle.std.{proofs.lemmas.Bool.Decides.nat_tests, specs.Option.option_map_or
 use Rattle.im_types.{specs.Types.Request, specs.Types.Window, specs.Types.next_number, proofs.Tests.and_both}
 use Rattle.{im_laws.proofs.Tests.some_same, im_serving.specs.declared.Intent.Intent}
 use Rattle.im_plans.specs.Runs.{HasServed, IsInPlan, IsTaken}
-use Rattle.im_script.specs.declared.{Allocation.Allocation, Heard.TheVariants.Says, ScriptLine.ScriptLine}
-use Rattle.im_script.specs.declared.Said.{Said, TheVariants.Asks, TheVariants.Block}
-use Rattle.im_serial.specs.{Asked.Wanted, Asked.wanted_by, Had.met_all, Had.news}
-use Rattle.im_run.proofs.OrdersLemmas.{heard_asked, heard_block, heard_nothing, prefix_same}
-use Rattle.im_run.specs.{declared.sheet.Order.Order, Orders.AddsRequest, Orders.Ask, Orders.ask_of, Orders.HasHeard}
+use Rattle.im_run.specs.{declared.sheet.Order.Order, Orders.Ask, Orders.ask_of}
 use Rattle.im_run.specs.Planned.{all_below, AreServed, next_or, plan_of, requests_from}
 use Rattle.im_serving.specs.declared.intent.Intent.TheVariants as intent_kinds
-
--- ---- a line, where nothing is settled
-
-all_new : (wanted : List Wanted) → news [] wanted ≡ wanted
-all_new [] = refl
-all_new (w ∷ wanted) = ap (λ (l : List Wanted). w ∷ l) (all_new wanted)
-
-none_left : (wanted : List Wanted) → met_all [] wanted ≡ []
-none_left [] = refl
-none_left (w ∷ wanted) = none_left wanted
-
--- it asks for nothing
-pub whole_nothing : (bases : List ℕ) (said : Said) (orders : List Order) → wanted_by said ≡ []
-    → HasHeard [] (Says said) bases bases orders orders []
-whole_nothing bases said orders none = heard_nothing [] [] bases bases said orders (prefix_same bases bases refl)
-    (all_new (wanted_by said) ∙ none) (sym (none_left (wanted_by said)))
-
--- it makes a block
-pub whole_block : (bases : List ℕ) (said : Said) (b : Allocation) (orders : List Order) → said ≡ Block b
-    → HasHeard [] (Says said) bases bases orders orders []
-whole_block bases said b orders block = heard_block [] [] bases bases said b orders block
-    (prefix_same bases bases refl) (all_new (wanted_by said)) (sym (none_left (wanted_by said)))
-
--- it is a request of a part
-pub whole_asked : (bases : List ℕ) (said : Said) (line : ScriptLine) (old new : List Order) → said ≡ Asks line
-    → AddsRequest bases (record { element = line.element; action = line.action; named = false }) old new
-    → HasHeard [] (Says said) bases bases old new []
-whole_asked bases said line old new asks adds = heard_asked [] [] bases bases bases said line old new asks refl
-    (prefix_same bases bases refl) adds (all_new (wanted_by said)) (sym (none_left (wanted_by said)))
 
 -- ---- what was served of it
 

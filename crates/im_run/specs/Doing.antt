@@ -12,6 +12,14 @@ use Rattle.im_run.specs.Orders.{AreOrders, ArePartsThere, Ask, bases_made, Scope
 use mathlib.Core.List.{IsPrefix}
 use Rattle.im_run.specs.declared.served.Did.TheVariants as did
 
+-- ---- what comes of each of several things
+
+-- of each of these so much, one's behind another's
+abbrev pub EachInTurn : {A B : Type 0} → (A → List B → Type 0) → List A → List B → Type 0
+EachInTurn {A} {B} Of [] all = all ≡ []
+EachInTurn {A} {B} Of (x ∷ xs) all = (mine : List B) × ((others : List B) × ((all ≡ mine ++ others)
+    × (Of x mine × EachInTurn Of xs others)))
+
 -- ---- what is told of it
 
 -- What is told of what an element asks for: of each request, under the numbers from this one on, its entry, and of each
@@ -43,10 +51,7 @@ pub record IsOrderTold (m : Contents) (trace : List Line) (none : Type 0) (order
 
 -- the same of each of these orders, one behind another
 abbrev pub AreAllTold : Contents → List Line → Type 0 → List Ask → List Did → Type 0
-AreAllTold m trace none [] told = told ≡ []
-AreAllTold m trace none (order ∷ orders) told =
-    (mine : List Did) × ((others : List Did) × ((told ≡ mine ++ others)
-    × (IsOrderTold m trace none order mine × AreAllTold m trace none orders others)))
+AreAllTold m trace none orders told = EachInTurn (IsOrderTold m trace none) orders told
 
 -- The setup of a script was served whole on this memory, by these commands, and the names stand for the bases that
 -- they made. The memory has the element of each part, of one with no line too. Then its parts were served, with this
@@ -58,7 +63,7 @@ pub record HasToldScript (s : Scope) (Also : List Ask → Type 0) (start : Conte
   pub made : SetsUp s start setup []
   pub parts : ArePartsThere (length start.windows) s.lines
   pub orders : List Ask
-  pub of_script : AreOrders s (after start setup) (bases_made s start setup) orders
+  pub of_script : AreOrders (s.first (after start setup)) (bases_made s start setup) s.lines orders
   pub all : AreAllTold (after start setup) trace none orders told
   pub alone : none → AreCallsOf orders trace
   pub also : Also orders
@@ -96,27 +101,22 @@ pub record IsPartOf (m : Contents) (order : Ask) (p : Asked) : Type 0 where
   pub untold : p.deeds.port.told.marked ≡ 0
   pub seen : AreGlanced m p.deeds.port.element p.deeds.last p.deeds.seen p.deeds.made
 
--- the elements of these parts
-abbrev pub part_elements : List Asked → List ℕ
-part_elements parts = map (λ p. p.deeds.port.element) parts
+-- a part was made for an order, or something was refused and none was
+abbrev pub HasPart : Contents → Type 0 → Ask → List Asked → Type 0
+HasPart m none order parts =
+    ((none → ⊥) × (parts ≡ [])) ⊎ ((p : Asked) × ((parts ≡ p ∷ []) × IsPartOf m order p))
 
--- the same at their ends
-abbrev pub elements_at_end : List End → List ℕ
-elements_at_end ends = map (λ d. d.deeds.port.element) ends
-
--- These parts were made for the orders, one after another. An order has none only if something was refused.
+-- the same of each of these orders, one behind another
 abbrev pub HaveAllParts : Contents → Type 0 → List Ask → List Asked → Type 0
-HaveAllParts m none [] parts = parts ≡ []
-HaveAllParts m none (order ∷ orders) parts = ((none → ⊥) × HaveAllParts m none orders parts)
-    ⊎ ((p : Asked) × ((rest : List Asked) × ((parts ≡ p ∷ rest)
-    × (IsPartOf m order p × HaveAllParts m none orders rest))))
+HaveAllParts m none orders parts = EachInTurn (HasPart m none) orders parts
 
 -- a part was made for an order more, or something was refused
 pub record MakesPart (m : Contents) (order : Ask) (old new : List Asked)
     (before later : Option (ℕ × Refusal)) : Type 0 where
   pub none : later ≡ None → before ≡ None
-  pub made : ((later ≡ None → ⊥) × (new ≡ old))
-      ⊎ ((p : Asked) × (IsPartOf m order p × (new ≡ old ++ p ∷ [])))
+  pub mine : List Asked
+  pub is : new ≡ old ++ mine
+  pub made : HasPart m (later ≡ None) order mine
 
 -- all that these ports have seen stands in the trace
 abbrev pub HaveSeen : List Line → List PortState → Type 0
@@ -129,10 +129,7 @@ pub record IsNoted (trace : List Line) (none : Type 0) (d : End) (told : List Di
 
 -- the same of each of these ends, one behind another
 abbrev pub AreAllNoted : List Line → Type 0 → List End → List Did → Type 0
-AreAllNoted trace none [] told = told ≡ []
-AreAllNoted trace none (d ∷ ends) told =
-    (mine : List Did) × ((others : List Did) × ((told ≡ mine ++ others)
-    × (IsNoted trace none d mine × AreAllNoted trace none ends others)))
+AreAllNoted trace none ends told = EachInTurn (IsNoted trace none) ends told
 
 -- a port was kept and these lines were added, or something was refused and none was
 abbrev pub AddsLines : PortState → List Did → List PortState → List Did → List Did → Option (ℕ × Refusal) → Type 0
@@ -144,6 +141,6 @@ pub record NotesEnd (d : End) (old new : List PortState) (told more : List Did)
     (before later : Option (ℕ × Refusal)) : Type 0 where
   pub ports : (trace : List Line) → HaveSeen trace new → HaveSeen trace old
   pub none : later ≡ None → before ≡ None
-  pub well : later ≡ None → IsOk d.result
-  pub noted : ((later ≡ None → ⊥) × (more ≡ told))
-      ⊎ (((trace : List Line) → HaveSeen trace new → IsPrefix d.deeds.port.history trace) × (more ≡ told ++ told_at d))
+  pub mine : List Did
+  pub is : more ≡ told ++ mine
+  pub noted : (trace : List Line) → HaveSeen trace new → IsNoted trace (later ≡ None) d mine

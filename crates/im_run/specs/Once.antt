@@ -41,7 +41,7 @@ abbrev pub ServesRest : Bool → Contents → List ℕ → List Line → Type 0 
     → List Ask → Type 0
 ServesRest planned m text trace none setup put doubt orders =
     (all : HasServedAll (bases_made (rest_of m text) m setup) (script_heard text) (after m put) none)
-    × (planned ≡ true → EndsOnPlan (Unit {0}) (plan_of all.whole) (after m setup) trace doubt (after m put) none)
+    × (planned ≡ true → EndsOnPlan true (plan_of all.whole) (after m setup) trace doubt (after m put) none)
 
 -- The lines of what the memory has of the script were printed and written out. It fits the script: what is kept under
 -- the script's numbers is of its operations, and each block of the setup that it has was made. The rest was run, as a

@@ -1,10 +1,10 @@
 -- A script's requests as a plan. (Own.)
-use Rattle.std.specs.Prelude.{◌≡◌, ℕ, suc, Bool, true, ◌&&◌, ◌⊎◌, List, [], ◌∷◌, ◌++◌, nat_lt, slice_get, Some, None}
-use Rattle.std.specs.Prelude.{Option}
+use Rattle.std.specs.Prelude.{◌≡◌, ℕ, suc, Bool, true, false, ◌&&◌, ◌⊎◌, List, [], ◌∷◌, ◌++◌, nat_lt, slice_get, Some}
+use Rattle.std.specs.Prelude.{None, Option}
 use Rattle.std.specs.Option.{option_map_or}
-use Rattle.im_types.specs.Types.{Request, Command, Line, Window, Contents, next_number, after, FitsPlan}
+use Rattle.im_types.specs.Types.{Request, Command, Line, Window, Contents, next_number, after}
 use Rattle.im_plans.specs.Runs.{HasServed}
-use Rattle.im_controller.specs.Planned.{AreOnPlan, EndsAsPlanned}
+use Rattle.im_controller.specs.Planned.{AreOnPlan, EndsAsPlanned, MayStart}
 use Rattle.im_serving.specs.declared.Intent.{Intent, TheVariants.Glance, TheVariants.Request as Asks}
 use Rattle.im_run.specs.{declared.sheet.Order.Order, Orders.Ask}
 
@@ -50,20 +50,16 @@ abbrev pub planned_orders : Option (List Ask) → List Ask → List Ask
 planned_orders None orders = orders
 planned_orders (Some whole) orders = whole
 
--- the plan fits the memory, if it doesn't go on from what was done before
-abbrev pub FitsIfNew : Option (List Ask) → Contents → List Request → Type 0
-FitsIfNew None m plan = FitsPlan m plan
-FitsIfNew (Some whole) m plan = Unit {0}
-
 -- all requests of a script were served, if they are known
 abbrev pub HasServedWhole : List Window → Option (List Ask) → Type 0
 HasServedWhole windows None = Unit {0}
 HasServedWhole windows (Some whole) = HasServed windows (plan_of whole)
 
--- A run went by this plan from the one memory to the other, with this trace, and left these commands in doubt.
-pub record RanByPlan (Fits : Type 0) (plan : List Request) (m : Contents) (trace : List Line) (doubt : List Command)
+-- A run went by this plan from the one memory to the other, with this trace, and left these commands in doubt. The plan
+-- fits the one memory, or, if a run before may have begun it, is under way there.
+pub record RanByPlan (begun : Bool) (plan : List Request) (m : Contents) (trace : List Line) (doubt : List Command)
     (end : Contents) (none : Type 0) : Type 0 where
-  pub fits : Fits
+  pub fits : MayStart begun m plan
   -- it ended as the plan says
   pub ended : EndsAsPlanned m plan trace end
   -- the plan has the requests in doubt too
@@ -78,12 +74,12 @@ pub record DidNotBegin (trace : List Line) (doubt : List Command) (none : Type 0
   pub refused : none → ⊥
 
 -- a run by this plan ended as the plan says, or it didn't begin
-abbrev pub EndsOnPlan : Type 0 → List Request → Contents → List Line → List Command → Contents → Type 0 → Type 0
-EndsOnPlan Fits plan m trace doubt end none =
-    RanByPlan Fits plan m trace doubt end none ⊎ DidNotBegin trace doubt none
+abbrev pub EndsOnPlan : Bool → List Request → Contents → List Line → List Command → Contents → Type 0 → Type 0
+EndsOnPlan begun plan m trace doubt end none =
+    RanByPlan begun plan m trace doubt end none ⊎ DidNotBegin trace doubt none
 
 -- The same of a run from this memory on, with this setup: the plan is of all requests of its orders, and fits the
 -- memory behind the setup.
 abbrev pub GoesByPlan : Contents → List Line → Type 0 → List Command → List Command → List Command → List Ask → Type 0
-GoesByPlan m trace none setup put doubt orders = EndsOnPlan (FitsPlan (after m setup) (plan_of orders)) (plan_of orders)
-    (after m setup) trace doubt (after m put) none
+GoesByPlan m trace none setup put doubt orders =
+    EndsOnPlan false (plan_of orders) (after m setup) trace doubt (after m put) none

@@ -1,6 +1,6 @@
 -- What a run of element servers prints, and what its session puts on a disk. (Own.)
-use Rattle.std.specs.Prelude.{◌≡◌, ℕ, ◌<◌, ◌≤◌, Bool, true, false, ◌⊎◌, List, [], ◌∷◌, ◌++◌, length, slice_get, Some}
-use Rattle.std.specs.Prelude.{None, Ok, Err, codes, decimal, Option, Result}
+use Rattle.std.specs.Prelude.{◌≡◌, ℕ, ◌<◌, ◌≤◌, Bool, true, false, ◌⊎◌, List, [], ◌∷◌, ◌++◌, length, is_some, slice_get}
+use Rattle.std.specs.Prelude.{Some, None, Ok, Err, codes, decimal, Option, Result}
 use Rattle.std.specs.Io.KnownBytes.{Appends}
 use Rattle.im_types.specs.Types.{Entry, Command, Line, Refusal, Device, Failed, Contents, ask, after, IsLegal}
 use Rattle.{im_disk.specs.declared.Disk.Ghosts, im_engine.specs.State.EngineState, im_controller.specs.Kept.accepted_in}
@@ -14,7 +14,7 @@ use Rattle.im_run.specs.{Alone.AreCallsOf, Doing.AreAllTold, Doing.HasToldScript
 use Rattle.im_run.specs.declared.{run.TheConstants.STALLED, sheet.Order.Order}
 use Rattle.im_run.specs.declared.served.Did.{Did, TheVariants.Glanced, TheVariants.Sent}
 use Rattle.im_run.specs.Orders.{all_of, Ask, Scope, SetsUp}
-use Rattle.im_run.specs.Planned.{EndsOnPlan, FitsIfNew, GoesByPlan, HasServedWhole, plan_of, planned_orders}
+use Rattle.im_run.specs.Planned.{EndsOnPlan, GoesByPlan, HasServedWhole, plan_of, planned_orders}
 
 -- the reason that a call of the disk failed
 abbrev pub disk_failed : Reason
@@ -92,8 +92,8 @@ pub record ServersEnded {D : Type 0} (disk : Ghosts D) (planned : Bool) (whole :
     pub alone : none → AreCallsOf orders trace
     pub all_served : none → HasServedWhole engine.memory.windows whole
     pub as_planned : begun.engine.failed ≡ false → planned ≡ true
-        → EndsOnPlan (FitsIfNew whole begun.engine.memory (plan_of (planned_orders whole orders)))
-        (plan_of (planned_orders whole orders)) begun.engine.memory trace doubt engine.memory none
+        → EndsOnPlan (is_some whole) (plan_of (planned_orders whole orders)) begun.engine.memory trace doubt
+        engine.memory none
 
 -- A session's servers of these orders ended with this trace, the session was closed, and this status was given.
 pub record EndedOn {D : Type 0} (disk : Ghosts D) (planned : Bool) (whole : Option (List Ask)) (orders : List Ask)

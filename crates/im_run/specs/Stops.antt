@@ -13,7 +13,7 @@ use Rattle.im_run.specs.{Orders.AreAllOrders, Orders.Ask, Orders.blocks_of, Orde
 
 -- the blocks of its setup
 abbrev pub setup_blocks : List ℕ → List Wanted
-setup_blocks text = blocks_of [] (script_heard text)
+setup_blocks text = blocks_of (script_heard text)
 
 -- the bases that its names stand for there: each block stands behind those before it
 abbrev pub new_bases : List ℕ → List ℕ

@@ -1,18 +1,14 @@
 //! The beginning of a run, before any thread starts.
-ghost use Rattle.std.specs.Prelude.{◌≡◌, ◌≤◌, true, false, map, length, IfSome, IfNone, IfOk, IfErr, OnOk, Some};
-ghost use Rattle.{im_types.specs.Types.FitsPlan, im_controller.specs.State.is_recorded};
+ghost use Rattle.std.specs.Prelude.{◌≡◌, ◌≤◌, true, map, length, is_some, IfSome, IfNone, IfOk, IfErr, OnOk, Some};
+ghost use Rattle.im_controller.specs.{Planned.MayStart, State.is_recorded, State.OpensAs};
 ghost use Rattle.im_run.specs.{Orders.ask_of, Orders.asks_in, Running.AreThere};
-ghost use Rattle.im_run.specs.Planned.{FitsIfNew, plan_of, planned_orders};
+ghost use Rattle.im_run.specs.Planned.{plan_of, planned_orders};
 
 use crate::planned::{make_plan, plan_fault};
 use crate::sheet::{Order, Workload};
-use im_controller::{
-    Opening, resume_planned, resume_planned_unrecorded, start, start_planned,
-    start_planned_unrecorded, start_unrecorded,
-};
+use im_controller::{AskedPlan, Opening, start, start_planned};
 use im_disk::Disk;
 use im_memory::Memory;
-use im_planning::Plan;
 use im_session::Session;
 use im_text::Reason;
 use im_types::{Refusal, WINDOW};
@@ -37,53 +33,7 @@ fn missing_element(memory: &Memory, orders: &[Order]) -> Option<u16>
 #[derive(Clone, Copy)]
 struct PlanStart {
     room: Option<usize>,
-    resumed: bool,
-}
-
-// Starts under a plan.
-fn start_by<D: Disk + Drop, R: Wait>(
-    rt: &R,
-    alloc: Global,
-    session: Session<D>,
-    plan: Plan,
-    start: PlanStart,
-) -> Result<Opening<D>, (Refusal, Session<D>)>
-    ensures found { IfOk result (λ o. (o.session ≡ session) × (o.plan ≡ Some plan)) }
-    ensures recorded { IfOk result (λ o. o.book.recorded ≡ is_recorded start.room) }
-    ensures fits { OnOk result (start.resumed ≡ false → FitsPlan session.engine.memory plan) }
-    ensures same { IfErr result (λ e. e.1 ≡ session) }
-{
-    match start.room {
-        Some(room) => {
-            if start.resumed {
-                return resume_planned(rt, alloc, session, plan, room);
-            }
-            start_planned(rt, alloc, session, plan, room)
-        }
-        None => {
-            if start.resumed {
-                return resume_planned_unrecorded(rt, alloc, session, plan);
-            }
-            start_planned_unrecorded(rt, alloc, session, plan)
-        }
-    }
-}
-
-// The same without a plan.
-fn start_freely<D: Disk + Drop, R: Wait>(
-    rt: &R,
-    alloc: Global,
-    session: Session<D>,
-    room: Option<usize>,
-) -> Result<Opening<D>, (Refusal, Session<D>)>
-    ensures found { IfOk result (λ o. o.session ≡ session) }
-    ensures recorded { IfOk result (λ o. o.book.recorded ≡ is_recorded room) }
-    ensures same { IfErr result (λ e. e.1 ≡ session) }
-{
-    match room {
-        Some(room) => start(rt, alloc, session, room),
-        None => start_unrecorded(rt, alloc, session),
-    }
+    begun: bool,
 }
 
 // Opens for a run under the plan of these orders.
@@ -92,12 +42,10 @@ fn begin_planned<D: Disk + Drop, R: Wait>(
     alloc: Global,
     session: Session<D>,
     orders: &[Order],
-    start: PlanStart,
+    how: PlanStart,
 ) -> Result<Opening<D>, (Reason, Session<D>)>
-    ensures found { IfOk result (λ o. (o.session ≡ session) × (o.plan ≡ Some (plan_of (map ask_of orders.now)))) }
-    ensures recorded { IfOk result (λ o. o.book.recorded ≡ is_recorded start.room) }
-    ensures fits { OnOk result (start.resumed ≡ false
-        → FitsPlan session.engine.memory (plan_of (map ask_of orders.now))) }
+    ensures found { IfOk result (λ o. OpensAs how.room (Some (plan_of (map ask_of orders.now))) session o) }
+    ensures starts { OnOk result (MayStart how.begun session.engine.memory (plan_of (map ask_of orders.now))) }
     ensures same { IfErr result (λ e. e.1 ≡ session) }
 {
     let plan = match make_plan(alloc, orders) {
@@ -107,29 +55,16 @@ fn begin_planned<D: Disk + Drop, R: Wait>(
             return Err((reason, session));
         }
     };
-    match start_by(rt, alloc, session, plan, start) {
+    let asked = AskedPlan {
+        plan,
+        begun: how.begun,
+    };
+    match start_planned(rt, alloc, session, asked, how.room) {
         Ok(opening) => Ok(opening),
         Err((refusal, session)) => {
             let reason = plan_fault(alloc, session.memory(), orders, refusal);
             Err((reason, session))
         }
-    }
-}
-
-// Opens for a run without a plan.
-fn begin_free<D: Disk + Drop, R: Wait>(
-    rt: &R,
-    alloc: Global,
-    session: Session<D>,
-    room: Option<usize>,
-) -> Result<Opening<D>, (Reason, Session<D>)>
-    ensures found { IfOk result (λ o. o.session ≡ session) }
-    ensures recorded { IfOk result (λ o. o.book.recorded ≡ is_recorded room) }
-    ensures same { IfErr result (λ e. e.1 ≡ session) }
-{
-    match start_freely(rt, alloc, session, room) {
-        Ok(opening) => Ok(opening),
-        Err((_, session)) => Err((Reason::Memory, session)),
     }
 }
 
@@ -164,27 +99,20 @@ fn begin_by<D: Disk + Drop, R: Wait>(
     work: &Workload,
     room: Option<usize>,
 ) -> Result<Opening<D>, (Reason, Session<D>)>
-    ensures found { IfOk result (λ o. (o.session ≡ session)
-        × (o.plan ≡ Some (plan_of (planned_orders (asks_in work.now.whole) (map ask_of work.now.orders.items))))) }
-    ensures recorded { IfOk result (λ o. o.book.recorded ≡ is_recorded room) }
-    ensures fits { OnOk result (FitsIfNew (asks_in work.now.whole) session.engine.memory
+    ensures found { IfOk result (λ o. OpensAs room (Some
+        (plan_of (planned_orders (asks_in work.now.whole) (map ask_of work.now.orders.items)))) session o) }
+    ensures fits { OnOk result (MayStart (is_some work.now.whole) session.engine.memory
         (plan_of (planned_orders (asks_in work.now.whole) (map ask_of work.now.orders.items)))) }
     ensures same { IfErr result (λ e. e.1 ≡ session) }
 {
     match &work.whole {
         Some(whole) => {
-            let start = PlanStart {
-                room,
-                resumed: true,
-            };
-            begin_planned(rt, alloc, session, whole.orders.as_slice(), start)
+            let how = PlanStart { room, begun: true };
+            begin_planned(rt, alloc, session, whole.orders.as_slice(), how)
         }
         None => {
-            let start = PlanStart {
-                room,
-                resumed: false,
-            };
-            begin_planned(rt, alloc, session, work.orders.as_slice(), start)
+            let how = PlanStart { room, begun: false };
+            begin_planned(rt, alloc, session, work.orders.as_slice(), how)
         }
     }
 }
@@ -206,7 +134,7 @@ pub fn begin<D: Disk + Drop, R: Wait>(
     ensures found { IfOk result (λ o. o.session ≡ session) }
     ensures plan { IfOk result (λ o. work.now.planned ≡ true
         → o.plan ≡ Some (plan_of (planned_orders (asks_in work.now.whole) (map ask_of work.now.orders.items)))) }
-    ensures fits { OnOk result (work.now.planned ≡ true → FitsIfNew (asks_in work.now.whole) session.engine.memory
+    ensures fits { OnOk result (work.now.planned ≡ true → MayStart (is_some work.now.whole) session.engine.memory
         (plan_of (planned_orders (asks_in work.now.whole) (map ask_of work.now.orders.items)))) }
     ensures recorded { IfOk result (λ o. o.book.recorded ≡ recorded) }
     ensures there { IfOk result (λ _. AreThere session.engine.memory work.now.orders.items) }
@@ -220,5 +148,8 @@ pub fn begin<D: Disk + Drop, R: Wait>(
     if work.planned {
         return begin_by(rt, alloc, session, work, room);
     }
-    begin_free(rt, alloc, session, room)
+    match start(rt, alloc, session, room) {
+        Ok(opening) => Ok(opening),
+        Err((_, session)) => Err((Reason::Memory, session)),
+    }
 }

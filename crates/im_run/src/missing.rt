@@ -1,7 +1,6 @@
 //! The elements of a script's parts that the memory doesn't have (decision 871).
-ghost use Rattle.std.specs.Prelude.{◌≡◌, ◌<◌, None};
-ghost use Rattle.im_script.specs.declared.Heard.TheVariants.{Says};
-ghost use Rattle.im_run.specs.Orders.{BeginsAmong};
+ghost use Rattle.std.specs.Prelude.{◌≡◌, ◌<◌, IfNone, None};
+ghost use Rattle.im_run.specs.Orders.{ArePartsThere, BeginsAmong};
 
 use im_script::{Heard, Said};
 
@@ -18,24 +17,26 @@ fn least_missed(elements: u16, missing: Option<u16>, element: u16) -> Option<u16
     }
 }
 
-// The same, of the element whose part a line of any script begins, if it begins one.
-fn missed_in(elements: u16, missing: Option<u16>, said: Said) -> Option<u16>
-    ensures there { result ≡ None → (missing ≡ None) × BeginsAmong elements (Says said) }
-{
-    match said {
-        Said::Nothing => missing,
-        Said::Block(_block) => missing,
-        Said::Begins(element) => least_missed(elements, missing, element),
-        Said::Asks(_line) => missing,
-    }
-}
-
-/// Returns the least element that is missing, behind a line that may begin a part.
-pub(crate) fn missed_by(elements: u16, missing: Option<u16>, heard: Heard) -> Option<u16>
+// Returns the least element that is missing, behind a line that may begin a part.
+fn missed_by(elements: u16, missing: Option<u16>, heard: Heard) -> Option<u16>
     ensures there { result ≡ None → (missing ≡ None) × BeginsAmong elements heard }
 {
     match heard {
-        Heard::Says(said) => missed_in(elements, missing, said),
+        Heard::Says(Said::Nothing) => missing,
+        Heard::Says(Said::Block(_block)) => missing,
+        Heard::Says(Said::Begins(element)) => least_missed(elements, missing, element),
+        Heard::Says(Said::Asks(_line)) => missing,
         Heard::Glances(_element, _place) => missing,
     }
+}
+
+/// Returns the least element that is missing among so many and whose part these lines begin.
+pub(crate) fn find_missing(elements: u16, lines: &[Heard]) -> Option<u16>
+    ensures { IfNone result (ArePartsThere elements lines.now) }
+{
+    let mut missing = None;
+    for heard in lines {
+        missing = missed_by(elements, missing, *heard);
+    }
+    missing
 }

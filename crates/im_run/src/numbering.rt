@@ -2,29 +2,14 @@
 ghost use Rattle.std.specs.Prelude.{◌≡◌, ℕ, [], ◌++◌, map, IfOk, OnOk, slice_get};
 ghost use Rattle.std.specs.Option.{option_map_or};
 ghost use Rattle.im_types.specs.Types.{next_number};
-ghost use Rattle.im_run.specs.Orders.{AreInTurn, ask_if, ask_of, asks_among, first_asked, intents_at, settled_by};
-ghost use Rattle.im_run.specs.Orders.{settled_when};
+ghost use Rattle.im_run.specs.Orders.{AreInTurn, ask_if, ask_of, asks_among, first_asked, intents_at};
 
 use crate::sheet::Order;
 use im_memory::Memory;
-use im_serial::{Past, first_open};
+use im_serial::first_open;
 use im_text::Reason;
 use im_types::MAX_ELEMENTS;
 use std::alloc::{AllocError, Global};
-
-/// Returns what is settled of a script, if it is done once.
-pub fn settled(alloc: Global, memory: &Memory, once: bool) -> Result<Option<Past>, AllocError>
-    ensures { IfOk result (λ past. settled_by past ≡ settled_when once memory.now.contents) }
-{
-    if once {
-        match Past::settled(alloc, memory) {
-            Ok(past) => Ok(Some(past)),
-            Err(refused) => Err(refused),
-        }
-    } else {
-        Ok(None)
-    }
-}
 
 // Makes an order that asks for nothing yet.
 fn no_order(alloc: Global, element: u16) -> Order

@@ -1,15 +1,16 @@
 //! A script's requests, by servers over the session of an image.
-ghost use Rattle.std.specs.Prelude.{◌≡◌, ◌≤◌, true, ◌⊎◌, [], map, IsOk, Some, None};
-ghost use Rattle.{im_session.specs.Kept.Kept, im_serial.specs.Once.HasServedNothing, im_serial.specs.Serving.seen_by};
-ghost use Rattle.im_run.specs.{Once.RunWhen, Orders.ask_of, Orders.asks_in, Orders.bases_first, Planned.FitsIfNew};
-ghost use Rattle.im_run.specs.{Planned.plan_of, Planned.planned_orders, Running.EndedOn, Running.ServersEnded};
+ghost use Rattle.std.specs.Prelude.{◌≡◌, ◌≤◌, true, ◌⊎◌, [], map, is_some, IsOk, Some, None};
+ghost use Rattle.{im_session.specs.Kept.Kept, im_controller.specs.Planned.MayStart};
+ghost use Rattle.im_serial.specs.{Once.HasServedNothing, Serving.seen_by};
+ghost use Rattle.im_run.specs.{Once.RunWhen, Orders.ask_of, Orders.asks_in, Orders.bases_first, Planned.plan_of};
+ghost use Rattle.im_run.specs.{Planned.planned_orders, Running.EndedOn, Running.ServersEnded};
 
+use crate::assigning::read_orders;
 use crate::beginning::begin;
 use crate::calls::Calls;
 use crate::closing::{Ending, close};
 use crate::context::RunContext;
 use crate::late::tell_late;
-use crate::orders::read_orders;
 use crate::served::{ServedRun, serve_orders};
 use crate::sheet::{Commission, Workload};
 use crate::tracing::Trace;
@@ -48,7 +49,7 @@ fn serve_opening<
 >(context: &RunContext<'_, G, V, R>, opening: Opening<D>, work: Workload) -> (Ending<D>, Calls)
     requires plan { work.planned ≡ true → opening.plan
         ≡ Some (plan_of (planned_orders (asks_in work.whole) (map ask_of work.orders.items))) }
-    requires fits { work.planned ≡ true → FitsIfNew (asks_in work.whole) opening.session.engine.memory
+    requires fits { work.planned ≡ true → MayStart (is_some work.whole) opening.session.engine.memory
         (plan_of (planned_orders (asks_in work.whole) (map ask_of work.orders.items))) }
     requires kept { Kept D.Disk opening.session }
     ensures ended { ServersEnded D.Disk work.planned (asks_in work.whole) (map ask_of work.orders.items)

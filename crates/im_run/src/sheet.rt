@@ -1,13 +1,8 @@
 //! What is read of a script.
 
-use crate::numbering::{no_orders, settled};
-use im_memory::Memory;
-use im_script::{Said, Script};
-use im_serial::Past;
+use im_script::{Heard, Script};
 use im_serving::Intent;
 use im_text::Waited;
-use im_types::Line;
-use std::alloc::{AllocError, Global};
 
 /// What an element asks for, in order.
 #[derive(Drop)]
@@ -67,52 +62,22 @@ pub struct Workload {
 /// What was read of a script.
 #[derive(Drop)]
 pub struct Sheet {
-    /// Where memory comes from.
-    pub alloc: Global,
-    /// What each element asks for.
-    pub orders: Vec<Order>,
-    /// The calls of the setup.
-    pub setup: Vec<Line>,
-    /// What is settled of the lines that weren't read yet, if the script is done once.
-    pub past: Option<Past>,
-    /// The least element that the memory doesn't have and whose part begins among the lines that were read, if there is
-    /// one.
-    pub missing: Option<u16>,
+    /// What its lines say.
+    pub all: Vec<Heard>,
+    /// What is left of them, if it is done once.
+    pub left: Option<Vec<Heard>>,
 }
 
 impl Sheet {
-    ghost use Rattle.std.specs.Prelude.{◌≡◌, ℕ, true, false, [], IfOk};
-    ghost use Rattle.im_serial.specs.{Asked.wanted_by, Had.met_all, Had.news};
-    ghost use Rattle.im_run.specs.Orders.{AreInTurn, intents_at, settled_by, settled_when};
+    ghost use Rattle.std.specs.{Prelude.◌≡◌, Option.option_map_or};
 
-    /// Starts with nothing read.
-    pub fn new(alloc: Global, memory: &Memory, once: bool) -> Result<Sheet, AllocError>
-        ensures settled { IfOk result (λ sheet. settled_by sheet.past ≡ settled_when once memory.now.contents) }
-        ensures places { IfOk result (λ sheet. AreInTurn 0 sheet.orders.items) }
-        ensures none { IfOk result (λ sheet. (element : ℕ) → intents_at sheet.orders.items element ≡ []) }
+    /// Returns the lines that are done.
+    pub fn lines(&self) -> &[Heard]
+        ensures { result.now ≡ option_map_or (λ left. left.items) self.now.left self.now.all.items }
     {
-        let past = settled(alloc, memory, once)?;
-        let orders = no_orders(alloc)?;
-        Ok(Sheet {
-            alloc,
-            orders,
-            setup: Vec::new(alloc),
-            past,
-            missing: None,
-        })
-    }
-
-    /// Meets what a line says. Returns whether that is settled.
-    pub fn has(&mut self, said: Said) -> bool
-        ensures setup { self.new.setup ≡ self.old.setup }
-        ensures orders { self.new.orders.items ≡ self.old.orders.items }
-        ensures new { result ≡ false → news (settled_by self.old.past) (wanted_by said) ≡ wanted_by said }
-        ensures had { result ≡ true → news (settled_by self.old.past) (wanted_by said) ≡ [] }
-        ensures left { settled_by self.new.past ≡ met_all (settled_by self.old.past) (wanted_by said) }
-    {
-        match &mut self.past {
-            Some(past) => past.has(said),
-            None => false,
+        match &self.left {
+            Some(left) => left.as_slice(),
+            None => self.all.as_slice(),
         }
     }
 }

@@ -4,9 +4,9 @@ use Rattle.{im_text.specs.declared.Lines.Lines, im_serial.specs.Asked.standing, 
 use Rattle.im_serial.proofs.{AskedLemmas.named_here, AskedLemmas.stands_here, ScriptedLemmas.as_of}
 use Rattle.im_serial.specs.Serving.{EndedAt, GoingAt, seen_by, server_of}
 use Rattle.im_run.proofs.BlocksLemmas.{begun, names_made, sets_up, setup_course}
-use Rattle.im_run.{proofs.OrdersLemmas.if_ok_at, proofs.OrdersLemmas.match_ok, proofs.RunningLemmas.ended_run}
-use Rattle.im_run.{proofs.RunningLemmas.halted_run, specs.Orders.ask_of, specs.Orders.asks_in, specs.Orders.scope_when}
-use Rattle.im_run.specs.{Once.RunWhen, Running.EndedOn, Tracing.TraceState}
+use Rattle.im_run.proofs.OrdersLemmas.{if_ok_at, match_ok}
+use Rattle.im_run.proofs.RunningLemmas.{ended_run, halted_run}
+use Rattle.im_run.specs.{Once.RunWhen, Orders.ask_of, Orders.asks_in, Running.EndedOn, Tracing.TraceState}
 use Rattle.im_run.proofs.run.run_server.Goals as goal
 
 pub returns-in-Ok-clause-run : goal.returns-in-Ok-clause-run
@@ -21,8 +21,7 @@ returns-in-Ok-clause-run g c =
     let planned = c.args.asked.planned in
     let script = c.args.asked.script.now in
     let known = c.requires.bases in
-    let scope = scope_when once m script in
-    let course = setup_course scope m server.bases.items known in
+    let course = setup_course once m script server.bases.items known in
     let r = c.read_orders-read in
     let from = g.W.Write.contents r.new.out in
     let after = r.new.server in
@@ -48,8 +47,8 @@ returns-in-Ok-clause-run g c =
     same s.ensures.ended)
     (if_ok_at _ r.result.0 c.in-Ok.work c.in-Ok.is r.ensures.orders)
     (if_ok_at _ r.result.0 c.in-Ok.work c.in-Ok.is r.ensures.whole)
-    (sets_up scope m server.bases.items known t.put [] (stands_here m there t.put it.reached))
-    (names_made scope m server.bases.items known t.put bases (named_here m there t.put it.named))
+    (sets_up once m script server.bases.items known t.put [] (stands_here m there t.put it.reached))
+    (names_made once m script server.bases.items known t.put bases (named_here m there t.put it.named))
     (match_ok _ r.result.0 c.in-Ok.work c.in-Ok.is r.ensures.there))
 
 pub returns-in-Err-clause-run : goal.returns-in-Err-clause-run
@@ -64,8 +63,7 @@ returns-in-Err-clause-run g c =
     let planned = c.args.asked.planned in
     let script = c.args.asked.script.now in
     let known = c.requires.bases in
-    let scope = scope_when once m script in
-    let course = setup_course scope m server.bases.items known in
+    let course = setup_course once m script server.bases.items known in
     let r = c.read_orders-read in
     let v = c.leave-session in
     let n = c.no_server-ending in
@@ -91,4 +89,4 @@ returns-in-Err-clause-run g c =
     (halted_run d once planned script start t (Some course) w ended.text held from is lines n.result.did.items
     k.result.1 calls k.result.0 over k.ensures.kept ended.printed n.ensures.none k.ensures.disk k.ensures.works
     (λ zero. n.ensures.refused (k.ensures.done zero)) k.ensures.printed c.new-served.ensures.items over.left
-    (sets_up scope m server.bases.items known (t.put ++ t.doubt) over.left over.leads))
+    (sets_up once m script server.bases.items known (t.put ++ t.doubt) over.left over.leads))

@@ -1,9 +1,9 @@
-use Rattle.std.proofs.Common.{◌≡◌, map, IsOk, sym, ◌∙◌, subst, inr}
-use Rattle.{im_types.specs.Types.IsLegal, im_text.specs.declared.Lines.Lines}
+use Rattle.std.proofs.Common.{◌≡◌, map, is_some, IsOk, sym, ◌∙◌, subst, inr}
+use Rattle.{im_types.specs.Types.IsLegal, im_controller.specs.Planned.MayStart, im_text.specs.declared.Lines.Lines}
 use Rattle.im_session.specs.Kept.{Kept, SessionState}
 use Rattle.im_run.proofs.{DoingLemmas.none_of_all, RunningLemmas.ended_weaker, RunningLemmas.kept_as}
-use Rattle.im_run.specs.{Orders.ask_of, Orders.asks_in, Running.Closes, Running.EndedOn, Running.ServersEnded}
-use Rattle.im_run.specs.Planned.{FitsIfNew, plan_of, planned_orders}
+use Rattle.im_run.specs.{Orders.ask_of, Orders.asks_in, Planned.plan_of, Planned.planned_orders}
+use Rattle.im_run.specs.Running.{Closes, EndedOn, ServersEnded}
 use Rattle.im_run.proofs.run.serve_on.Goals as goal
 
 pub serve_opening-ending-requires-clause-plan : goal.serve_opening-ending-requires-clause-plan
@@ -11,9 +11,9 @@ serve_opening-ending-requires-clause-plan g c κs within = c.in-Ok.ensures.plan
 
 pub serve_opening-ending-requires-clause-fits : goal.serve_opening-ending-requires-clause-fits
 serve_opening-ending-requires-clause-fits g c κs within = λ planned.
-    let whole = asks_in c.args.work.whole in
-    let orders = map ask_of c.args.work.orders.items in
-    subst (λ (x : SessionState g.row.D.Denot). FitsIfNew whole x.engine.memory (plan_of (planned_orders whole orders)))
+    let work = c.args.work in
+    let plan = plan_of (planned_orders (asks_in work.whole) (map ask_of work.orders.items)) in
+    subst (λ (x : SessionState g.row.D.Denot). MayStart (is_some work.whole) x.engine.memory plan)
     (sym c.in-Ok.ensures.found) (c.in-Ok.ensures.fits planned)
 
 pub serve_opening-ending-requires-clause-kept : goal.serve_opening-ending-requires-clause-kept
