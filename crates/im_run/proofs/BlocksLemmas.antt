@@ -1,13 +1,13 @@
 -- The setup of a script: its blocks, as its lines are read, and the bases of its names. (Own.)
-use Rattle.std.proofs.Common.{◌≡◌, ℕ, zero, suc, ◌-◌, Bool, true, List, [], ◌∷◌, ◌++◌, map, length, drop, Some, None}
-use Rattle.std.proofs.Common.{Option, Result, sym, refl, ap, ◌∙◌, subst}
+use Rattle.std.proofs.Common.{◌≡◌, ℕ, zero, suc, ◌-◌, ◌<◌, Bool, List, [], ◌∷◌, ◌++◌, map, length, drop, Some, None}
+use Rattle.std.proofs.Common.{Option, Result, sym, refl, ap, ◌∙◌, subst, arith}
 use Rattle.im_types.specs.Types.{Command, Contents, IsMemory}
 use Rattle.im_session.specs.Kept.{SessionState}
 use Rattle.im_text.specs.{declared.Lines.Lines, declared.Waited.Waited, Printing.PrintsOn, Printing.who_of}
-use Rattle.im_serial.proofs.ScriptedLemmas.{going_from, has_served, passes_refl, prints_on}
+use Rattle.im_serial.proofs.ScriptedLemmas.{going_from, has_served, prints_on}
 use Rattle.im_serial.specs.Asked.{bases_after, Course, Leads, standing, Wanted}
 use Rattle.im_serial.specs.{declared.waits.Mark.Mark, Noted.AreNoted, Once.HasServedNothing}
-use Rattle.im_serial.specs.Serving.{EndsAt, GoingAt, HasServed, Passes, ScriptServer, server_of}
+use Rattle.im_serial.specs.Serving.{GoingAt, HasServed, Passes, ScriptServer, server_of}
 use Rattle.im_run.specs.Orders.{bases_first, bases_made, blocks_of, scope_when, script_heard, SetsUp}
 
 -- ---- the bases of its names
@@ -42,6 +42,10 @@ drop_both (suc n) (w ∷ xs) ys = drop_both n xs ys
 pub drop_nothing : (n : ℕ) → ◌≡◌ {A = List Wanted} (drop n []) []
 drop_nothing zero = refl
 drop_nothing (suc n) = refl
+
+pub drop_one : (n : ℕ) (w : Wanted) → 0 < n → drop n (w ∷ []) ≡ []
+drop_one zero w some = absurd (omega arith)
+drop_one (suc n) w some = drop_nothing n
 
 module _ {D : Type 0} where
   pub served_as : {T E : Type 0} (r : Result T E) (asked wanted : List Wanted) (before after : List ℕ)

@@ -5,14 +5,15 @@ use Rattle.std.proofs.Common.{slice_get, slice_set, Some, None, Ok, Err, Option,
 use Rattle.std.proofs.Common.{append_assoc, append-nil, arith, Bor}
 use Rattle.std.proofs.lemmas.{List.drop_all, List.drop_more, Option.slice_get_past, Option.slice_get_within}
 use Rattle.std.specs.Option.{option_map_or}
+use Rattle.im_types.specs.Types.{Contents}
 use Rattle.im_laws.proofs.Tests.{eq_by_test, some_same, test-self, true_false}
 use Rattle.im_serving.specs.declared.Intent.{Intent}
 use Rattle.im_script.specs.{declared.Heard.Heard, Script.Draft, Script.heard, Script.lines_of}
 use Rattle.im_serial.proofs.NotedLemmas.{get_set_here, get_set_other}
 use Rattle.im_run.specs.declared.sheet.Order.{Order}
-use Rattle.im_run.specs.Orders.{AddsLine, AreInTurn, AreOrders, ArePartsThere, ArePlaced, Ask, ask_if, ask_of, asked_by}
-use Rattle.im_run.specs.Orders.{asks_among, asks_from, BeginsAmong, HasAdded, HasReadTo, intents_at, intents_of}
-use Rattle.im_run.specs.Orders.{lines_heard, part_of}
+use Rattle.im_run.specs.Orders.{AddsLine, AreInTurn, AreOrders, ArePartsThere, Ask, ask_if, ask_of, asked_by}
+use Rattle.im_run.specs.Orders.{asks_among, asks_from, BeginsAmong, first_asked, HasAdded, HasReadTo, intents_at, intents_of}
+use Rattle.im_run.specs.Orders.{IsOfAll, lines_heard, part_of}
 
 -- ---- results
 
@@ -24,6 +25,9 @@ grown (Err e) some none new is well = absurd (true_false well)
 
 pub if_ok_at : {T E : Type 0} (P : T → Type 0) (r : Result T E) (x : T) → r ≡ Ok x → IfOk r P → P x
 if_ok_at P r x is it = subst (λ (s : Result _ _). IfOk s P) is it
+
+pub if_none_at : {T : Type 0} (P : Type 0) (o : Option T) → o ≡ None → IfNone o P → P
+if_none_at P o is it = subst (λ (p : Option _). IfNone p P) is it
 
 pub match_ok : {T E : Type 0} (P : Type 0) (r : Result T E) (x : T) → r ≡ Ok x → OnOk r P → P
 match_ok P r x is it = subst (λ (s : Result _ _). OnOk s P) is it
@@ -234,3 +238,19 @@ orders_read first bases lines orders numbered it asked =
           (slice_get_past orders k past);
       placed = it.placed tt;
     }
+
+-- the same by other words for what they are of
+pub orders_as : (once : Bool) (m new : Contents) (bases now : List ℕ) (lines left : List Heard) (orders : List Order)
+    → m ≡ new → bases ≡ now → lines ≡ left → AreOrders (first_asked once m) bases lines (map ask_of orders)
+    → AreOrders (first_asked once new) now left (map ask_of orders)
+orders_as once m new bases now lines left orders memory names said it =
+    let asks = map ask_of orders in
+    subst (λ (x : Contents). AreOrders (first_asked once x) now left asks) memory
+    (subst (λ (b : List ℕ). AreOrders (first_asked once m) b left asks) names
+    (subst (λ (l : List Heard). AreOrders (first_asked once m) bases l asks) said it))
+
+pub of_all_as : (once : Bool) (bases now : List ℕ) (lines script : List Heard) (whole : Option (List Ask))
+    → bases ≡ now → lines ≡ script → IsOfAll once bases lines whole → IsOfAll once now script whole
+of_all_as once bases now lines script whole names said it =
+    subst (λ (b : List ℕ). IsOfAll once b script whole) names
+    (subst (λ (l : List Heard). IsOfAll once bases l whole) said it)

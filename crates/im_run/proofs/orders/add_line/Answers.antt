@@ -1,9 +1,13 @@
-use Rattle.std.proofs.Common.{sym, ◌∙◌}
+use Rattle.std.proofs.Common.{Some, Option, sym, ap, ◌∙◌}
+use Rattle.im_serving.specs.declared.Intent.{Intent}
 use Rattle.im_run.proofs.OrdersLemmas.{adds_none, adds_one, on_ok_map}
 use Rattle.im_run.proofs.orders.add_line.Goals as goal
 
-pub returns-in-Some : goal.returns-in-Some
-returns-in-Some c = ?
+pub returns-in_default : goal.returns-in_default
+returns-in_default c = adds_none c.args.bases.now c.args.heard c.args.orders.now.items
+    (sym c.asked_by.ensures ∙ c.in_default.is)
 
-pub returns-in-None : goal.returns-in-None
-returns-in-None c = ?
+pub returns-in-Some : goal.returns-in-Some
+returns-in-Some c = on_ok_map _ _ c.add_intent.result c.add_intent.ensures
+    (adds_one c.args.bases.now c.args.heard c.in-Some.element c.in-Some-2.intent _ _ (sym c.asked_by.ensures
+    ∙ c.in-Some.is ∙ ap (λ (o : Option Intent). Some (c.in-Some.element, o)) c.in-Some-2.is))
