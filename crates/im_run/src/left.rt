@@ -30,7 +30,8 @@ fn add_left(left: &mut Vec<Heard>, past: &mut Past, heard: Heard) -> Result<(), 
     if is_settled(past, heard) {
         return Ok(());
     }
-    left.push(heard)
+    left.push(heard)?;
+    Ok(())
 }
 
 /// Returns the lines of a script without the requests that are settled in a memory: those before an element's first one
