@@ -1,14 +1,17 @@
 -- The setup of a script: its blocks, as its lines are read, and the bases of its names. (Own.)
-use Rattle.std.proofs.Common.{◌≡◌, ℕ, zero, suc, ◌-◌, ◌<◌, Bool, List, [], ◌∷◌, ◌++◌, map, length, drop, Some, None}
-use Rattle.std.proofs.Common.{Option, Result, sym, refl, ap, ◌∙◌, subst, arith}
+use Rattle.std.proofs.Common.{◌≡◌, ℕ, zero, suc, ◌+◌, ◌-◌, ◌<◌, Bool, List, [], ◌∷◌, ◌++◌, map, length, get_or, drop, Some}
+use Rattle.std.proofs.Common.{None, Option, Result, sym, refl, ap, ◌∙◌, subst, arith}
+use Rattle.std.proofs.lemmas.List.{drop_more}
 use Rattle.im_types.specs.Types.{Command, Contents, IsMemory}
 use Rattle.im_session.specs.Kept.{SessionState}
 use Rattle.im_text.specs.{declared.Lines.Lines, declared.Waited.Waited, Printing.PrintsOn, Printing.who_of}
+use Rattle.im_script.specs.declared.Heard.{Heard}
+use Rattle.im_serial.proofs.OnceLemmas.{part_ends, part_serves}
 use Rattle.im_serial.proofs.ScriptedLemmas.{going_from, has_served, prints_on}
 use Rattle.im_serial.specs.Asked.{bases_after, Course, Leads, standing, Wanted}
 use Rattle.im_serial.specs.{declared.waits.Mark.Mark, Noted.AreNoted, Once.HasServedNothing}
-use Rattle.im_serial.specs.Serving.{GoingAt, HasServed, Passes, ScriptServer, server_of}
-use Rattle.im_run.specs.Orders.{bases_first, bases_made, blocks_of, scope_when, script_heard, SetsUp}
+use Rattle.im_serial.specs.Serving.{EndsAt, GoingAt, HasServed, Passes, ScriptServer, server_of}
+use Rattle.im_run.specs.Orders.{bases_first, bases_made, blocks_of, line_blocks, scope_when, script_heard, SetsUp}
 
 -- ---- the bases of its names
 
@@ -34,10 +37,13 @@ module _ (once : Bool) (m : Contents) (text first : List ℕ) (is : first ≡ ba
 -- ---- its blocks
 
 -- the first so many of two lists are left out
-pub drop_both : (n : ℕ) (xs ys : List Wanted) → drop n (xs ++ ys) ≡ drop n xs ++ drop (n - length xs) ys
-drop_both zero xs ys = refl
-drop_both (suc n) [] ys = refl
-drop_both (suc n) (w ∷ xs) ys = drop_both n xs ys
+drop_both : (n : ℕ) (xs ys : List Wanted) → drop n (xs ++ ys) ≡ drop n xs ++ drop (n - length xs) ys
+drop_both zero xs ys = let none : 0 ≡ 0 - length xs = omega arith in ap (λ (k : ℕ). xs ++ drop k ys) none
+drop_both (suc n) [] ys =
+    let same : suc n ≡ suc n - 0 = omega arith in ap (λ (k : ℕ). drop k ys) same
+drop_both (suc n) (w ∷ xs) ys =
+    let same : n - length xs ≡ suc n - length (w ∷ xs) = omega arith in
+    drop_both n xs ys ∙ ap (λ (k : ℕ). drop n xs ++ drop k ys) same
 
 pub drop_nothing : (n : ℕ) → ◌≡◌ {A = List Wanted} (drop n []) []
 drop_nothing zero = refl
@@ -47,7 +53,38 @@ pub drop_one : (n : ℕ) (w : Wanted) → 0 < n → drop n (w ∷ []) ≡ []
 drop_one zero w some = absurd (omega arith)
 drop_one (suc n) w some = drop_nothing n
 
+-- those of a line, and of the lines behind it
+line_first : (lines : List Heard) (i known later : ℕ) (d : Heard) → i < length lines
+    → later ≡ known - length (line_blocks (get_or lines i d)) → drop known (blocks_of (drop i lines))
+    ≡ drop known (line_blocks (get_or lines i d)) ++ drop later (blocks_of (drop (i + 1) lines))
+line_first lines i known later d inside counts =
+    let here = line_blocks (get_or lines i d) in
+    let rest = blocks_of (drop (i + 1) lines) in
+    ap (λ (l : List Heard). drop known (blocks_of l)) (drop_more lines i d inside) ∙ drop_both known here rest
+    ∙ ap (λ (n : ℕ). drop known here ++ drop n rest) (sym counts)
+
 module _ {D : Type 0} where
+  -- a line more was taken
+  pub block_made : (all : List Wanted) (lines : List Heard) (i known later : ℕ) (d : Heard)
+      (first before after : List ℕ) (old mid new : ScriptServer D) → i < length lines
+      → later ≡ known - length (line_blocks (get_or lines i d))
+      → Passes all first (drop known (blocks_of (drop i lines))) before old mid
+      → Passes (drop known (line_blocks (get_or lines i d))) before [] after mid new
+      → Passes all first (drop later (blocks_of (drop (i + 1) lines))) after old new
+  block_made all lines i known later d first before after old mid new inside counts passes serves =
+      part_serves all (drop known (blocks_of (drop i lines))) (drop known (line_blocks (get_or lines i d)))
+      (drop later (blocks_of (drop (i + 1) lines))) (line_first lines i known later d inside counts) first before old
+      mid passes after new serves
+
+  pub block_ended : (all : List Wanted) (lines : List Heard) (i known later : ℕ) (d : Heard) (first before : List ℕ)
+      (old mid new : ScriptServer D) → i < length lines → later ≡ known - length (line_blocks (get_or lines i d))
+      → Passes all first (drop known (blocks_of (drop i lines))) before old mid
+      → EndsAt (drop known (line_blocks (get_or lines i d))) before mid new → EndsAt all first old new
+  block_ended all lines i known later d first before old mid new inside counts passes ends =
+      part_ends all (drop known (blocks_of (drop i lines))) (drop known (line_blocks (get_or lines i d)))
+      (drop later (blocks_of (drop (i + 1) lines))) (line_first lines i known later d inside counts) first before old
+      mid passes new ends
+
   pub served_as : {T E : Type 0} (r : Result T E) (asked wanted : List Wanted) (before after : List ℕ)
       (old new : ScriptServer D) → asked ≡ wanted → HasServed wanted before after r old new
       → HasServed asked before after r old new

@@ -23,8 +23,8 @@ returns-in-Ok-set_up-clause-served g c =
     (seen_by was (g.W.Write.contents c.args.out.now)) (seen_by now (g.W.Write.contents c.set_up.new.out))) same
     c.in-Ok-set_up.ensures.served.serves)
 
-pub returns-in-Err-set_up-clause-served : goal.returns-in-Err-set_up-clause-served
-returns-in-Err-set_up-clause-served g c =
+pub returns-clause-served : goal.returns-clause-served
+returns-clause-served g c =
     let was = c.args.server.now in
     let now = c.set_up.new.server in
     let known : c.new-setup.result.known ≡ length was.bases.items = omega (arith, c.new-setup.ensures, c.len.ensures) in

@@ -1,10 +1,9 @@
-use Rattle.std.proofs.Common.{◌≡◌, ℕ, ◌+◌, List, ◌++◌, get_or, drop, sym, ap, ◌∙◌, subst, arith}
-use Rattle.std.proofs.lemmas.List.{at_drop_all, at_drop_more}
-use Rattle.im_serial.proofs.OnceLemmas.{part_ends, part_serves}
-use Rattle.im_serial.proofs.ScriptedLemmas.{has_served, passes_refl}
-use Rattle.im_serial.specs.{Asked.Wanted, Serving.Passes, Serving.seen_by}
-use Rattle.im_run.proofs.BlocksLemmas.{drop_both, drop_nothing}
-use Rattle.im_run.specs.Orders.{blocks_of, line_blocks}
+use Rattle.std.proofs.Common.{List, drop, ap, ◌∙◌, subst, arith}
+use Rattle.{std.proofs.lemmas.List.at_drop_all, im_serial.specs.Asked.Wanted}
+use Rattle.im_serial.{proofs.ScriptedLemmas.has_served, proofs.ScriptedLemmas.passes_refl}
+use Rattle.im_serial.specs.Serving.{Passes, seen_by}
+use Rattle.im_run.{proofs.BlocksLemmas.block_ended, proofs.BlocksLemmas.block_made, proofs.BlocksLemmas.drop_nothing}
+use Rattle.im_run.specs.Orders.{blocks_of}
 use Rattle.im_run.proofs.setup.make_blocks.Goals as goal
 
 pub loop-heard-init : goal.loop-heard-init
@@ -12,31 +11,21 @@ loop-heard-init g c =
     passes_refl (drop c.args.setup.now.known (blocks_of c.args.lines.now)) c.args.server.now.bases.items _
 
 pub loop-heard-preserved : goal.loop-heard-preserved
-loop-heard-preserved g c =
-    let lines = c.args.lines.now in
-    let i = c.loop-heard.heard-index in
-    let known = c.loop-heard.setup.known in
-    let rest = blocks_of (drop (i + 1) lines) in
-    part_serves (drop c.args.setup.now.known (blocks_of lines)) (drop known (blocks_of (drop i lines))) _ _
-    (ap (drop known) (at_drop_more blocks_of lines i _ c.loop-heard-test.true) ∙ drop_both known _ rest
-    ∙ ap (λ (n : ℕ). drop known (line_blocks _) ++ drop n rest) (sym c.take_block.ensures.known))
-    c.args.server.now.bases.items c.loop-heard.server.bases.items _ _ c.loop-heard.invariant
-    c.take_block.new.server.bases.items _ c.in-Ok.ensures.served.serves
+loop-heard-preserved g c = block_made (drop c.args.setup.now.known (blocks_of c.args.lines.now)) c.args.lines.now
+    c.loop-heard.heard-index c.loop-heard.setup.known c.take_block.new.setup.known _ c.args.server.now.bases.items
+    c.loop-heard.server.bases.items c.take_block.new.server.bases.items _ _ _ c.loop-heard-test.true
+    c.take_block.ensures.known c.loop-heard.invariant c.in-Ok.ensures.served.serves
 
 pub returns-in-Err : goal.returns-in-Err
-returns-in-Err g c =
-    let lines = c.args.lines.now in
-    let i = c.loop-heard.heard-index in
-    let known = c.loop-heard.setup.known in record {
-      served = record {
-        serves = tt;
-        ends = part_ends (drop c.args.setup.now.known (blocks_of lines)) (drop known (blocks_of (drop i lines))) _ _
-            (ap (drop known) (at_drop_more blocks_of lines i _ c.loop-heard-test.true)
-            ∙ drop_both known _ (blocks_of (drop (i + 1) lines)))
-            c.args.server.now.bases.items c.loop-heard.server.bases.items _ _ c.loop-heard.invariant _
-            c.in-Err.ensures.served.ends;
-      };
-    }
+returns-in-Err g c = record {
+  served = record {
+    serves = tt;
+    ends = block_ended (drop c.args.setup.now.known (blocks_of c.args.lines.now)) c.args.lines.now
+        c.loop-heard.heard-index c.loop-heard.setup.known c.take_block.new.setup.known _ c.args.server.now.bases.items
+        c.loop-heard.server.bases.items _ _ _ c.loop-heard-test.true c.take_block.ensures.known c.loop-heard.invariant
+        c.in-Err.ensures.served.ends;
+  };
+}
 
 pub returns : goal.returns
 returns g c =

@@ -10,8 +10,8 @@ returns-in_default-clause-served g c =
     quiet _ (drop known (line_blocks c.args.heard)) _ _
     (ap (drop known) c.in_default.ensures.none ∙ drop_nothing known)
 
-pub returns-then-setup-known-gt0-clause-served : goal.returns-then-setup-known-gt0-clause-served
-returns-then-setup-known-gt0-clause-served g c =
+pub returns-then-setup-gt0-clause-served : goal.returns-then-setup-gt0-clause-served
+returns-then-setup-gt0-clause-served g c =
     let known = c.args.setup.now.known in
     quiet _ (drop known (line_blocks c.args.heard)) _ _
     (ap (drop known) c.in-Some.ensures.some ∙ drop_one known _ (omega arith))
