@@ -19,7 +19,6 @@ mod plans; // Whether a plan has a command.
 mod ports; // The way of one element to the lock.
 mod shared; // What lies under the lock.
 mod sleepers; // Who sleeps, and who is to be woken.
-mod starts; // With a trace that is recorded, and with one that isn't; fresh, or gone on with.
 mod standing; // How things stand.
 mod stops; // Laws of planned runs that are stopped.
 
@@ -30,12 +29,8 @@ pub use im_trace::{
     Found, LineLedger, Marked, Name, Prefix, Receipt, Recording, Shown, Since, Tally, Traced, When,
 };
 pub use looks::{begin_wait, look};
-pub use opening::Opening;
+pub use opening::{AskedPlan, Opening, start, start_planned};
 pub use ports::Port;
 pub use shared::{Shared, lend, lend_turn};
 pub use standing::Standing;
-pub use starts::{
-    resume_planned, resume_planned_unrecorded, start, start_planned, start_planned_unrecorded,
-    start_unrecorded,
-};
 pub use stops::stopped_runs_end_as_one;

@@ -115,8 +115,13 @@ fn make_pane<R: Wait>(rt: &R, alloc: Global, memory: &Memory) -> Result<Unnamed,
     }
 }
 
-// Makes room for a trace of so many lines, or for one that isn't recorded, and for all else that takes memory.
-pub(crate) fn begin<D: Disk + Drop, R: Wait>(
+/// Makes room for the server, the request and the answer of each element, for the ledgers that count the lines of the
+/// trace, and for a trace of so many lines, 48 bytes each. It shows the full cells on a pane with a reader for each
+/// element. Without a `room` no line of the trace is kept at run time, and it may have as many lines as a `usize`
+/// counts: any number of requests is served in the same memory. All that contracts say of the trace holds as well.
+///
+/// Returns `NoMemory`, with the session as it was, if `alloc` refuses the memory.
+pub fn start<D: Disk + Drop, R: Wait>(
     rt: &R,
     alloc: Global,
     session: Session<D>,
@@ -140,11 +145,13 @@ pub(crate) fn begin<D: Disk + Drop, R: Wait>(
     }
 }
 
-// A plan, and whether a run before may have begun it.
+/// A plan that is to be run.
 #[derive(Drop)]
-pub(crate) struct AskedPlan {
-    pub(crate) plan: Plan,
-    pub(crate) begun: bool,
+pub struct AskedPlan {
+    /// The plan.
+    pub plan: Plan,
+    /// Whether a run before may have begun it.
+    pub begun: bool,
 }
 
 // Returns whether a plan may be started under. It is under way then.
@@ -161,8 +168,14 @@ fn may_start(asked: &AskedPlan, memory: &Memory) -> bool
     fits(plan, memory)
 }
 
-// Does what `begin` does, under a plan.
-pub(crate) fn begin_planned<D: Disk + Drop, R: Wait>(
+/// Does what [`start`] does, under a plan. From then on a request is refused with `OffPlan` if the plan doesn't have it
+/// with its operation under its number. A plan that a run before may have begun is gone on with, however often it was
+/// stopped, in any way, be nothing of it done in the engine's memory, or a part, or all. All that contracts say of a
+/// planned run holds of it too. A request that was served before is answered as it was then, or since.
+///
+/// Returns `BadPlan` exactly if the plan doesn't fit the engine's memory, or isn't under way there if it may have been
+/// begun, and else `NoMemory` as [`start`] does. The session is then as it was, and the plan is dropped.
+pub fn start_planned<D: Disk + Drop, R: Wait>(
     rt: &R,
     alloc: Global,
     session: Session<D>,
@@ -179,7 +192,7 @@ pub(crate) fn begin_planned<D: Disk + Drop, R: Wait>(
     if !may_start(&asked, session.memory()) {
         return Err((Refusal::BadPlan, session));
     }
-    match begin(rt, alloc, session, room) {
+    match start(rt, alloc, session, room) {
         Ok(opening) => Ok(opening.under(asked.plan)),
         Err(refused) => Err(refused),
     }

@@ -41,6 +41,13 @@ fn awaited(number: u64, sleeps: bool) -> Option<u64> {
 }
 
 impl<K: Name> Port<K> {
+    /// Returns the element.
+    pub fn element(&self) -> u16
+        ensures { result ≡ self.now.element }
+    {
+        self.element
+    }
+
     /// Returns the prefix of the trace that this port has seen. It is the history of the last receipt that the port was
     /// told, or goes on after it.
     pub fn history(&self) -> &Prefix<K>

@@ -11,9 +11,9 @@ use Rattle.im_serving.specs.declared.Intent.{Intent, TheVariants.Glance, TheVari
 use Rattle.im_serving.specs.Elements.{AreEnded, Asked, End, IsEnded}
 use Rattle.im_serving.specs.Serving.{AreDone, AreGlanced, HasAnswers, HasBegun, IsGlanced, ops_of, requests, sites}
 use Rattle.im_run.specs.{declared.served.Did.Did, declared.sheet.Order.Order, Orders.Ask, Orders.ask_of}
-use Rattle.im_run.specs.Doing.{AreAllNoted, AreAllTold, EachInTurn, elements_at_end, glances_later, glances_told}
+use Rattle.im_run.specs.Doing.{AreAllNoted, AreAllTold, EachInTurn, glances_later, glances_told}
 use Rattle.im_run.specs.Doing.{HasPart, HaveAllParts, HaveSeen, IsNoted, IsOrderTold, IsPartOf, MakesPart, NotesEnd}
-use Rattle.im_run.specs.Doing.{part_elements, told_among, told_at, told_for}
+use Rattle.im_run.specs.Doing.{told_among, told_at, told_for}
 use mathlib.Core.List.{IsPrefix}
 use Rattle.im_run.specs.declared.served.Did.TheVariants as did
 
@@ -251,16 +251,6 @@ noted_step trace ends d old new told more before later it notes seen =
     (noted_weaker trace (before ≡ None) (later ≡ None) notes.none) ends told (it (notes.ports trace seen)) in
     subst (AreAllNoted trace (later ≡ None) (ends ++ d ∷ [])) (sym notes.is)
     (each_more (IsNoted trace (later ≡ None)) ends told notes.mine d here (notes.noted trace seen))
-
--- ---- their elements
-
-pub elements_end : (m : Contents) (marks : Line → Bool) (parts : List Asked) (ends : List End)
-    → AreEnded m marks parts ends → elements_at_end ends ≡ part_elements parts
-elements_end m marks [] [] it = refl
-elements_end m marks [] (d ∷ ends) it = absurd it
-elements_end m marks (p ∷ parts) [] it = absurd it
-elements_end m marks (p ∷ parts) (d ∷ ends) it =
-    ap₂ (λ (x : ℕ) (l : List ℕ). x ∷ l) it.0.element (elements_end m marks parts ends it.1)
 
 -- ---- orders
 

@@ -101,14 +101,6 @@ pub record IsPartOf (m : Contents) (order : Ask) (p : Asked) : Type 0 where
   pub untold : p.deeds.port.told.marked ≡ 0
   pub seen : AreGlanced m p.deeds.port.element p.deeds.last p.deeds.seen p.deeds.made
 
--- the elements of these parts
-abbrev pub part_elements : List Asked → List ℕ
-part_elements parts = map (λ p. p.deeds.port.element) parts
-
--- the same at their ends
-abbrev pub elements_at_end : List End → List ℕ
-elements_at_end ends = map (λ d. d.deeds.port.element) ends
-
 -- a part was made for an order, or something was refused and none was
 abbrev pub HasPart : Contents → Type 0 → Ask → List Asked → Type 0
 HasPart m none order parts =

@@ -1,18 +1,14 @@
 //! The beginning of a run, before any thread starts.
-ghost use Rattle.std.specs.Prelude.{◌≡◌, ◌≤◌, true, map, length, is_some, IfSome, IfNone, IfOk, IfErr, OnOk, Some, None};
+ghost use Rattle.std.specs.Prelude.{◌≡◌, ◌≤◌, true, map, length, is_some, IfSome, IfNone, IfOk, IfErr, OnOk, Some};
 ghost use Rattle.im_controller.specs.{Planned.MayStart, State.is_recorded, State.OpensAs};
 ghost use Rattle.im_run.specs.{Orders.ask_of, Orders.asks_in, Running.AreThere};
 ghost use Rattle.im_run.specs.Planned.{plan_of, planned_orders};
 
 use crate::planned::{make_plan, plan_fault};
 use crate::sheet::{Order, Workload};
-use im_controller::{
-    Opening, resume_planned, resume_planned_unrecorded, start, start_planned,
-    start_planned_unrecorded, start_unrecorded,
-};
+use im_controller::{AskedPlan, Opening, start, start_planned};
 use im_disk::Disk;
 use im_memory::Memory;
-use im_planning::Plan;
 use im_session::Session;
 use im_text::Reason;
 use im_types::{Refusal, WINDOW};
@@ -40,50 +36,6 @@ struct PlanStart {
     begun: bool,
 }
 
-// Starts under a plan.
-fn start_by<D: Disk + Drop, R: Wait>(
-    rt: &R,
-    alloc: Global,
-    session: Session<D>,
-    plan: Plan,
-    how: PlanStart,
-) -> Result<Opening<D>, (Refusal, Session<D>)>
-    ensures found { IfOk result (λ o. OpensAs how.room (Some plan) session o) }
-    ensures starts { OnOk result (MayStart how.begun session.engine.memory plan) }
-    ensures same { IfErr result (λ e. e.1 ≡ session) }
-{
-    match how.room {
-        Some(room) => {
-            if how.begun {
-                return resume_planned(rt, alloc, session, plan, room);
-            }
-            start_planned(rt, alloc, session, plan, room)
-        }
-        None => {
-            if how.begun {
-                return resume_planned_unrecorded(rt, alloc, session, plan);
-            }
-            start_planned_unrecorded(rt, alloc, session, plan)
-        }
-    }
-}
-
-// The same without a plan.
-fn start_freely<D: Disk + Drop, R: Wait>(
-    rt: &R,
-    alloc: Global,
-    session: Session<D>,
-    room: Option<usize>,
-) -> Result<Opening<D>, (Refusal, Session<D>)>
-    ensures found { IfOk result (λ o. OpensAs room None session o) }
-    ensures same { IfErr result (λ e. e.1 ≡ session) }
-{
-    match room {
-        Some(room) => start(rt, alloc, session, room),
-        None => start_unrecorded(rt, alloc, session),
-    }
-}
-
 // Opens for a run under the plan of these orders.
 fn begin_planned<D: Disk + Drop, R: Wait>(
     rt: &R,
@@ -103,7 +55,11 @@ fn begin_planned<D: Disk + Drop, R: Wait>(
             return Err((reason, session));
         }
     };
-    match start_by(rt, alloc, session, plan, how) {
+    let asked = AskedPlan {
+        plan,
+        begun: how.begun,
+    };
+    match start_planned(rt, alloc, session, asked, how.room) {
         Ok(opening) => Ok(opening),
         Err((refusal, session)) => {
             let reason = plan_fault(alloc, session.memory(), orders, refusal);
@@ -192,7 +148,7 @@ pub fn begin<D: Disk + Drop, R: Wait>(
     if work.planned {
         return begin_by(rt, alloc, session, work, room);
     }
-    match start_freely(rt, alloc, session, room) {
+    match start(rt, alloc, session, room) {
         Ok(opening) => Ok(opening),
         Err((_, session)) => Err((Reason::Memory, session)),
     }

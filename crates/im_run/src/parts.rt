@@ -1,7 +1,6 @@
 //! Makes what each element is served with.
 ghost use Rattle.std.specs.Prelude.{◌≡◌, map, IfOk, IsSome, None};
-ghost use Rattle.im_run.specs.{Doing.HaveAllParts, Doing.IsPartOf, Doing.MakesPart, Doing.part_elements};
-ghost use Rattle.im_run.specs.Orders.{ask_of};
+ghost use Rattle.im_run.specs.{Doing.HaveAllParts, Doing.IsPartOf, Doing.MakesPart, Orders.ask_of};
 
 use crate::sheet::Order;
 use im_controller::{Controller, Name};
@@ -34,8 +33,6 @@ pub struct Parts<K: Name> {
     alloc: Global,
     /// The parts, from the least element.
     pub parts: Vec<Part<K>>,
-    /// Their elements.
-    pub elements: Vec<u16>,
     /// The refusal that is told, if an element has none.
     pub refused: Option<(u16, Refusal)>,
 }
@@ -84,23 +81,14 @@ impl<K: Name> Parts<K> {
     fn make<D: Disk, R: Wait>(&mut self, rt: &R, controller: &Controller<D, K>, order: Order)
         ensures made { MakesPart K.origin.memory (ask_of order) self.old.parts.items self.new.parts.items
             self.old.refused self.new.refused }
-        ensures named { self.old.elements.items ≡ part_elements self.old.parts.items
-            → self.new.elements.items ≡ part_elements self.new.parts.items }
     {
         let element = order.element;
         if self.parts.reserve(1).is_err() {
             self.refused = first_refusal(self.refused, element, Refusal::NoMemory);
             return;
         }
-        if self.elements.reserve(1).is_err() {
-            self.refused = first_refusal(self.refused, element, Refusal::NoMemory);
-            return;
-        }
         match make_part(rt, self.alloc, controller, order) {
-            Ok(part) => {
-                self.parts.push_reserved(part);
-                self.elements.push_reserved(element);
-            }
+            Ok(part) => self.parts.push_reserved(part),
             Err(refusal) => self.refused = first_refusal(self.refused, element, refusal),
         }
     }
@@ -114,12 +102,10 @@ pub fn make_parts<D: Disk, K: Name, R: Wait>(
     orders: Vec<Order>,
 ) -> Parts<K>
     ensures made { HaveAllParts K.origin.memory (result.refused ≡ None) (map ask_of orders.items) result.parts.items }
-    ensures named { result.elements.items ≡ part_elements result.parts.items }
 {
     let mut parts = Parts {
         alloc,
         parts: Vec::new(alloc),
-        elements: Vec::new(alloc),
         refused: None,
     };
     for order in orders {

@@ -78,8 +78,7 @@ impl<K: Name> PortNotes<K> {
     }
 
     // Notes what became of an element.
-    pub(crate) fn take(&mut self, element: u16, done: Done<K>)
-        requires { element ≡ done.deeds.port.element }
+    pub(crate) fn take(&mut self, done: Done<K>)
         ensures noted { NotesEnd done self.old.ports.items self.new.ports.items self.old.did.items self.new.did.items
             self.old.refused self.new.refused }
         ensures quiet { done.deeds.port.told.marked ≡ 0 → AreQuiet self.old.ports.items
@@ -91,6 +90,7 @@ impl<K: Name> PortNotes<K> {
             glances,
             done: ended,
         } = done;
+        let element = port.element();
         match told_at(self.alloc, element, &served, glances.made.as_slice()) {
             Ok(told) => {
                 self.add(element, port, told);

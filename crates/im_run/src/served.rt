@@ -1,10 +1,9 @@
 //! Serves all elements through one controller.
-ghost use Rattle.std.specs.Prelude.{◌≡◌, ℕ, true, List, [], ◌∷◌, map, IfOk, OnErr, None};
+ghost use Rattle.std.specs.Prelude.{◌≡◌, true, List, [], map, IfOk, OnErr, None};
 ghost use Rattle.im_types.specs.Types.{Line, IsLegal, end_of};
 ghost use Rattle.im_controller.specs.{Kept.IsOriginOf, Kept.IsSessionOf, Planned.EndsBy};
 ghost use Rattle.im_run.specs.Alone.{AreQuiet, AreQuietAtEnd, AreUnmarked, NoneMarked};
-ghost use Rattle.im_run.specs.{Doing.AreAllNoted, Doing.AreAllTold, Doing.elements_at_end, Doing.HaveSeen};
-ghost use Rattle.im_run.specs.Orders.{ask_of};
+ghost use Rattle.im_run.specs.{Doing.AreAllNoted, Doing.AreAllTold, Doing.HaveSeen, Orders.ask_of};
 
 use crate::calls::Calls;
 use crate::context::RunContext;
@@ -41,32 +40,17 @@ pub(crate) struct ServedRun<D: Disk> {
     pub refused: Option<(u16, Refusal)>,
 }
 
-// Returns the first of these elements, and the others.
-fn next_element(elements: &[u16]) -> (u16, &[u16])
-    ensures { (first : ℕ) (others : List ℕ) → elements.now ≡ first ∷ others
-        → (result.0 ≡ first) × (result.1.now ≡ others) }
-{
-    match elements.split_first() {
-        Some((first, others)) => (*first, others),
-        None => (0, elements),
-    }
-}
-
 // Notes what became of each of these elements.
-fn note_ends<K: Name>(notes: PortNotes<K>, elements: &[u16], all: Vec<Done<K>>) -> PortNotes<K>
+fn note_ends<K: Name>(notes: PortNotes<K>, all: Vec<Done<K>>) -> PortNotes<K>
     requires none { notes.did.items ≡ [] }
-    requires elements { elements_at_end all.items ≡ elements.now }
     ensures none { result.refused ≡ None → notes.refused ≡ None }
     ensures noted { (trace : List Line) → HaveSeen trace result.ports.items
         → AreAllNoted trace (result.refused ≡ None) all.items result.did.items }
     ensures quiet { AreQuiet notes.ports.items → AreQuietAtEnd all.items → AreQuiet result.ports.items }
 {
     let mut notes = notes;
-    let mut rest = elements;
     for done in all {
-        let (element, later) = next_element(rest);
-        notes.take(element, done);
-        rest = later;
+        notes.take(done);
     }
     notes
 }
@@ -85,11 +69,9 @@ fn note_none<K: Name>(notes: PortNotes<K>) -> PortNotes<K>
 // Notes what became of all elements, if they were served.
 fn note_all<K: Name>(
     alloc: Global,
-    elements: Vec<u16>,
     served: Result<Vec<Done<K>>, AllocError>,
     unmade: Option<(u16, Refusal)>,
 ) -> PortNotes<K>
-    requires { IfOk served (λ all. elements_at_end all.items ≡ elements.items) }
     ensures some { IfOk served (λ all. (result.refused ≡ None → unmade ≡ None)
         × ((trace : List Line) → HaveSeen trace result.ports.items
         → AreAllNoted trace (result.refused ≡ None) all.items result.did.items)) }
@@ -98,7 +80,7 @@ fn note_all<K: Name>(
 {
     let notes = PortNotes::new(alloc, unmade);
     match served {
-        Ok(all) => note_ends(notes, elements.as_slice(), all),
+        Ok(all) => note_ends(notes, all),
         Err(_) => note_none(notes),
     }
 }
@@ -124,12 +106,11 @@ fn serve_parts<
     let alloc = context.alloc;
     let Parts {
         parts,
-        elements,
         refused: unmade,
         ..
     } = make_parts(rt, alloc, controller, orders);
     let served = serve_elements(rt, alloc, controller, context.gate, context.watcher, parts);
-    note_all(alloc, elements, served, unmade)
+    note_all(alloc, served, unmade)
 }
 
 // Returns the refusal that is told. There is one if a port didn't come back, or if an answer waits that nobody took:

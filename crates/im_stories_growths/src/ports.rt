@@ -5,7 +5,7 @@ ghost use Rattle.im_controller.specs.Kept.{IsOriginOf};
 use crate::disks::{EngineState, has_answered, state};
 use crate::requests::{ALL, FIRST, add_answer, lacks_memory, request};
 use crate::served::serve_rest;
-use im_controller::{Controller, Name, Opening, Port, finish, start, start_planned};
+use im_controller::{AskedPlan, Controller, Name, Opening, Port, finish, start, start_planned};
 use im_disk::{Disk, FuseDisk};
 use im_planning::Plan;
 use im_story::Saying;
@@ -40,8 +40,11 @@ pub fn begin<R: Wait>(
         return Err(Refusal::Failed);
     };
     let started = match (begin_session(engine), plan) {
-        (Ok(session), Some(plan)) => start_planned(rt, alloc, session, plan, lines),
-        (Ok(session), None) => start(rt, alloc, session, lines),
+        (Ok(session), Some(plan)) => {
+            let asked = AskedPlan { plan, begun: false };
+            start_planned(rt, alloc, session, asked, Some(lines))
+        }
+        (Ok(session), None) => start(rt, alloc, session, Some(lines)),
         (Err(engine), _) => {
             place.engine = Some(engine);
             return Err(Refusal::Failed);

@@ -9,10 +9,7 @@ loop-order-preserved g c =
       (
         one_more it.0 c.loop-order.order-iterator.rest.items c.args.orders.items c.next.new.self.rest.items o it.1.0
             c.in-Some.ensures.steps.0,
-        (
-          parts_step g.K.Name.origin.memory it.0 o c.loop-order.parts.parts.items c.make.new.self.parts.items
-              c.loop-order.parts.refused c.make.new.self.refused it.1.1.0 c.make.ensures.made,
-          c.make.ensures.named it.1.1.1,
-        ),
+        parts_step g.K.Name.origin.memory it.0 o c.loop-order.parts.parts.items c.make.new.self.parts.items
+            c.loop-order.parts.refused c.make.new.self.refused it.1.1 c.make.ensures.made,
       ),
     )

@@ -1,17 +1,8 @@
-use Rattle.std.proofs.Common.{◌≡◌, map, None, sym, ◌∙◌}
-use Rattle.im_run.proofs.{AloneLemmas.on_err_map, AloneLemmas.quiet_by, OrdersLemmas.if_ok_map}
-use Rattle.im_run.{proofs.DoingLemmas.all_told_by, proofs.DoingLemmas.elements_end, specs.Orders.ask_of}
-use Rattle.im_run.proofs.served.serve_parts.Goals as goal
+use Rattle.std.proofs.Common.{◌≡◌, map, None}
+use Rattle.im_run.proofs.{AloneLemmas.on_err_map, AloneLemmas.quiet_by, DoingLemmas.all_told_by, OrdersLemmas.if_ok_map}
+use Rattle.im_run.specs.Orders.{ask_of}
 
-pub note_all-requires : goal.note_all-requires
-note_all-requires g c =
-    let made = c.make_parts-parts in
-    let served = c.serve_elements-served in
-    if_ok_map _ _ served.result served.ensures.ends
-    (λ all it. elements_end g.K.Name.origin.memory g.K.Name.origin.marks made.result.parts.items
-    all.items it ∙ sym made.ensures.named)
-
-pub returns : goal.returns
+pub returns : Rattle.im_run.proofs.served.serve_parts.Goals.returns
 returns g c =
     let made = c.make_parts-parts in
     let served = c.serve_elements-served in

@@ -19,10 +19,9 @@ returns-in-Ok-clause-noted g c =
     let a = c.add.new.self in
     let e = c.end in
     let now = e.new.self in
-    let named : c.args.element ≡ p.port.element =
-    c.requires ∙ sym (ap (λ (x : End). x.deeds.port.element) c.done.view_is) in
     let lines = c.in-Ok.ensures
-    ∙ ap (λ (n : ℕ). told_among n p.served.first 0 p.served.entries.items c.as_slice.result.now) named
+    ∙ ap (λ (n : ℕ). told_among n p.served.first 0 p.served.entries.items c.as_slice.result.now)
+    c.element-element.ensures
     ∙ ap (λ (l : List Glanced). told_among p.port.element p.served.first 0 p.served.entries.items l)
     c.as_slice.ensures.value in
     subst (λ (x : End). NotesEnd x was.ports.items now.ports.items was.did.items now.did.items was.refused now.refused)
