@@ -1,5 +1,5 @@
-use Rattle.std.proofs.Common.{◌≡◌, ℕ, ◌≤◌, true, false, List, [], length, take, Ok, Err, sym, refl, ap}
-use Rattle.std.proofs.Common.{◌∙◌, subst, inl, inr, arith}
+use Rattle.std.proofs.Common.{◌≡◌, ℕ, ◌≤◌, true, false, List, [], length, take, Ok, Err, sym, refl, ap, ◌∙◌, subst, inl}
+use Rattle.std.proofs.Common.{inr, arith}
 use Rattle.im_types.specs.Types.{Command, Device, Failed, Contents, after}
 use Rattle.im_disk.{proofs.SinceLemmas.only_weaker, specs.Since.Calls}
 use Rattle.im_journal.specs.Holding.{JournalState, longer, with_ahead}

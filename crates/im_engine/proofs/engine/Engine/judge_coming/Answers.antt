@@ -1,4 +1,5 @@
-use Rattle.std.proofs.Common.{◌≡◌, ℕ, ◌-◌, min, List, length, take, sym, refl, ap, ◌∙◌, subst, arith, rules, length-take}
+use Rattle.std.proofs.Common.{◌≡◌, ℕ, ◌-◌, min, List, length, take, sym, refl, ap, ◌∙◌, subst, arith, length-take}
+use Rattle.std.proofs.Common.{rules}
 use Rattle.im_types.specs.Types.{Command, after}
 use Rattle.im_groups.specs.{Ahead.AreAccepted, Ahead.ServesBehind, Commands.places}
 use Rattle.im_engine.proofs.Advancing.{accepted, beginning, coming, few_put, put_is, told_of}
