@@ -11,7 +11,7 @@ use Rattle.{im_laws.proofs.AcceptLemmas.unaccepted-leaves, im_disk.specs.declare
 use Rattle.{im_asks.specs.Windows.IsDue, im_text.specs.declared.Lines.Lines, im_text.specs.declared.Waited.Waited}
 use Rattle.im_laws.proofs.{MemoryLemmas.after-memory, RunLemmas.after-append, Tests.true_or_false}
 use Rattle.im_session.specs.Kept.{IsFresh, Kept, SessionStart, SessionState}
-use Rattle.im_session.specs.Serving.{CommandRefused, CommandServed, Rests}
+use Rattle.im_session.specs.Serving.{CommandRefused, CommandServed}
 use Rattle.im_script.specs.{declared.Said.Said, Places.action_op, Script.Draft, Script.lines_of}
 use Rattle.im_text.proofs.PrintingLemmas.{prints_begins, prints_none, replies_more, take-all, take-prefix, true_false}
 use Rattle.im_text.proofs.PrintingLemmas.{waits_more}
@@ -123,14 +123,6 @@ module _ {D : Type 0} (start : SessionStart D) where
     due = subst (AreDue start.memory) (sym same) due;
     recorded = subst (λ (l : List Command). IfSome s.script (λ _. IsRecorded start.memory l n)) (sym same) recorded;
   }
-
-  -- nothing was put
-  pub rests_serving : (old new : SessionState D) → Rests old new → new.engine.failed ≡ old.engine.failed
-      → (s : Standing) (text : List ℕ) (n : Notes) → IsServing start old s text n → IsServing start new s text n
-  rests_serving old new rests works s text n was = serving_with new s text n old.put
-      (ap (λ (t : SessionState D). t.put) rests.same) (ap (λ (t : SessionState D). t.start) rests.same ∙ was.start_is)
-      (works ∙ was.works) (ap (λ (t : SessionState D). t.doubt) rests.same ∙ was.sure) (rests.memory ∙ was.memory)
-      was.lines was.names was.reached was.named was.due was.recorded
 
   known_if : (s : Standing) (put : List Command) (n : Notes) → IfSome s.script (λ _. IsRecorded start.memory put n)
       → IfSome s.script (λ _. AreKnown start.memory put n.waited)
@@ -459,52 +451,17 @@ module _ {D : Type 0} (start : SessionStart D) where
             (AreKnown start.memory (old.put ++ c ∷ []) noted)
             (λ rec. noted_known start.memory (old.put ++ c ∷ []) 0 0 marked noted rec.noted) recorded)
 
-  -- what is known when it has ended stays so behind a call that puts nothing
-  over_rests : (old new : SessionState D) → Rests old new → (script : Option Course) (text : List ℕ) (waited : List
-      Waited) → IsOver start old script text waited → IsOver start new script text waited
-  over_rests old new rests script text waited was =
-      let put_is : new.put ≡ old.put = ap (λ (t : SessionState D). t.put) rests.same in
-      let doubt_is : new.doubt ≡ old.doubt = ap (λ (t : SessionState D). t.doubt) rests.same in
-      record {
-        start_is = ap (λ (t : SessionState D). t.start) rests.same ∙ was.start_is;
-        told = was.told;
-        others = was.others;
-        split = put_is ∙ was.split;
-        lines = was.lines;
-        many = was.many;
-        names = was.names;
-        few = subst (λ (l : List Command). length l ≤ 1) (sym doubt_is) was.few;
-        left = was.left;
-        leads = subst (λ (l : List Command). LeadsIf start.memory script (l ++ new.doubt) was.left) (sym put_is)
-            (subst (λ (l : List Command). LeadsIf start.memory script (old.put ++ l) was.left) (sym doubt_is) was.leads);
-        due = subst (λ (l : List Command). AreDue start.memory (l ++ new.doubt)) (sym put_is)
-            (subst (λ (l : List Command). AreDue start.memory (old.put ++ l)) (sym doubt_is) was.due);
-        known = subst (λ (l : List Command). IfSome script (λ _. AreKnown start.memory l waited)) (sym put_is) was.known;
-      }
-
--- ---- room for a request
-
--- room is made in the journal, behind a place in the window
-pub room_then : {D T E : Type 0} (r : Result T E) (old mid new : SessionState D) (waited learned : List Waited)
-    (marks later : List Mark)
-    → ((start : SessionStart D) (s : Standing) (text : List ℕ) → IsServing start old s text (notes waited marks)
-    → IsServing start mid s text (notes learned later)) → Rests mid new
-    → OnOk r (new.engine.failed ≡ mid.engine.failed) → MakesPlace r old waited marks new learned later
-room_then (Ok x) old mid new waited learned marks later first rests works = λ start s text was.
-    rests_serving start mid new rests works s text (notes learned later) (first start s text was)
-room_then (Err e) old mid new waited learned marks later first rests works = λ start s text was.
-    over_rests start mid new rests s.script text learned
-    (over_here start mid s text (notes learned later) (first start s text was))
+-- ---- a place for a request
 
 -- entries are learnt, and then dropped
-pub drops_then : {D T E : Type 0} (r : Result T E) (element upto : ℕ) (old new : SessionState D)
+pub drops_then : {D E : Type 0} (r : Result Outcome E) (element upto : ℕ) (old new : SessionState D)
     (waited learned : List Waited) (marks later : List Mark) → IsDue old.engine.memory element upto
     → ((start : SessionStart D) (s : Standing) (text : List ℕ) → IsServing start old s text (notes waited marks)
     → IsServing start old s text (learnt learned later element upto))
-    → OnOk r ((o : Outcome) × CommandServed old (Confirm element upto) o new)
+    → IfOk r (λ o. CommandServed old (Confirm element upto) o new)
     → OnErr r (CommandRefused old (Confirm element upto) new) → MakesPlace r old waited marks new learned later
-drops_then (Ok x) element upto old new waited learned marks later is first served refused = λ start s text was.
-    confirm_serving start old new element upto is served.0 served.1 s text learned later (first start s text was)
+drops_then (Ok o) element upto old new waited learned marks later is first served refused = λ start s text was.
+    confirm_serving start old new element upto is o served s text learned later (first start s text was)
 drops_then (Err e) element upto old new waited learned marks later is first served refused = λ start s text was.
     confirm_over start old new element upto is refused s text (learnt learned later element upto)
     (first start s text was)

@@ -6,7 +6,7 @@ ghost use Rattle.im_serial.specs.Asked.{wanted_by, wanted_of};
 ghost use Rattle.im_serial.specs.Serving.{HasAsked, MakesPlace, seen_by, ServedBy};
 
 use crate::hearing::hear;
-use crate::room::{confirm, next_number, reason_of};
+use crate::room::{next_number, reason_of, serve_one};
 use crate::server::Server;
 use crate::waits::learn;
 use im_asks::{WindowPlace, next_place};
@@ -24,7 +24,7 @@ impl<D: Disk> Server<D> {
         element: u16,
         numbers: (u64, u64),
         observer: &mut N,
-    ) -> Result<(), Refusal>
+    ) -> Result<Outcome, Refusal>
         requires due { IsWindowPlace self.old.session.engine.memory element (DueTo numbers.0 numbers.1) }
         ensures goes { MakesPlace result self.old.session self.old.waited.items self.old.places.marks.items
             self.new.session self.new.waited.items self.new.places.marks.items }
@@ -39,7 +39,11 @@ impl<D: Disk> Server<D> {
             (element, base, upto),
             observer,
         );
-        confirm(&mut self.session, &mut self.progress, element, upto)
+        serve_one(
+            &mut self.session,
+            &mut self.progress,
+            &Command::Confirm { element, upto },
+        )
     }
 
     // Returns the number of an element's next request. If its window is full, and only then, confirms its entries
@@ -56,29 +60,11 @@ impl<D: Disk> Server<D> {
             Ok(WindowPlace::Next(number)) => Ok(number),
             Ok(WindowPlace::Confirm { base, upto }) => {
                 match self.make_place(element, (base, upto), observer) {
-                    Ok(()) => next_number(self.session.engine(), element),
+                    Ok(_outcome) => next_number(self.session.engine(), element),
                     Err(refusal) => Err(refusal),
                 }
             }
             Ok(WindowPlace::Full) => Err(Refusal::WindowFull),
-            Err(refusal) => Err(refusal),
-        }
-    }
-
-    // Returns the number of an element's next request, and makes room in the journal for it.
-    fn prepare<N: Observer<News>>(&mut self, element: u16, observer: &mut N) -> Result<u64, Refusal>
-        ensures goes { MakesPlace result self.old.session self.old.waited.items self.old.places.marks.items
-            self.new.session self.new.waited.items self.new.places.marks.items }
-        ensures next { IfOk result (λ next. (base : ℕ)
-            × (bounds self.new.session.engine.memory.windows element ≡ Ok (base, next))) }
-        ensures lines { self.new.lines ≡ self.old.lines }
-        ensures bases { self.new.bases.items ≡ self.old.bases.items }
-    {
-        match self.number(element, observer) {
-            Ok(number) => match self.session.make_room(1, &mut self.progress) {
-                Ok(()) => Ok(number),
-                Err(refusal) => Err(refusal),
-            },
             Err(refusal) => Err(refusal),
         }
     }
@@ -92,7 +78,7 @@ impl<D: Disk> Server<D> {
         ensures bases { self.new.bases.items ≡ self.old.bases.items }
     {
         let who = (request.element, request.number);
-        match self.session.serve(&Command::Request(request)) {
+        match serve_one(&mut self.session, &mut self.progress, &Command::Request(request)) {
             Ok(Outcome::Entry(entry)) => match self.print(who, entry, out) {
                 Ok(()) => match self.note(who, entry) {
                     Ok(()) => Ok(entry),
@@ -117,7 +103,7 @@ impl<D: Disk> Server<D> {
             (seen_by self.old (W.contents out.old)) (seen_by self.new (W.contents out.new)) }
         ensures bases { self.new.bases.items ≡ self.old.bases.items }
     {
-        match self.prepare(element, observer) {
+        match self.number(element, observer) {
             Ok(number) => {
                 follow(
                     &mut self.progress.told,

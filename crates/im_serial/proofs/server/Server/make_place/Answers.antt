@@ -16,11 +16,11 @@ returns-clause-goes g c =
     let back = written_back was.waited.len c.learn.new.waited was.waited.items same_names (ap length (sym value)
     ∙ c.as_mut_slice.ensures.len) in
     let found = due_bounds was.session.engine.memory element base upto c.requires.due in
-    drops_then c.confirm.result element upto was.session c.confirm.new.session was.waited.items _ marks later
+    drops_then c.serve_one.result element upto was.session c.serve_one.new.session was.waited.items _ marks later
     (base, c.requires.due)
     (λ start s text serving. learns start was.session element upto base found.next was.waited.items _ marks later
     (ap (map who_of) back ∙ same_names) found.are
     (λ m put same memory there noted. subst (AreNoted m put element upto later) (sym back) (c.learn.ensures.learnt
     found.from m put (c.memory.ensures ∙ same) memory
     (subst (AreNoted m put element base marks) (sym value) (noted_from m put element base found.next marks
-    was.waited.items there noted)))) s text serving) c.confirm.ensures.served c.confirm.ensures.refused
+    was.waited.items there noted)))) s text serving) c.serve_one.ensures.served c.serve_one.ensures.refused
