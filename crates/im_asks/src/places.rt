@@ -31,7 +31,7 @@ fn first_unanswered(memory: &Memory, element: u16, bounds: (u64, u64)) -> u64
 }
 
 // Returns where the next request of an element stands within these bounds.
-fn place_within(memory: &Memory, element: u16, bounds: (u64, u64)) -> WindowPlace
+pub(crate) fn place_within(memory: &Memory, element: u16, bounds: (u64, u64)) -> WindowPlace
     ensures { IsPlaceWithin memory.now.contents element bounds result }
 {
     if bounds.1.saturating_sub(bounds.0) < WINDOW {

@@ -1,0 +1,5 @@
+use Rattle.im_asks.proofs.WindowLemmas.{comes_true}
+use Rattle.im_asks.proofs.laws.places_come_true.Goals as goal
+
+pub returns : goal.returns
+returns c = λ m asked element none. comes_true m asked element none

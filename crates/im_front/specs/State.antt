@@ -1,0 +1,48 @@
+-- A front: a session, and what is asked of it in order. (Own.)
+use Rattle.std.specs.Prelude.{◌≡◌, ℕ, ◌<◌, ◌≤◌, List, ◌++◌, length, max, min, take}
+use Rattle.im_types.specs.declared.TheConstants.{MAX_GROUP}
+use Rattle.im_types.specs.declared.commands.Command.{Command}
+use Rattle.im_asks.specs.declared.asked.AskedCommand.{AskedCommand}
+use Rattle.im_asks.specs.declared.asked.ToldAnswer.{ToldAnswer}
+use Rattle.im_asks.specs.Lists.{answers_told, asks_told, commands_asked, commands_told}
+use Rattle.im_groups.specs.Ahead.{ServesPrefix}
+use Rattle.im_engine.specs.Commands.{CommandsAnswered, commands_put}
+use Rattle.im_session.specs.Kept.{SessionState}
+use Rattle.im_session.specs.Serving.{Rests, served_together}
+
+-- a session, and what is asked of it and not told yet, the oldest command first
+pub record FrontState (D : Type 0) : Type 0 where
+  pub session : SessionState D
+  pub asked : List AskedCommand
+
+-- a front of these
+abbrev pub front_of : {D : Type 0} → SessionState D → List AskedCommand → FrontState D
+front_of session asked = record { session = session; asked = asked }
+
+-- the commands of the next group, at most so many: the first ones, no more than there is room for, or one
+abbrev pub next_members : {D : Type 0} → ℕ → FrontState D → List Command
+next_members most s =
+    take (min (min most (max 1 s.session.engine.room)) (min MAX_GROUP (length s.asked))) (commands_asked s.asked)
+
+-- nothing was put, and nothing was told
+pub record FrontRests {D : Type 0} (old new : FrontState D) : Type 0 where
+  pub rests : Rests old.session new.session
+  pub asked : new.asked ≡ old.asked
+
+-- These answers were told.
+pub record Advanced {D : Type 0} (old : FrontState D) (told : List ToldAnswer) (new : FrontState D) : Type 0 where
+  -- what was asked first is told first, and the others are still asked
+  pub order : old.asked ≡ asks_told told ++ new.asked
+  -- each answer is that of its command, behind those before it
+  pub answered : CommandsAnswered old.session.engine (commands_told told) (answers_told told) new.session.engine
+  -- exactly those commands were put, as far as they change the memory
+  pub put : new.session ≡ served_together old.session (commands_told told) new.session.engine
+  -- they are no more than there was room for, or one
+  pub room : length told ≤ max 1 old.session.engine.room
+  -- if something is asked, something is told
+  pub some : 0 < length old.asked → 0 < length told
+
+-- these are the first of the next group, up to one of which it isn't known before they act whether it is accepted
+abbrev pub BeginsGroup : {D : Type 0} → ℕ → FrontState D → List ToldAnswer → Type 0
+BeginsGroup most old told = ServesPrefix old.session.engine.memory
+    (commands_put old.session.engine (commands_told told)) (next_members most old) (length told)
