@@ -1,35 +1,21 @@
 -- Where an element's window goes behind what is asked.
-use Rattle.std.proofs.Common.{◌≡◌, ◌≢◌, ℕ, ◌+◌, ◌-◌, ◌<◌, ◌≤◌, List, [], ◌∷◌, take, drop, Bool, true, false, refl}
-use Rattle.std.proofs.Common.{sym, ◌∙◌, ap, arith, Option, Some, None, ◌⊎◌, inl, inr}
-use Rattle.std.specs.Prelude.{◌==◌, ◌&&◌, not, nat_lt, max, Result, Ok, Err, slice_get, slice_index_or, if◌then◌else◌}
-use Rattle.std.specs.List.{list_any}
-use Rattle.std.proofs.lemmas.Bool.Decides.{nat_tests}
-use Rattle.im_types.specs.declared.TheConstants.{WINDOW}
-use Rattle.im_types.specs.declared.commands.Command.{Command}
-use Rattle.im_types.specs.declared.commands.Command.TheVariants.{Request as Requests, Confirm as Confirms}
-use Rattle.im_types.specs.declared.refusals.Refusal.{Refusal}
-use Rattle.im_types.specs.declared.refusals.Refusal.TheVariants.{Forgotten, Gap, NotAnswered}
-use Rattle.im_types.specs.declared.operations.Entry.{Entry}
-use Rattle.im_types.specs.declared.operations.Kept.{Kept}
-use Rattle.im_types.specs.declared.operations.Waiter.{Waiter}
-use Rattle.im_types.specs.Agreement.{WaitingAgrees}
-use Rattle.im_types.specs.Contents.{Contents, Window, kept_for, new_window}
-use Rattle.im_types.specs.Window.{bounds, confirm_window, is_waiting, next_number}
-use Rattle.im_types.specs.Step.{step, step_confirm, is_accepted, moves_base}
-use Rattle.im_types.specs.Run.{after}
-use Rattle.im_laws.specs.Windows.{IsForgotten, MovesBase}
-use Rattle.im_laws.proofs.Tests.{eq_by_test, some_same, true_false}
-use Rattle.im_laws.proofs.EntryLemmas.{answered-lasts, ask-kept}
-use Rattle.im_laws.proofs.ForgetLemmas.{ask-forgotten}
+use Rattle.std.proofs.Common.{◌≡◌, ℕ, ◌+◌, ◌-◌, ◌<◌, ◌≤◌, max, Bool, true, false, not, ◌&&◌, ◌≢◌, ◌⊎◌, List, [], ◌∷◌}
+use Rattle.std.proofs.Common.{take, drop, if◌then◌else◌, nat_lt, ◌==◌, slice_get, slice_index_or, Some, None, Ok, Err}
+use Rattle.std.proofs.Common.{Option, Result, sym, refl, ap, ◌∙◌, inl, inr, arith}
+use Rattle.std.{proofs.lemmas.Bool.Decides.nat_tests, specs.List.list_any}
+use Rattle.im_types.specs.Types.{Entry, Waiter, Kept, Command, Asks as Requests, Confirm as Confirms, Refusal, Gap}
+use Rattle.im_types.specs.Types.{Forgotten, NotAnswered, WINDOW, Window, Contents, new_window, kept_for, WaitingAgrees}
+use Rattle.im_types.specs.Types.{next_number, is_waiting, confirm_window, bounds, step_confirm, step, moves_base}
+use Rattle.im_types.specs.Types.{is_accepted, after}
 use Rattle.im_laws.proofs.AcceptLemmas.{accepted-moves_base, same_bounds, unaccepted-leaves}
-use Rattle.im_laws.proofs.MemoryLemmas.{bounds-window}
-use Rattle.im_laws.proofs.WindowLemmas.{window_at}
+use Rattle.im_laws.{proofs.EntryLemmas.answered-lasts, proofs.EntryLemmas.ask-kept, proofs.Tests.eq_by_test}
+use Rattle.im_laws.{proofs.Tests.some_same, proofs.Tests.true_false, specs.Windows.IsForgotten, specs.Windows.MovesBase}
+use Rattle.im_laws.proofs.{ForgetLemmas.ask-forgotten, MemoryLemmas.bounds-window, WindowLemmas.window_at}
+use Rattle.im_groups.proofs.AheadLemmas.{bounds-moved, confirm-accepted, DoesNotWait, request-judged}
 use Rattle.im_groups.specs.Ahead.{bounds_behind, is_answered_or, is_next, moved_by}
-use Rattle.im_groups.proofs.AheadLemmas.{DoesNotWait, bounds-moved, confirm-accepted, request-judged}
-use Rattle.im_asks.specs.declared.asked.AskedCommand.{AskedCommand}
-use Rattle.im_asks.specs.Lists.{commands_asked}
-use Rattle.im_asks.specs.Behind.{IsDueBehind, NoneUnanswered, asked_bounds, asked_from, bounds_asked_by}
-use Rattle.im_asks.specs.Behind.{bounds_asked_by_all, drops_within}
+use Rattle.im_asks.specs.Behind.{asked_bounds, asked_from, bounds_asked_by, bounds_asked_by_all, drops_within}
+use Rattle.im_asks.specs.Behind.{IsDueBehind, NoneUnanswered}
+use Rattle.im_asks.specs.{declared.asked.AskedCommand.AskedCommand, Lists.commands_asked}
 
 pub within_window : (base number : ℕ) → nat_lt (number - base) WINDOW ≡ nat_lt number (base + WINDOW)
 within_window base number = grind (arith, nat_tests)

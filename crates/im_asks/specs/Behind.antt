@@ -1,21 +1,11 @@
 -- Where an element's next request stands, behind what is asked before. (Own.)
-use Rattle.std.specs.Prelude.{◌≡◌, ◌≢◌, ℕ, ◌+◌, ◌==◌, Bool, true, ◌&&◌, not, nat_lt, List, []}
-use Rattle.std.specs.Prelude.{◌∷◌, Result, Ok, Err, if◌then◌else◌}
-use Rattle.im_types.specs.declared.commands.Command.{Command}
-use Rattle.im_types.specs.declared.commands.Command.TheVariants.{Request as Requests, Confirm as Confirms}
-use Rattle.im_types.specs.declared.refusals.Refusal.{Refusal}
-use Rattle.im_types.specs.declared.refusals.Refusal.TheVariants.{NotAnswered}
-use Rattle.im_types.specs.Contents.{Contents}
-use Rattle.im_types.specs.Window.{bounds}
-use Rattle.im_types.specs.Agreement.{WaitingAgrees}
-use Rattle.im_types.specs.Run.{after}
-use Rattle.im_types.specs.Step.{step, is_accepted}
+use Rattle.std.specs.Prelude.{◌≡◌, ℕ, ◌+◌, Bool, true, not, ◌&&◌, ◌≢◌, List, [], ◌∷◌, if◌then◌else◌, nat_lt, ◌==◌, Ok}
+use Rattle.std.specs.Prelude.{Err, Result}
+use Rattle.im_types.specs.Types.{Command, Asks as Requests, Confirm as Confirms, Refusal, NotAnswered, Contents}
+use Rattle.im_types.specs.Types.{WaitingAgrees, bounds, step, is_accepted, after}
 use Rattle.im_groups.specs.Ahead.{is_next}
-use Rattle.im_asks.specs.declared.asked.AskedCommand.{AskedCommand}
-use Rattle.im_asks.specs.Lists.{commands_asked}
-use Rattle.im_asks.specs.Windows.{IsPlaceWithin}
-use Rattle.im_asks.specs.declared.window_place.WindowPlace.{WindowPlace}
-use Rattle.im_asks.specs.declared.window_place.WindowPlace.TheVariants.{Confirm}
+use Rattle.im_asks.specs.{declared.asked.AskedCommand.AskedCommand, Lists.commands_asked, Windows.IsPlaceWithin}
+use Rattle.im_asks.specs.declared.window_place.WindowPlace.{TheVariants.Confirm, WindowPlace}
 
 -- ---- the bounds of a window
 

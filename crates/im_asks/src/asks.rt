@@ -1,10 +1,8 @@
 //! The queue of what is asked. It goes out in groups, from the front, and each answer goes with its ticket.
-ghost use Rattle.std.specs.Prelude.{◌≡◌, ◌++◌, ◌∷◌, [], ◌==◌, ◌<◌, ◌≤◌, drop, length, min, take, Err};
-ghost use Rattle.std.specs.Prelude.{IfErr, IfOk};
-ghost use Rattle.im_types.specs.declared.TheConstants.{MAX_GROUP};
-ghost use Rattle.im_asks.specs.declared.asks.TheConstants.{MOST_ASKED};
+ghost use Rattle.std.specs.Prelude.{◌≡◌, ◌<◌, ◌≤◌, min, [], ◌∷◌, ◌++◌, length, take, drop, IfOk, IfErr, ◌==◌, Err};
+ghost use Rattle.im_types.specs.Types.{MAX_GROUP};
+ghost use Rattle.im_asks.specs.{Behind.asked_bounds, Behind.IsPlaceBehind, declared.asks.TheConstants.MOST_ASKED};
 ghost use Rattle.im_asks.specs.Lists.{answers_told, asks_told, commands_asked, with_ticket};
-ghost use Rattle.im_asks.specs.Behind.{IsPlaceBehind, asked_bounds};
 
 use crate::asked::{AskedCommand, ToldAnswer};
 use crate::behind::place_behind;

@@ -1,8 +1,7 @@
 //! Where an element's next request stands, behind what is asked before.
-ghost use Rattle.std.specs.Prelude.{◌≡◌, ◌+◌, ◌≤◌, Err, IfErr, IfOk, nat_lt, true};
-ghost use Rattle.im_types.specs.declared.TheConstants.{LAST, WINDOW};
-ghost use Rattle.im_groups.specs.Ahead.{is_next};
-ghost use Rattle.im_asks.specs.Behind.{IsPlaceBehind, asked_bounds, bounds_asked_by, drops_within};
+ghost use Rattle.std.specs.Prelude.{◌≡◌, ◌+◌, ◌≤◌, true, IfOk, IfErr, nat_lt, Err};
+ghost use Rattle.{im_types.specs.Types.WINDOW, im_types.specs.Types.LAST, im_groups.specs.Ahead.is_next};
+ghost use Rattle.im_asks.specs.Behind.{asked_bounds, bounds_asked_by, drops_within, IsPlaceBehind};
 
 use crate::asked::AskedCommand;
 use crate::places::place_within;

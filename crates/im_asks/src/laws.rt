@@ -1,11 +1,8 @@
 //! What comes of a place that was told. The functions do nothing, and their contracts are laws.
 ghost use Rattle.std.specs.Prelude.{◌≡◌, ℕ, List};
-ghost use Rattle.im_types.specs.Contents.{Contents};
-ghost use Rattle.im_types.specs.Run.{after};
-ghost use Rattle.im_types.specs.Window.{bounds};
-ghost use Rattle.im_asks.specs.declared.asked.AskedCommand.{AskedCommand};
-ghost use Rattle.im_asks.specs.Lists.{commands_asked};
-ghost use Rattle.im_asks.specs.Behind.{AcceptsDue, NoneUnanswered, asked_bounds};
+ghost use Rattle.im_types.specs.Types.{Contents, bounds, after};
+ghost use Rattle.im_asks.specs.Behind.{AcceptsDue, asked_bounds, NoneUnanswered};
+ghost use Rattle.im_asks.specs.{declared.asked.AskedCommand.AskedCommand, Lists.commands_asked};
 
 /// The window by which an element's place is told is the one that it has once all that is asked has acted, unless a
 /// confirmation is refused then because an entry that it drops waits.

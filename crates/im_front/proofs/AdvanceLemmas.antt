@@ -1,15 +1,12 @@
 -- A group out of the queue, and what is told of it.
-use Rattle.std.proofs.Common.{◌≡◌, ◌∙◌, ℕ, ◌≤◌, List, ◌++◌, length, take, max, min, sym, ap, subst, arith}
-use Rattle.std.specs.Ordering.{nat_cmp, ord_max, ord_min}
-use Rattle.std.proofs.lemmas.Bool.Decides.{nat_tests}
-use Rattle.std.proofs.lemmas.List.{length-map, map-append, take-take, take_at}
-use Rattle.im_types.specs.declared.commands.Command.{Command}
-use Rattle.im_types.specs.declared.groups.Served.{Served}
-use Rattle.im_asks.specs.declared.asked.AskedCommand.{AskedCommand}
-use Rattle.im_asks.specs.declared.asked.ToldAnswer.{ToldAnswer}
+use Rattle.std.proofs.Common.{◌≡◌, ℕ, ◌≤◌, min, max, List, ◌++◌, length, take, nat_cmp, sym, ap, ◌∙◌, subst, arith}
+use Rattle.std.proofs.Common.{take-take, take_at}
+use Rattle.std.proofs.lemmas.{Bool.Decides.nat_tests, List.length-map, List.map-append}
+use Rattle.std.specs.Ordering.{ord_max, ord_min}
+use Rattle.im_types.specs.Types.{Command, Served}
+use Rattle.{im_groups.specs.Ahead.ServesPrefix, im_engine.specs.Commands.commands_put}
+use Rattle.im_asks.specs.declared.{AskedCommand.AskedCommand, ToldAnswer.ToldAnswer}
 use Rattle.im_asks.specs.Lists.{answers_told, asks_told, commands_asked, commands_told}
-use Rattle.im_groups.specs.Ahead.{ServesPrefix}
-use Rattle.im_engine.specs.Commands.{commands_put}
 use Rattle.im_front.specs.State.{BeginsGroup, FrontState, next_members}
 
 -- the greater and the smaller of two numbers, as they are compared

@@ -1,10 +1,8 @@
 -- What turns that make room come to.
 use Rattle.std.proofs.Common.{◌≡◌, ℕ, ◌<◌, ◌∷◌, ap, arith}
-use Rattle.im_checkpoint.specs.declared.checkpoint.TurnDone.{TurnDone}
-use Rattle.im_checkpoint.specs.declared.checkpoint.TurnDone.TheVariants.{Idle}
+use Rattle.im_checkpoint.specs.declared.TurnDone.{TheVariants.Idle, TurnDone}
 use Rattle.im_turning.specs.Turning.{HasTurned, Point, TurnsInto}
-use Rattle.im_front.specs.declared.room_made.RoomMade.TheVariants.{Spent}
-use Rattle.im_front.specs.Room.{MakesRoom}
+use Rattle.im_front.specs.{declared.room_made.RoomMade.TheVariants.Spent, Room.MakesRoom}
 
 -- a turn had nothing to do
 pub is_spent : (least most many : ℕ) (p mid q : Point) (done : TurnDone) → HasTurned many p mid → TurnsInto mid done q

@@ -1,6 +1,6 @@
 -- One command by itself, behind the turns that made room for it.
 use Rattle.std.proofs.Common.{◌≡◌, IfOk, OnErr, Ok, Err, Result, refl}
-use Rattle.{im_types.specs.Types.Command, im_types.specs.Types.Outcome, im_types.specs.Types.Refusal}
+use Rattle.im_types.specs.Types.{Command, Outcome, Refusal}
 use Rattle.{im_engine.specs.Answered.Answered, im_session.specs.Kept.SessionState}
 use Rattle.im_session.proofs.ServedLemmas.{command_refused, command_served, refused_behind, served_behind}
 use Rattle.im_session.specs.Serving.{CommandRefused, CommandServed, Rests, served_one}

@@ -1,10 +1,9 @@
 -- Room that is made by turns, so many at most. (Own.)
-use Rattle.std.specs.Prelude.{◌≡◌, ℕ, ◌<◌, ◌≤◌, List, ◌∷◌, length, nat_lt, if◌then◌else◌}
-use Rattle.im_checkpoint.specs.declared.checkpoint.TurnDone.{TurnDone}
-use Rattle.im_checkpoint.specs.declared.checkpoint.TurnDone.TheVariants.{Idle}
+use Rattle.std.specs.Prelude.{◌≡◌, ℕ, ◌<◌, ◌≤◌, List, ◌∷◌, length, if◌then◌else◌, nat_lt}
+use Rattle.im_checkpoint.specs.declared.TurnDone.{TheVariants.Idle, TurnDone}
 use Rattle.im_turning.specs.Turning.{Point, TurnsLead}
 use Rattle.im_front.specs.declared.room_made.RoomMade.{RoomMade}
-use Rattle.im_front.specs.declared.room_made.RoomMade.TheVariants.{Enough, Spent, Later}
+use Rattle.im_front.specs.declared.room_made.RoomMade.TheVariants.{Enough, Later, Spent}
 
 -- what there is after as many turns as may be: enough room, or not yet
 abbrev pub room_at : ℕ → ℕ → RoomMade

@@ -1,14 +1,10 @@
 -- A front: a session, and what is asked of it in order. (Own.)
-use Rattle.std.specs.Prelude.{◌≡◌, ℕ, ◌<◌, ◌≤◌, List, ◌++◌, length, max, min, take}
-use Rattle.im_types.specs.declared.TheConstants.{MAX_GROUP}
-use Rattle.im_types.specs.declared.commands.Command.{Command}
-use Rattle.im_asks.specs.declared.asked.AskedCommand.{AskedCommand}
-use Rattle.im_asks.specs.declared.asked.ToldAnswer.{ToldAnswer}
+use Rattle.std.specs.Prelude.{◌≡◌, ℕ, ◌<◌, ◌≤◌, min, max, List, ◌++◌, length, take}
+use Rattle.{im_types.specs.Types.Command, im_types.specs.Types.MAX_GROUP, im_groups.specs.Ahead.ServesPrefix}
+use Rattle.im_asks.specs.declared.{AskedCommand.AskedCommand, ToldAnswer.ToldAnswer}
 use Rattle.im_asks.specs.Lists.{answers_told, asks_told, commands_asked, commands_told}
-use Rattle.im_groups.specs.Ahead.{ServesPrefix}
-use Rattle.im_engine.specs.Commands.{CommandsAnswered, commands_put}
-use Rattle.im_session.specs.Kept.{SessionState}
-use Rattle.im_session.specs.Serving.{Rests, served_together}
+use Rattle.im_engine.specs.Commands.{commands_put, CommandsAnswered}
+use Rattle.im_session.specs.{Kept.SessionState, Serving.Rests, Serving.served_together}
 
 -- a session, and what is asked of it and not told yet, the oldest command first
 pub record FrontState (D : Type 0) : Type 0 where

@@ -1,7 +1,8 @@
 //! What is asked is served: as a group, from the front of the queue. A command by itself is served ahead of it.
 ghost use Rattle.std.specs.Prelude.{◌≡◌, ◌<◌, ◌≤◌, [], length, IfOk, OnErr};
-ghost use Rattle.{im_asks.specs.Lists.commands_told, im_session.specs.Keeping.KeepsPut};
-ghost use Rattle.im_session.specs.{Keeping.MakesFewCalls, Serving.CommandRefused, Serving.CommandServed};
+ghost use Rattle.im_asks.specs.Lists.{commands_told};
+ghost use Rattle.im_session.specs.Keeping.{KeepsPut, MakesFewCalls};
+ghost use Rattle.im_session.specs.Serving.{CommandRefused, CommandServed};
 ghost use Rattle.im_front.specs.State.{Advanced, BeginsGroup};
 
 use crate::front::Front;

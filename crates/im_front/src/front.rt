@@ -1,10 +1,9 @@
 //! A session with its queue: who asks, and what is looked at.
-ghost use Rattle.std.specs.Prelude.{◌≡◌, ◌++◌, ◌∷◌, [], ◌<◌, ◌≤◌, ◌==◌, length, min, Err, IfErr, IfOk};
-ghost use Rattle.im_types.specs.declared.TheConstants.{MAX_GROUP};
-ghost use Rattle.im_asks.specs.declared.asks.TheConstants.{MOST_ASKED};
-ghost use Rattle.im_asks.specs.Lists.{with_ticket};
-ghost use Rattle.im_asks.specs.Behind.{IsPlaceBehind, asked_bounds};
-ghost use Rattle.{im_session.specs.Kept.Kept, im_front.specs.State.front_of};
+ghost use Rattle.std.specs.Prelude.{◌≡◌, ◌<◌, ◌≤◌, min, [], ◌∷◌, ◌++◌, length, IfOk, IfErr, ◌==◌, Err};
+ghost use Rattle.{im_types.specs.Types.MAX_GROUP, im_session.specs.Kept.Kept};
+ghost use Rattle.im_asks.specs.Behind.{asked_bounds, IsPlaceBehind};
+ghost use Rattle.im_asks.specs.{declared.asks.TheConstants.MOST_ASKED, Lists.with_ticket};
+ghost use Rattle.im_front.specs.State.{front_of};
 
 use arrayvec::ArrayVec;
 use im_asks::{AskedCommand, Asks, WindowPlace};
@@ -35,7 +34,7 @@ impl<D: Disk + Drop> Drop for Front<D> {
 }
 
 impl<D: Disk> Model for Front<D> {
-    ghost use Rattle.im_front.specs.State.{FrontState, front_of};
+    ghost use Rattle.im_front.specs.State.{front_of, FrontState};
 
     ghost Value = { FrontState D };
 

@@ -1,10 +1,8 @@
 //! Makes room in the journal for a group, by so many turns at most: never a whole checkpoint of a large image at once.
-ghost use Rattle.std.specs.Prelude.{◌≡◌, true, length, min, IfErr, IfOk, OnOk};
-ghost use Rattle.im_types.specs.declared.TheConstants.{MAX_GROUP};
-ghost use Rattle.im_turning.specs.Turning.{point_of};
+ghost use Rattle.std.specs.Prelude.{◌≡◌, min, true, length, IfOk, IfErr, OnOk};
+ghost use Rattle.{im_types.specs.Types.MAX_GROUP, im_turning.specs.Turning.point_of};
 ghost use Rattle.im_session.specs.Serving.{IsBroken, Rests};
-ghost use Rattle.im_front.specs.Room.{MakesRoom, room_at};
-ghost use Rattle.im_front.specs.State.{FrontRests};
+ghost use Rattle.im_front.specs.{Room.MakesRoom, Room.room_at, State.FrontRests};
 
 use crate::front::Front;
 use crate::room_made::RoomMade;

@@ -1,8 +1,7 @@
 //! Turns of a checkpoint and sweeps, whatever is asked. They put nothing, and tell nothing.
 ghost use Rattle.im_disk.specs.Since.{CallsAtMost};
-ghost use Rattle.im_checkpoint.specs.Turns.{most_calls};
+ghost use Rattle.{im_checkpoint.specs.Turns.most_calls, im_session.specs.Keeping.KeepsPut};
 ghost use Rattle.im_engine.specs.Answered.{SweepAnswered, TurnAnswered};
-ghost use Rattle.im_session.specs.Keeping.{KeepsPut};
 ghost use Rattle.im_front.specs.State.{FrontRests};
 
 use crate::front::Front;

@@ -1,5 +1,4 @@
 use Rattle.im_asks.proofs.WindowLemmas.{due_accepted}
-use Rattle.im_asks.proofs.laws.due_is_accepted.Goals as goal
 
-pub returns : goal.returns
+pub returns : Rattle.im_asks.proofs.laws.due_is_accepted.Goals.returns
 returns c = λ m asked element upto agrees sure due. due_accepted m asked element upto agrees sure due

@@ -1,6 +1,5 @@
-use Rattle.std.proofs.Common.{◌∙◌, [], refl}
-use Rattle.im_turning.specs.Turning.{point_of}
-use Rattle.im_turning.proofs.TurningLemmas.{turn_leads, turned_more}
+use Rattle.std.proofs.Common.{[], refl, ◌∙◌}
+use Rattle.im_turning.{proofs.TurningLemmas.turn_leads, proofs.TurningLemmas.turned_more, specs.Turning.point_of}
 use Rattle.im_session.proofs.RoomLemmas.{broken, rests_none, rests_then, turn_works}
 use Rattle.im_front.proofs.MakingLemmas.{is_spent}
 use Rattle.im_front.proofs.room.turn_until.Goals as goal

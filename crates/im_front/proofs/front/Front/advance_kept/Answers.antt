@@ -1,12 +1,8 @@
-use Rattle.std.proofs.Common.{◌∙◌, ℕ, List, ap, length, subst, take}
-use Rattle.std.specs.Prelude.{max, min}
-use Rattle.im_types.specs.declared.TheConstants.{MAX_GROUP}
-use Rattle.im_types.specs.declared.commands.Command.{Command}
-use Rattle.im_asks.specs.Lists.{commands_asked}
-use Rattle.im_engine.specs.State.{EngineState}
-use Rattle.im_session.specs.Keeping.{MakesFewCalls}
-use Rattle.im_front.specs.State.{front_of}
+use Rattle.std.proofs.Common.{ℕ, min, max, List, length, take, ap, ◌∙◌, subst}
+use Rattle.{im_types.specs.Types.Command, im_types.specs.Types.MAX_GROUP, im_asks.specs.Lists.commands_asked}
+use Rattle.{im_engine.specs.State.EngineState, im_session.specs.Keeping.MakesFewCalls}
 use Rattle.im_front.proofs.AdvanceLemmas.{begins_group, max_is, min_is, told_first, told_many}
+use Rattle.im_front.specs.State.{front_of}
 use Rattle.im_front.proofs.front.Front.advance_kept.Goals as goal
 
 pub returns-clause-begins : goal.returns-clause-begins

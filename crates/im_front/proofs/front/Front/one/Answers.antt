@@ -1,5 +1,5 @@
-use Rattle.{im_session.proofs.ServedLemmas.rests_refused, im_front.proofs.OneLemmas.one_refused}
-use Rattle.im_front.proofs.OneLemmas.{one_served}
+use Rattle.im_session.proofs.ServedLemmas.{rests_refused}
+use Rattle.im_front.proofs.OneLemmas.{one_refused, one_served}
 use Rattle.im_front.proofs.front.Front.one.Goals as goal
 
 pub returns-in-Ok-clause-served : goal.returns-in-Ok-clause-served
