@@ -10,12 +10,14 @@ use im_types::MAX_GROUP;
 use std::alloc::{AllocError, Global};
 use std::io::{BufRead, ErrorKind};
 
-// The most lines that are looked at for one group.
-const MOST_LINES: usize = 64;
+/// The most lines that are looked at for one group.
+pub(crate) const MOST_LINES: usize = 64;
 
 /// What the first lines in a reader's buffer ask for.
 #[derive(Drop)]
 pub(crate) struct InBuffer {
+    /// How many lines are looked at, at most.
+    pub(crate) reach: usize,
     /// What each line asks for.
     pub(crate) asked: Vec<Question>,
     /// How many bytes the lines have up to each one, with its line feed.
@@ -80,8 +82,9 @@ fn take_lines(alloc: Global, text: &[u8], standing: &mut InBuffer) -> Result<(),
     ensures asked { OnOk result (AreAsked standing.new.asked.items) }
     ensures stands { OnOk result (StandsIn text.now standing.new.asked.items standing.new.ends.items) }
 {
+    let reach = standing.reach;
     let mut rest = text;
-    for _line in 0..MOST_LINES {
+    for _line in 0..reach {
         let Some((line, later)) = split_line(rest) else {
             return Ok(());
         };
@@ -94,8 +97,8 @@ fn take_lines(alloc: Global, text: &[u8], standing: &mut InBuffer) -> Result<(),
     Ok(())
 }
 
-/// Takes what the first whole lines in a reader's buffer ask for, at most 64, up to the first line that stands in no
-/// group. It waits for more if the buffer is empty. The lines stay in the buffer.
+/// Takes what the first whole lines in a reader's buffer ask for, at most as many as are looked at, up to the first line
+/// that stands in no group. It waits for more if the buffer is empty. The lines stay in the buffer.
 pub(crate) fn gather<R: BufRead>(
     alloc: Global,
     input: &mut R,
@@ -128,6 +131,16 @@ pub(crate) fn commands_among(asked: &[Question]) -> u32 {
         }
     }
     many.min(MAX_GROUP as u32)
+}
+
+/// Returns how many lines are looked at for the next group, given how many were for this one, stood there and were
+/// answered. A line that was looked at in vain is parsed again: so it is one more than were answered, at least two, or
+/// twice as many as before if all were, at most 64.
+pub(crate) fn reach_behind(reach: usize, stood: usize, answered: usize) -> usize {
+    if answered < stood {
+        return answered.saturating_add(1).max(2);
+    }
+    reach.saturating_mul(2).min(MOST_LINES)
 }
 
 /// Returns how many bytes the first `many` lines have, by where each line ends.

@@ -1,6 +1,6 @@
 //! Room that is kept from line to line.
 
-use crate::buffer::InBuffer;
+use crate::buffer::{InBuffer, MOST_LINES};
 use crate::grouping::Gathered;
 use crate::saying::Draft;
 use arrayvec::ArrayVec;
@@ -32,6 +32,7 @@ impl Drafts {
             },
             nows: String::new(alloc),
             standing: InBuffer {
+                reach: MOST_LINES,
                 asked: Vec::new(alloc),
                 ends: Vec::new(alloc),
             },

@@ -6,7 +6,7 @@ ghost use Rattle.im_dialogue.specs.Talk.{outputs, TalksAsked, TalksQueue};
 
 use crate::asking::{Question, read_asked};
 use crate::backups::Backups;
-use crate::buffer::{commands_among, end_of, gather};
+use crate::buffer::{commands_among, end_of, gather, reach_behind};
 use crate::drafts::Drafts;
 use crate::grouping::take_parts;
 use crate::lines::{next_line, unread};
@@ -167,8 +167,8 @@ impl<D: Disk> Dialogue<D> {
         }
     }
 
-    // Serves the first lines in the reader's buffer as one group, if two or more of them are commands and there is room
-    // for these. Returns how many lines it served, or 0. The others stay in the buffer.
+    // Serves the first lines in the reader's buffer as one group, if there are two or more, and there is room for the
+    // commands among them. Returns how many lines it served, or 0. The others stay in the buffer.
     fn serve_together<R: BufRead, W: Write>(
         &mut self,
         input: &mut R,
@@ -181,10 +181,11 @@ impl<D: Disk> Dialogue<D> {
         if let Err(reason) = gather(self.alloc, input, &mut self.drafts.standing) {
             return Err(reason);
         }
-        let many = commands_among(self.drafts.standing.asked.as_slice());
-        if many < 2 {
+        let stood = self.drafts.standing.asked.len();
+        if stood < 2 {
             return Ok(0);
         }
+        let many = commands_among(self.drafts.standing.asked.as_slice());
         if let Err(refusal) = self.session.make_room(many, &mut Unobserved) {
             return Err(Reason::Image(refusal, Damage::Unknown));
         }
@@ -192,6 +193,8 @@ impl<D: Disk> Dialogue<D> {
             Ok(served) => {
                 let ends = self.drafts.standing.ends.as_slice();
                 input.consume(end_of(ends, served));
+                let reach = self.drafts.standing.reach;
+                self.drafts.standing.reach = reach_behind(reach, stood, served);
                 Ok(served as u64)
             }
             Err(reason) => Err(reason),
@@ -257,11 +260,12 @@ impl<D: Disk> Dialogue<D> {
     /// line. What is answered is what the lines of the input ask for, all of them, or the first ones after an error.
     ///
     /// Up to 16 requests and confirmations are served as one group, if their lines follow each other in the reader's
-    /// buffer, with lines between them that change nothing. Their answers are written together, and are those that the
-    /// lines would have by themselves. A group ends before a confirmation that would drop an entry of which it isn't
-    /// known, before the group acts, that it is answered: one that waits, or that a fetch or a take of the group makes.
-    /// It also ends before a command that may change what a line ahead of it shows that only looks. No line waits for
-    /// another. All other lines are answered before the next one is read.
+    /// buffer, with lines between them that change nothing. Lines that change nothing are a group by themselves, too.
+    /// The answers to a group are written together, and are those that its lines would have by themselves. A group
+    /// ends before a confirmation that would drop an entry of which it isn't known, before the group acts, that it is
+    /// answered: one that waits, or that a fetch or a take of the group makes. It also ends before a command that may
+    /// change what a line ahead of it shows that only looks. No line waits for another. All other lines are answered
+    /// before the next one is read.
     ///
     /// The reader tells whether something is there to be read. While nothing is, turns of a checkpoint are taken if
     /// there is room for less than half as many commands as the journal has slots.

@@ -13,8 +13,8 @@ returns-in-Err-clause-talks g c = λ kept.
     (outputs (g.W.Write.contents c.args.out.now) kept))
     None
 
-pub returns-then-many-lt2-clause-talks : goal.returns-then-many-lt2-clause-talks
-returns-then-many-lt2-clause-talks g c = λ kept.
+pub returns-then-stood-lt2-clause-talks : goal.returns-then-stood-lt2-clause-talks
+returns-then-stood-lt2-clause-talks g c = λ kept.
     left_as c.args.self.now.setting.watch c.args.self.now.session
     (outputs (g.W.Write.contents c.args.out.now) kept) _ _
     (kept_left _ _ (on_default c.gather.result c.gather.ensures.stands c.in_default.not-Err).2.kept)
