@@ -7,4 +7,3 @@ pub mod RunLemmas
 pub mod SourceLemmas
 pub mod ToldLemmas
 pub mod TracedLemmas
-pub mod TransferLemmas

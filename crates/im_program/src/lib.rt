@@ -29,7 +29,6 @@ mod statuses;
 mod talking;
 mod telling;
 mod tracing;
-mod transferring;
 mod watching;
 mod work;
 
@@ -41,8 +40,8 @@ pub use dumping::dump_file;
 pub use formatting::format_file;
 pub use hand::AtHand;
 pub use im_words::{
-    CommandLine, Copying, DEFAULT_CELLS, DEFAULT_ELEMENTS, DEFAULT_SLOTS, Formatting, Job, Loading,
-    Paths, ScriptRun, Serving, Talking, Transfer, WordFault, Work, read_words,
+    CommandLine, DEFAULT_CELLS, DEFAULT_ELEMENTS, DEFAULT_SLOTS, Formatting, Inspection, Making,
+    Moving, ScriptRun, Serving, Talking, WordFault, Work, read_words,
 };
 pub use jobs::act_alone;
 pub use loading::{LoadFault, load_file};

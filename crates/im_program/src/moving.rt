@@ -15,7 +15,7 @@ use im_image::{Versions, read_header};
 use im_migration::{MoveNews, length_for, migrate};
 use im_text::{News, PathFault, Reason, diagnose, end, put_through};
 use im_types::{Observer, Refusal};
-use im_words::Paths;
+use im_words::Moving;
 use std::alloc::{AllocError, Global};
 use std::fs::{self, File};
 use std::io::{ErrorKind, Write};
@@ -210,7 +210,7 @@ pub fn migrate_file<
     V: Observer<News> + Observer<MoveNews>,
 >(
     hand: AtHand<'_, R, I, V>,
-    paths: &Paths,
+    paths: &Moving<&str>,
     out: &mut W,
     starts: (S, T),
 ) -> Result<(u8, FileDisk<S>, FileDisk<T>), Refusal>

@@ -98,7 +98,7 @@ pub fn run_file<
     N: Observer<News>,
 >(
     hand: AtHand<'_, R, I, N>,
-    running: &ScriptRun,
+    running: &ScriptRun<&str>,
     watcher: V,
     out: &mut W,
     start: S,
@@ -134,7 +134,7 @@ fn run_at_once<
     N: Observer<News>,
 >(
     hand: AtHand<'_, R, I, N>,
-    running: &ScriptRun,
+    running: &ScriptRun<&str>,
     watcher: V,
     out: &mut W,
     start: S,
@@ -163,7 +163,7 @@ pub(crate) fn act_at_once<
     W: Write,
 >(
     hand: AtHand<'_, R, I, Console<'_, R>>,
-    running: &ScriptRun,
+    running: &ScriptRun<&str>,
     objects: bool,
     out: &mut W,
     start: S,

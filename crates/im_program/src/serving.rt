@@ -42,13 +42,13 @@ pub fn serve_file<
     N: Observer<News>,
 >(
     hand: AtHand<'_, R, I, N>,
-    serving: &Serving,
+    serving: &Serving<&str>,
     out: &mut W,
     start: S,
 ) -> Result<(u8, FileDisk<S>), Refusal>
     ensures status { IfOk result (λ r. r.0 ≤ 1) }
-    ensures served { IfOk result (λ r. WasScriptServed ⟦<FileDisk<S> as Disk>⟧ S.first serving.now
-        (I.remaining hand.entry.input.now) (W.contents out.old) (W.contents out.new) r.0 r.1) }
+    ensures served { let s = serving.now in IfOk result (λ r. WasScriptServed ⟦<FileDisk<S> as Disk>⟧ S.first s.once
+        s.script.now (I.remaining hand.entry.input.now) (W.contents out.old) (W.contents out.new) r.0 r.1) }
     ensures named { IfOk result (λ r. IsOpenAt ⟦<FileDisk<S> as Disk>⟧ S.path serving.now.image.now r.1) }
     ensures refused { IfErr result (λ refusal. (refusal ≡ BadScript) ⊎ (refusal ≡ NoMemory) ⊎ (refusal ≡ Device)) }
     ensures same { OnErr result (Keeps (W.contents out.old) (W.contents out.new)) }

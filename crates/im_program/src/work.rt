@@ -1,16 +1,12 @@
 //! The work that the program does.
-ghost use Rattle.std.specs.Prelude.{◌≡◌, ℕ, ◌≤◌, ◌⊎◌, List, IfSome, IfNone};
+ghost use Rattle.std.specs.Prelude.{◌≡◌, ℕ, ◌≤◌, ◌⊎◌, List};
 ghost use Rattle.im_text.specs.Printing.{Begins, IsLast};
-ghost use Rattle.im_words.specs.Words.{demonstration, task_of_work};
-ghost use Rattle.im_program.specs.Places.{file_of, IsOldOf, IsOpenAt};
-ghost use Rattle.im_program.specs.Working.{HasMoved, IsOfTwo, WasDone};
+ghost use Rattle.im_program.specs.Told.{LineDone};
 
 use crate::console::Console;
-use crate::demonstrating::act_with_no_file;
 use crate::hand::AtHand;
 use crate::jobs::act_alone;
 use crate::running::act_at_once;
-use crate::transferring::act_on_two;
 use im_disk::{Disk, FileDisk, Start};
 use im_filters::Telling;
 use im_listening::Ear;
@@ -25,9 +21,8 @@ use std::rt::Files;
 use std::sync::Wait;
 use std::thread::Threads;
 
-/// Does the work and returns the status that the program ends with. It is that of [`demonstrate`], of [`act_alone`], of
-/// [`run_file`] for a run (3 if its elements wait for each other), of [`migrate_file`] for a migration, or of
-/// [`copy_file`] for a copy. These functions also say what is printed and refused.
+/// Does the work and returns the status that the program ends with. It is that of [`run_file`] for a run (3 if its
+/// elements wait for each other), and else that of [`act_alone`]. These functions also say what is printed and refused.
 ///
 /// The trace of a run is written to a new file, if one is asked for, as objects of JSON if lines are told so. If that
 /// can't be made, nothing is run, and the work is refused with `Device`. If it can't be written, a person is told, and
@@ -51,28 +46,18 @@ pub fn act<
     starts: (S, T),
 ) -> (u8, Option<FileDisk<S>>, Option<FileDisk<T>>)
     ensures status { (result.0 ≤ 1) ⊎ (result.0 ≡ STALLED) }
-    ensures done { IfSome result.1 (λ disk. WasDone ⟦<FileDisk<S> as Disk>⟧ S.first (I.remaining hand.entry.input.now)
-        (task_of_work line.now.work) (W.contents out.old) (W.contents out.new) result.0 disk) }
-    ensures moved { IfSome result.1 (λ disk. IsOfTwo (task_of_work line.now.work) → HasMoved S.Start T.Start
-        (task_of_work line.now.work) (W.contents out.old) (W.contents out.new) result.0 result.2 disk) }
-    ensures named { IfSome result.1 (λ disk.
-        IsOpenAt ⟦<FileDisk<S> as Disk>⟧ S.path (file_of (task_of_work line.now.work)) disk) }
-    ensures other { IfSome result.2 (λ old. IsOldOf ⟦<FileDisk<T> as Disk>⟧ T.path (task_of_work line.now.work) old) }
-    ensures none { IfNone result.1 ((task_of_work line.now.work ≡ demonstration) ⊎ (result.0 ≡ 1)) }
+    ensures done { LineDone S.Start T.Start ⟦<FileDisk<S> as Disk>⟧ ⟦<FileDisk<T> as Disk>⟧
+        (I.remaining hand.entry.input.now) line.now.work (W.contents out.old) (W.contents out.new)
+        result.0 result.1 result.2 }
 {
-    let (start, other) = starts;
     match line.work {
-        Work::Demonstration => (act_with_no_file(hand, out), None, None),
-        Work::Alone(job) => {
-            let (status, disk) = act_alone(hand, &job, out, start);
-            (status, disk, None)
-        }
         Work::Run(running) => {
+            let (start, _other) = starts;
             let objects = line.telling == Telling::Json;
             let (status, disk) = act_at_once(hand, &running, objects, out, start);
             (status, disk, None)
         }
-        Work::Transfer(transfer) => act_on_two(hand, &transfer, out, (start, other)),
+        _ => act_alone(hand, &line.work, out, starts),
     }
 }
 

@@ -4,8 +4,8 @@ use crate::ProgramDesk;
 use crate::writers::ObserverNotes;
 use im_disk::Unknown;
 use im_program::{
-    AtHand, Console, Descriptors, Serving, Terminals, Work, act_alone, demonstrate, format_file,
-    inspect_file, read_words, serve_file, status_for,
+    AtHand, Console, Descriptors, Serving, Terminals, act_alone, format_file, inspect_file,
+    read_words, serve_file, status_for,
 };
 use im_report::View;
 use im_story::{Phrase, Printout, Saying};
@@ -29,19 +29,13 @@ pub fn run(desk: &mut ProgramDesk, call: &Phrase, said: &mut Saying) {
     let mut console = Console::new(desk.rt, desk.held, &line.work, NOBODY);
     desk.print(usize::MAX);
     let mut input = desk.text.as_slice();
-    let status = match line.work {
-        Work::Demonstration => demonstrate(call.alloc(), &mut desk.out, &mut console),
-        Work::Alone(job) => {
-            let hand = AtHand {
-                rt: desk.rt,
-                held: desk.held,
-                input: &mut input,
-                observer: &mut console,
-            };
-            act_alone(hand, &job, &mut desk.out, Unknown).0
-        }
-        _ => return said.fail("the words ask for more than one thread or file"),
+    let hand = AtHand {
+        rt: desk.rt,
+        held: desk.held,
+        input: &mut input,
+        observer: &mut console,
     };
+    let (status, _, _) = act_alone(hand, &line.work, &mut desk.out, (Unknown, Unknown));
     desk.text.clear();
     said.number(status_for(status, line.statuses, console.reason()))
 }

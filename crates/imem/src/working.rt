@@ -6,7 +6,7 @@ ghost use Rattle.im_program.specs.Ending.{EndedOn};
 use im_disk::{Disk, FileDisk, Start};
 use im_listening::{Ear, InputBytes, Listener};
 use im_program::{
-    AtHand, CommandLine, Console, Descriptors, Job, Prompter, Terminals, Work, act_told, refuse,
+    AtHand, CommandLine, Console, Descriptors, Prompter, Terminals, Work, act_told, refuse,
     status_for,
 };
 use im_types::Refusal;
@@ -28,7 +28,7 @@ pub(crate) struct Surroundings<'a, R> {
 
 // Whether a dialogue is to be served.
 fn is_dialogue(line: &CommandLine) -> bool {
-    matches!(line.work, Work::Alone(Job::Serve(_)))
+    matches!(line.work, Work::Serve(_))
 }
 
 // Whether a person types the lines of a dialogue.
