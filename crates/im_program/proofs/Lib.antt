@@ -3,7 +3,6 @@ pub mod EndingLemmas
 pub mod Loads
 pub mod MovedLemmas
 pub mod OkLemmas
-pub mod RunLemmas
 pub mod SourceLemmas
 pub mod ToldLemmas
 pub mod TracedLemmas

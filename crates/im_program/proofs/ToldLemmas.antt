@@ -1,6 +1,6 @@
 -- Work on a disk that was told to a writer. (Own.)
-use Rattle.std.proofs.Common.{◌≡◌, ℕ, ◌⊎◌, List, [], IfSome, IfNone, is_ok, if◌then◌else◌, OnOk, Some, None, Ok, Err}
-use Rattle.std.proofs.Common.{Option, Result, sym, subst, inl, inr}
+use Rattle.std.proofs.Common.{◌≡◌, ℕ, ◌⊎◌, List, [], IfSome, IfNone, is_ok, IfOk, if◌then◌else◌, OnOk, Some, None, Ok}
+use Rattle.std.proofs.Common.{Err, Option, Result, MatchResult, sym, refl, subst, inl, inr}
 use Rattle.std.specs.Io.KnownBytes.{Appends}
 use Rattle.im_disk.specs.declared.{Disk.Ghosts as DiskGhosts, FileDisk.FileDisk, Start.Ghosts}
 use Rattle.{im_text.specs.Printing.Begins, im_filters.proofs.ToldLemmas.told_in}
@@ -18,6 +18,19 @@ nothing_done start other d e work done status one = record {
   both = tt;
   none = inr one;
 }
+
+-- what a table of work came to, or nothing of a refusal
+pub done_or_refused : {S T W E : Type 0} (start : Ghosts S) (other : Ghosts T) (d : DiskGhosts (FileDisk S start))
+    (e : DiskGhosts (FileDisk T other)) (input : Option (List ℕ)) (work : Work (List ℕ))
+    (contents : W → Option (List ℕ)) (was : Option (List ℕ)) (mid is : W)
+    (r : Result (ℕ × Option (FileDisk S start) × Option (FileDisk T other)) E)
+    (came_to : ℕ × Option (FileDisk S start) × Option (FileDisk T other))
+    → IfOk r (λ x. WorkDone start other d e input work was (contents mid) x.0 x.1 x.2)
+    → MatchResult r (λ x. (came_to ≡ x) × (is ≡ mid)) (λ _. came_to ≡ (1, None, None))
+    → WorkDone start other d e input work was (contents is) came_to.0 came_to.1 came_to.2
+done_or_refused start other d e input work contents was mid is (Ok x) came_to done same = rw same.0 (rw same.1 done)
+done_or_refused start other d e input work contents was mid is (Err f) came_to done none =
+    rw none (nothing_done start other d e work _ 1 refl)
 
 -- what the work comes to, if a disk was opened
 told_if : {D T E : Type 0} (work : D → Option (List ℕ) → Option (List ℕ) → ℕ → Type 0) (telling : Telling)

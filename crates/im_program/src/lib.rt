@@ -43,7 +43,6 @@ pub use im_words::{
     CommandLine, DEFAULT_CELLS, DEFAULT_ELEMENTS, DEFAULT_SLOTS, Formatting, Inspection, Making,
     Moving, ScriptRun, Serving, Talking, WordFault, Work, read_words,
 };
-pub use jobs::act_alone;
 pub use loading::{LoadFault, load_file};
 pub use looking::inspect_file;
 pub use moving::{migrate_file, migrate_on};

@@ -1,5 +1,5 @@
 //! Runs a script, the requests of each element by threads of its own.
-ghost use Rattle.std.specs.Prelude.{◌≡◌, ◌≤◌, true, ◌⊎◌, is_some, IfSome, IfNone, IfOk, IfErr, OnErr, IsSome};
+ghost use Rattle.std.specs.Prelude.{◌≡◌, ◌≤◌, true, ◌⊎◌, is_some, IfOk, IfErr, OnErr};
 ghost use Rattle.std.specs.Io.KnownBytes.{Keeps};
 ghost use Rattle.im_types.specs.Types.{Device, NoMemory, BadScript};
 ghost use Rattle.im_run.specs.Once.{RunsWhen};
@@ -9,10 +9,8 @@ use crate::console::Console;
 use crate::hand::AtHand;
 use crate::opening::image_at;
 use crate::scripts::{read_file, script_in};
-use crate::settling::settle_if;
 use crate::tracing::{keep_trace, make_file_if};
 use crate::watching::Watch;
-use crate::work::refuse;
 use im_disk::{Disk, FileDisk, Start};
 use im_run::{Assignment, RunContext, STALLED, Trace, run_on, run_on_plan, run_once_on};
 use im_script::Script;
@@ -124,39 +122,9 @@ pub fn run_file<
     Ok(run_task(&context, disk, task, out, observer))
 }
 
-// Runs the script, and prints the line of a refusal.
-fn run_at_once<
-    R: Files<File = File> + AllocGlobal + Threads + Wait + Sync,
-    S: Start + Send,
-    V: Observer<Standing> + Teller + Copy + Send,
-    I: Read,
-    W: Write,
-    N: Observer<News>,
->(
-    hand: AtHand<'_, R, I, N>,
-    running: &ScriptRun<&str>,
-    watcher: V,
-    out: &mut W,
-    start: S,
-) -> (u8, Option<FileDisk<S>>, Option<Trace>)
-    ensures status { (result.0 ≤ 1) ⊎ (result.0 ≡ STALLED) }
-    ensures ran { IfSome result.1 (λ disk. IfSome result.2 (λ trace. RanAs ⟦<FileDisk<S> as Disk>⟧ S.first running.now
-        (I.remaining hand.entry.input.now) (W.contents out.old) (W.contents out.new) trace result.0 disk)) }
-    ensures named { IfSome result.1 (λ disk. IsOpenAt ⟦<FileDisk<S> as Disk>⟧ S.path running.now.image.now disk) }
-    ensures recorded { IfSome result.2 (λ trace. is_some running.now.trace ≡ true → trace.recorded ≡ true) }
-    ensures none { IfNone result.1 (result.0 ≡ 1) }
-    ensures both { IfSome result.1 (λ _. IsSome result.2) }
-{
-    let alloc = hand.rt.alloc();
-    match run_file(hand, running, watcher, out, start) {
-        Ok((status, disk, trace)) => (status, Some(disk), Some(trace)),
-        Err(refusal) => (refuse(alloc, refusal, out), None, None),
-    }
-}
-
 /// Runs a script with threads for its elements, and writes its trace if one is asked for: as objects of JSON if
-/// `objects` is set. Returns the status, and the disk of the image if it was opened.
-pub(crate) fn act_at_once<
+/// `objects` is set. If nothing was run, the trace's file is removed.
+pub(crate) fn run_traced<
     R: Files<File = File> + AllocGlobal + Eprint + Threads + Wait + Sync,
     S: Start + Send,
     I: Read,
@@ -167,18 +135,14 @@ pub(crate) fn act_at_once<
     objects: bool,
     out: &mut W,
     start: S,
-) -> (u8, Option<FileDisk<S>>)
-    ensures status { (result.0 ≤ 1) ⊎ (result.0 ≡ STALLED) }
-    ensures ran { IfSome result.1 (λ disk. WasRun ⟦<FileDisk<S> as Disk>⟧ S.first running.now
-        (I.remaining hand.entry.input.now) (W.contents out.old) (W.contents out.new) result.0 disk) }
-    ensures named { IfSome result.1 (λ disk. IsOpenAt ⟦<FileDisk<S> as Disk>⟧ S.path running.now.image.now disk) }
-    ensures none { IfNone result.1 (result.0 ≡ 1) }
+) -> Result<(u8, FileDisk<S>), Refusal>
+    ensures status { IfOk result (λ r. (r.0 ≤ 1) ⊎ (r.0 ≡ STALLED)) }
+    ensures ran { IfOk result (λ r. WasRun ⟦<FileDisk<S> as Disk>⟧ S.first running.now
+        (I.remaining hand.entry.input.now) (W.contents out.old) (W.contents out.new) r.0 r.1) }
+    ensures named { IfOk result (λ r. IsOpenAt ⟦<FileDisk<S> as Disk>⟧ S.path running.now.image.now r.1) }
 {
     let (rt, held, input, console) = hand.parts();
-    let file = match make_file_if(rt, held, running.trace, console) {
-        Ok(file) => file,
-        Err(refusal) => return (refuse(rt.alloc(), refusal, out), None),
-    };
+    let file = make_file_if(rt, held, running.trace, console)?;
     let watch = Watch::new(rt, console.is_watched());
     let inner = AtHand {
         rt,
@@ -186,8 +150,14 @@ pub(crate) fn act_at_once<
         input,
         observer: &mut *console,
     };
-    let (status, disk, run) = run_at_once(inner, running, watch, out, start);
-    keep_trace(rt, file, run, objects, console);
-    settle_if(rt, running.image, &disk, console);
-    (status, disk)
+    match run_file(inner, running, watch, out, start) {
+        Ok((status, disk, trace)) => {
+            keep_trace(rt, file, Some(trace), objects, console);
+            Ok((status, disk))
+        }
+        Err(refusal) => {
+            keep_trace(rt, file, None, objects, console);
+            Err(refusal)
+        }
+    }
 }

@@ -3,7 +3,7 @@
 use crate::MigrationDesk;
 use crate::moves::report;
 use im_disk::Unknown;
-use im_program::{AtHand, Console, Terminals, act_alone, read_words};
+use im_program::{AtHand, Console, Terminals, act, read_words};
 use im_story::{Phrase, Printout, Saying, bytes};
 use im_story_disk::StoryFile;
 use std::fs;
@@ -30,7 +30,7 @@ pub fn run(desk: &mut MigrationDesk, call: &Phrase, said: &mut Saying) {
         input: &mut nothing,
         observer: &mut console,
     };
-    let (status, _, _) = act_alone(hand, &line.work, &mut desk.out, (Unknown, Unknown));
+    let (status, _, _) = act(hand, &line, &mut desk.out, (Unknown, Unknown));
     desk.told = console.reason();
     write!(said, "{status}")
 }

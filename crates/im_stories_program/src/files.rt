@@ -4,7 +4,7 @@ use crate::ProgramDesk;
 use crate::writers::ObserverNotes;
 use im_disk::Unknown;
 use im_program::{
-    AtHand, Console, Descriptors, Serving, Terminals, act_alone, format_file, inspect_file,
+    AtHand, Console, Descriptors, Serving, Terminals, act, format_file, inspect_file,
     read_words, serve_file, status_for,
 };
 use im_report::View;
@@ -35,7 +35,7 @@ pub fn run(desk: &mut ProgramDesk, call: &Phrase, said: &mut Saying) {
         input: &mut input,
         observer: &mut console,
     };
-    let (status, _, _) = act_alone(hand, &line.work, &mut desk.out, (Unknown, Unknown));
+    let (status, _, _) = act(hand, &line, &mut desk.out, (Unknown, Unknown));
     desk.text.clear();
     said.number(status_for(status, line.statuses, console.reason()))
 }

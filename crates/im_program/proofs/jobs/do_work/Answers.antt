@@ -21,6 +21,14 @@ returns-in-Serial-clause-done g c = rw c.in-Serial.is (rw c.of_one-in-Serial.ens
   none = tt;
 }))
 
+pub returns-in-Run-clause-done : goal.returns-in-Run-clause-done
+returns-in-Run-clause-done g c = rw c.in-Run.is (rw c.of_one-in-Run.ensures (record {
+  result = c.in_ok-run_traced.ensures.ran;
+  named = c.in_ok-run_traced.ensures.named;
+  both = tt;
+  none = tt;
+}))
+
 pub returns-in-Serve-clause-done : goal.returns-in-Serve-clause-done
 returns-in-Serve-clause-done g c = rw c.in-Serve.is (rw c.of_one-in-Serve.ensures (record {
   result = λ honest. (c.talk_file.new.backups.shelf, rw c.new-folder.ensures at c.in_ok-talk_file.ensures.talked honest);
