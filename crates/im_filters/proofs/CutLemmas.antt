@@ -4,9 +4,8 @@ use Rattle.std.proofs.Common.{take, if◌then◌else◌, ◌==◌, Some, None, O
 use Rattle.std.proofs.Common.{append_assoc, append-nil, arith, take_all, Bor, eq-eqb, ne_eqb}
 use Rattle.std.proofs.lemmas.{Bool.and_from, Bool.and_parts, Bool.both_ways, Bool.not-true, Grind.common_steps}
 use Rattle.std.proofs.lemmas.{List.take_more, Str.Pattern.IsSplitOnceResult, Str.Pattern.split_parts}
-use Rattle.im_filters.specs.{declared.telling.Telling.Telling, Sieves.goes_by_lines}
-use Rattle.im_filters.specs.declared.telling.Telling.TheVariants.{Calls, Json, Plain, Quiet}
-use Rattle.im_filters.specs.Objects.{cut_front, cut_rest}
+use Rattle.im_filters.specs.declared.telling.Telling.{Telling, TheVariants.Json, TheVariants.Plain, TheVariants.Quiet}
+use Rattle.im_filters.specs.{Objects.cut_front, Objects.cut_rest, Sieves.goes_by_lines}
 use Rattle.im_filters.specs.Tellings.{IsSifted, lacks, part_left, sifted, sifted_line, sifted_lines}
 
 -- ---- marks
@@ -181,13 +180,11 @@ pub told_by_lines : (t : Telling) (text : List ℕ) → goes_by_lines t ≡ true
 told_by_lines Plain text by = absurd (both_ways false refl by)
 told_by_lines Quiet text by = refl
 told_by_lines Json text by = refl
-told_by_lines Calls text by = refl
 
 pub told_plain : (t : Telling) (text : List ℕ) → goes_by_lines t ≡ false → sifted t text ≡ text
 told_plain Plain text isnt = refl
 told_plain Quiet text isnt = absurd (both_ways true isnt refl)
 told_plain Json text isnt = absurd (both_ways true isnt refl)
-told_plain Calls text isnt = absurd (both_ways true isnt refl)
 
 -- a line at the front
 pub is_sifted : (t : Telling) (xs all : List ℕ) → goes_by_lines t ≡ true → lacks 10 xs ≡ true → sifted_line t xs ≡ all

@@ -56,14 +56,3 @@ digits_and_dot_differ (x ∷ xs) ys h =
     let below : x ≤ 57 = h.0.1 in
     let differs : x ≢ 114 = λ e. omega arith in
     and_left (x == 114) (bytes_eq (xs ++ 46 ∷ ys) (codes "efused")) (ne_eqb x 114 differs)
-
--- a word that begins with no digit and no dot
-pub word_differs : (letter : ℕ) (word xs ys : List ℕ) → 57 < letter → AreDigits xs
-    → bytes_eq (xs ++ 46 ∷ ys) (letter ∷ word) ≡ false
-word_differs letter word [] ys high h =
-    let differs : 46 ≢ letter = λ e. omega arith in
-    and_left (46 == letter) (bytes_eq ys word) (ne_eqb 46 letter differs)
-word_differs letter word (x ∷ xs) ys high h =
-    let below : x ≤ 57 = h.0.1 in
-    let differs : x ≢ letter = λ e. omega arith in
-    and_left (x == letter) (bytes_eq (xs ++ 46 ∷ ys) word) (ne_eqb x letter differs)

@@ -2,16 +2,14 @@
 use Rattle.std.specs.Prelude.{◌≡◌, ℕ, Bool, true, false, List, [], ◌++◌, Option}
 use Rattle.std.specs.Io.KnownBytes.{Appends}
 use Rattle.im_text.specs.Printing.{Prints}
-use Rattle.im_filters.specs.declared.{slate.Slate.Slate, telling.Telling.Telling}
-use Rattle.im_filters.specs.declared.telling.Telling.TheVariants.{Calls, Json, Plain, Quiet}
-use Rattle.im_filters.specs.Tellings.{part_left, sifted, sifted_lines}
+use Rattle.im_filters.specs.{declared.slate.Slate.Slate, Tellings.part_left, Tellings.sifted, Tellings.sifted_lines}
+use Rattle.im_filters.specs.declared.telling.Telling.{Telling, TheVariants.Json, TheVariants.Plain, TheVariants.Quiet}
 
 -- lines are told once they are whole
 abbrev pub goes_by_lines : Telling → Bool
 goes_by_lines Plain = false
 goes_by_lines Quiet = true
 goes_by_lines Json = true
-goes_by_lines Calls = true
 
 -- This text was taken. The writer held `start` and holds `is`: a plain text is there. Of other texts what is told of
 -- the whole lines was printed, and the part of a line at the end is held back.

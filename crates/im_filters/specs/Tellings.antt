@@ -3,9 +3,7 @@ use Rattle.std.specs.Prelude.{◌≡◌, ℕ, Bool, true, not, ◌&&◌, ◌⊎�
 use Rattle.std.specs.Prelude.{bytes_eq, decimal, Option}
 use Rattle.std.specs.Io.KnownBytes.{Appends}
 use Rattle.im_text.specs.{Printing.Begins, Texts.line_feed}
-use Rattle.im_filters.specs.Calls.{answered_members, call_object, line_of_call, mark_members, mark_words}
-use Rattle.im_filters.specs.declared.telling.Telling.{Telling}
-use Rattle.im_filters.specs.declared.telling.Telling.TheVariants.{Calls, Json, Plain, Quiet}
+use Rattle.im_filters.specs.declared.telling.Telling.{Telling, TheVariants.Json, TheVariants.Plain, TheVariants.Quiet}
 use Rattle.im_filters.specs.Objects.{head_word, object_of, tail_words}
 
 -- ---- a line
@@ -19,7 +17,6 @@ abbrev pub sifted_line : Telling → List ℕ → List ℕ
 sifted_line Plain line = line ++ line_feed
 sifted_line Quiet line = if tells_refusal line then line ++ line_feed else []
 sifted_line Json line = object_of line
-sifted_line Calls line = call_object line
 
 -- ---- a text
 
@@ -40,7 +37,6 @@ abbrev pub sifted : Telling → List ℕ → List ℕ
 sifted Plain text = text
 sifted Quiet text = sifted_lines Quiet text []
 sifted Json text = sifted_lines Json text []
-sifted Calls text = sifted_lines Calls text []
 
 -- a text has no such mark
 abbrev pub lacks : ℕ → List ℕ → Bool
@@ -59,19 +55,6 @@ line_of_done element number = decimal element ++ codes "." ++ decimal number ++ 
 abbrev pub line_of_glance : ℕ → ℕ → List ℕ → List ℕ
 line_of_glance element a seen =
     decimal element ++ codes " glance " ++ decimal a ++ codes " " ++ seen ++ line_feed
-
--- what was answered has this word, and this number behind it, or none
-pub record IsSaid (said word operand : List ℕ) : Type 0 where
-  pub head : head_word said ≡ word
-  pub tail : tail_words said ≡ operand
-  pub ends : lacks 10 said ≡ true
-
--- A line of a trace with this call is told so, whatever was answered, and whichever marks stand before it: the members
--- of the call, then those of the marks, then those of the answer.
-abbrev pub IsCallTold : List ℕ → List ℕ → Type 0
-IsCallTold asked members = (group checkpoint : Bool) (said word operand : List ℕ) → IsSaid said word operand
-    → IsSifted Calls (mark_words group checkpoint ++ line_of_call asked said)
-    (members ++ mark_members group checkpoint ++ answered_members word operand)
 
 -- ---- a writer
 

@@ -1,11 +1,9 @@
 //! What is told of each kind of line.
 ghost use Rattle.std.specs.Prelude.{◌≡◌, ℕ, true, List, [], ◌++◌, Some, codes, decimal};
-ghost use Rattle.im_types.specs.Types.{Entry, Op, Refusal, number_of};
-ghost use Rattle.im_text.specs.{declared.Waited.Waited, Texts.op_text};
-ghost use Rattle.im_text.specs.Printing.{now_line, refused_line, told_line};
-ghost use Rattle.im_filters.specs.Calls.{asking_members, noting_members};
+ghost use Rattle.im_types.specs.Types.{Entry, Refusal, number_of};
+ghost use Rattle.im_text.specs.{declared.Waited.Waited, Printing.now_line, Printing.refused_line, Printing.told_line};
 ghost use Rattle.im_filters.specs.Objects.{entry_object, glance_object, refusal_object, reply_object};
-ghost use Rattle.im_filters.specs.Tellings.{IsCallTold, IsSifted, lacks, line_of_done, line_of_glance};
+ghost use Rattle.im_filters.specs.Tellings.{IsSifted, lacks, line_of_done, line_of_glance};
 
 use crate::telling::Telling;
 
@@ -40,16 +38,4 @@ pub fn law_of_quiet()
         (line_of_glance element a (codes "none")) [] }
     ensures refused { (refusal : Refusal) (name : List ℕ) → lacks 10 name ≡ true → IsSifted Telling.Quiet
         (refused_line refusal name) (refused_line refusal name) }
-{}
-
-/// Shows which object each line of a trace is told as, with the words of its marks before it. The call does nothing.
-pub fn law_of_calls()
-    ensures asked { (element number : ℕ) (op : Op) → IsCallTold
-        (decimal element ++ codes "." ++ decimal number ++ codes " " ++ op_text op) (asking_members element number op) }
-    ensures confirmed { (element upto : ℕ) → IsCallTold
-        (codes "confirm " ++ decimal element ++ codes " " ++ decimal upto)
-        (noting_members element upto (codes "confirm")) }
-    ensures collected { (element number : ℕ) → IsCallTold
-        (codes "collect " ++ decimal element ++ codes "." ++ decimal number)
-        (noting_members element number (codes "collect")) }
 {}

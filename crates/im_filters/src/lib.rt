@@ -4,7 +4,6 @@
 //! however its lines are told.
 #![tactic(auto)]
 
-mod calls;
 mod cutting;
 mod intake;
 mod laws;
@@ -16,7 +15,7 @@ mod sieving;
 mod slate;
 mod telling;
 
-pub use laws::{law_of_calls, law_of_objects, law_of_quiet};
+pub use laws::{law_of_objects, law_of_quiet};
 pub use relay::Relay;
 pub use sieve::Sieve;
 pub use sieving::Sieving;

@@ -7,8 +7,8 @@ ghost use Rattle.im_filters.specs.Objects.{said_members, seen_member};
 use crate::cutting::{cut, cut_word};
 use std::alloc::AllocError;
 
-/// Adds the number of a reply under the reply's word, if it has one.
-pub(crate) fn add_operand(out: &mut String, word: &str, operand: &str) -> Result<(), AllocError>
+// Adds the number of a reply under the reply's word, if it has one.
+fn add_operand(out: &mut String, word: &str, operand: &str) -> Result<(), AllocError>
     ensures { OnOk result (string_bytes out.new ≡ string_bytes out.old ++ operand_member word.now operand.now) }
 {
     if operand.is_empty() {
@@ -31,8 +31,8 @@ fn add_number(out: &mut String, element: &str, number: &str) -> Result<(), Alloc
     write!(out, "{element},\"number\":\"{number}\"")
 }
 
-/// Adds the request of a reply.
-pub(crate) fn add_asked(out: &mut String, element: &str, number: &str) -> Result<(), AllocError>
+// Adds the request of a reply.
+fn add_asked(out: &mut String, element: &str, number: &str) -> Result<(), AllocError>
     ensures { OnOk result (string_bytes out.new ≡ string_bytes out.old ++ asked_members element.now number.now) }
 {
     add_text(out, "{\"element\":")?;

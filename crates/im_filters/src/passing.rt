@@ -4,7 +4,6 @@ ghost use Rattle.std.specs.Io.KnownBytes.{Keeps, WriteAppends};
 ghost use Rattle.im_text.specs.Printing.{Pushes};
 ghost use Rattle.im_filters.specs.Tellings.{lacks, sifted_line, tells_refusal};
 
-use crate::calls::add_call;
 use crate::cutting::cut_word;
 use crate::object::add_object;
 use crate::telling::Telling;
@@ -48,7 +47,6 @@ fn make_told(made: &mut String, telling: Telling, line: &str) -> Result<(), Allo
         Telling::Plain => add_line(made, line),
         Telling::Quiet => add_if_refusal(made, line),
         Telling::Json => add_object(made, line),
-        Telling::Calls => add_call(made, line),
     }
 }
 

@@ -126,7 +126,6 @@ impl Slate {
             Telling::Plain => pass_bytes(out, bytes),
             Telling::Quiet => self.take_line(out, bytes),
             Telling::Json => self.take_line(out, bytes),
-            Telling::Calls => self.take_line(out, bytes),
         }
     }
 
@@ -153,7 +152,6 @@ impl Slate {
             Telling::Plain => flush_writer(out),
             Telling::Quiet => self.flush_lines(out),
             Telling::Json => self.flush_lines(out),
-            Telling::Calls => self.flush_lines(out),
         }
     }
 }

@@ -1,6 +1,6 @@
 //! How lines are told.
 
-/// How lines are told: those of replies, or those of a trace.
+/// How lines are told.
 #[derive(Clone, Copy, Debug, PartialEq, Eq)]
 pub enum Telling {
     /// As they are.
@@ -9,6 +9,4 @@ pub enum Telling {
     Quiet,
     /// Each as an object of JSON.
     Json,
-    /// Each line of a trace as an object of JSON.
-    Calls,
 }

@@ -5,4 +5,3 @@ pub mod MovedLemmas
 pub mod OkLemmas
 pub mod SourceLemmas
 pub mod ToldLemmas
-pub mod TracedLemmas

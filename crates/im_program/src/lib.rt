@@ -52,5 +52,4 @@ pub use serving::{serve_file, serve_input};
 pub use statuses::status_for;
 pub use talking::talk_file;
 pub use telling::act_told;
-pub use tracing::write_traced;
 pub use work::{act, refuse};

@@ -82,7 +82,6 @@ fn add_line(said: &mut Saying, line: &CommandLine) {
         Telling::Plain => "",
         Telling::Quiet => ", quietly",
         Telling::Json => ", as JSON",
-        Telling::Calls => ", as a trace in JSON",
     });
     if line.wait > 0 {
         write!(said, ", waiting {} s", line.wait)

@@ -166,7 +166,7 @@ impl<'a> RunDesk<'a> {
         self.place.lay_down(disk);
         if how.recorded {
             self.out = Printout::new(alloc);
-            let is_written = write_trace(alloc, &trace, &mut self.out).is_ok();
+            let is_written = write_trace(alloc, &trace, false, &mut self.out).is_ok();
             self.said.so(is_written, "")
         }
         status

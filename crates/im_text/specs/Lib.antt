@@ -1,4 +1,5 @@
 pub mod Diagnosis
+pub mod Objects
 pub mod Texts
 pub mod Printing
 pub mod Statuses
