@@ -2,7 +2,7 @@
 use Rattle.std.proofs.Common.{◌≡◌, ℕ, Bool, true, false, ◌⊎◌, List, IfSome, IfOk, if◌then◌else◌, Some, None, Ok, Err}
 use Rattle.std.proofs.Common.{Option, Result, sym, subst, inl, inr}
 use Rattle.im_disk.specs.declared.{Disk.Ghosts as DiskGhosts, FileDisk.FileDisk, Start.Ghosts}
-use Rattle.{im_disk.specs.Moment.Moment, im_words.specs.declared.Work.Work}
+use Rattle.{im_disk.specs.Moment.Moment, im_text.specs.Said.Output, im_words.specs.declared.Work.Work}
 use Rattle.im_program.specs.{Sources.IsTextOf, Told.WorkDone}
 use Rattle.im_program.specs.Working.{MakesImage, ScriptServed, ScriptServes, TextServed}
 
@@ -27,7 +27,7 @@ text_as known text other same it = subst (IsTextOf known) (sym same) it
 
 -- the text that was served is what was read
 pub text_served : {D : Type 0} (d : DiskGhosts D) (once : Bool) (first : Moment) (bytes : List ℕ) (disk : D)
-    (was is : Option (List ℕ)) (status : ℕ) → ScriptServed d once first (Some bytes) disk was is status
+    (was : Output) (is : Option (List ℕ)) (status : ℕ) → ScriptServed d once first (Some bytes) disk was is status
     → TextServed d once first bytes was is status disk
 text_served d once first bytes disk was is status it = (
   it.old,

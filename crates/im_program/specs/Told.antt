@@ -1,9 +1,8 @@
--- What work comes to, and what it comes to that is told to a writer. (Own.)
+-- What work comes to. (Own.)
 use Rattle.std.specs.Prelude.{◌≡◌, ℕ, ◌⊎◌, List, IfSome, IfNone, Option}
 use Rattle.std.specs.Borrow.{Bor}
 use Rattle.im_disk.specs.declared.{Disk.Ghosts as DiskGhosts, FileDisk.FileDisk, Start.Ghosts}
-use Rattle.{im_filters.specs.declared.Telling.Telling, im_filters.specs.Tellings.ToldIn, im_words.specs.Words.texts_in}
-use Rattle.im_words.specs.declared.{CommandLine.CommandLine, Work.TheVariants.Demonstration, Work.Work}
+use Rattle.im_words.specs.{declared.Work.TheVariants.Demonstration, declared.Work.Work, Words.texts_in}
 use Rattle.im_program.specs.{Places.file_of, Places.IsOldOf, Places.IsOpenAt, Working.DoneOn}
 
 -- What was done of a work holds of its disk, if one was given back. The disks are that of the image or the new file,
@@ -24,21 +23,8 @@ module _ {S T : Type 0} (start : Ghosts S) (other : Ghosts T) (d : DiskGhosts (F
   WorkDone was is status disk old = HasDone start other d e work
       (λ it. DoneOn start other d input work was is status it old) status disk old
 
-  -- the same, told to a writer
-  abbrev pub WorkTold : Telling → Option (List ℕ) → Option (List ℕ) → ℕ → Option (FileDisk S start)
-      → Option (FileDisk T other) → Type 0
-  WorkTold telling was is status disk old = HasDone start other d e work (λ it. ToldIn
-      (λ before after came_to. DoneOn start other d input work before after came_to it old) telling was is status)
-      status disk old
-
 -- the work of a command line was done with this status, with a writer
 abbrev pub LineDone : {S T : Type 0} (start : Ghosts S) (other : Ghosts T) → DiskGhosts (FileDisk S start)
     → DiskGhosts (FileDisk T other) → Option (List ℕ) → Work (Bor (List ℕ)) → Option (List ℕ) → Option (List ℕ) → ℕ
     → Option (FileDisk S start) → Option (FileDisk T other) → Type 0
 LineDone start other d e input work = WorkDone start other d e input (texts_in work)
-
--- the same, told to a writer
-abbrev pub LineTold : {S T : Type 0} (start : Ghosts S) (other : Ghosts T) → DiskGhosts (FileDisk S start)
-    → DiskGhosts (FileDisk T other) → Option (List ℕ) → CommandLine → Telling → Option (List ℕ) → Option (List ℕ) → ℕ
-    → Option (FileDisk S start) → Option (FileDisk T other) → Type 0
-LineTold start other d e input line = WorkTold start other d e input (texts_in line.work)

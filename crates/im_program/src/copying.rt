@@ -10,7 +10,7 @@ use crate::moving::{place_at, print_counted, source_at};
 use crate::opening::{call_of, give_up};
 use im_disk::{Disk, Failure, FileDisk, Start};
 use im_migration::{Asked, MoveNews, copy, length_for_copy};
-use im_text::{News, Reason, diagnose, end};
+use im_text::{News, Reason, Style, diagnose, end};
 use im_types::{Observer, Refusal};
 use im_words::Making;
 use std::alloc::Global;
@@ -100,7 +100,7 @@ pub fn copy_file<
     match copy(rt.alloc(), &mut from, to, asked, observer) {
         Ok((to, count)) => {
             let told = print_counted(rt.alloc(), "copied", count, out);
-            Ok((end(rt.alloc(), told, out, observer), to, from))
+            Ok((end(rt.alloc(), Style::Text, told, out, observer), to, from))
         }
         Err((refusal, to)) => {
             let reason = reason_for(refusal, to.failure(), from.failure());

@@ -19,10 +19,9 @@ use crate::serving::serve_file;
 use crate::settling::{settle_if, settle_new};
 use crate::talking::talk_file;
 use im_disk::{Disk, FileDisk, Start};
-use im_filters::Telling;
 use im_listening::Ear;
 use im_run::STALLED;
-use im_text::News;
+use im_text::{News, Style};
 use im_types::{Observer, Refusal};
 use im_words::{CommandLine, Formatting, Work};
 use std::fs::File;
@@ -85,10 +84,7 @@ pub(crate) fn do_work<
         Work::Demonstration => Ok((demonstrate_at(hand, out), None, None)),
         Work::Format(it) => Ok(of_one(format_image(hand, &it, start)?)),
         Work::Serial(it) => Ok(of_one(serve_file(hand, &it, out, start)?)),
-        Work::Run(it) => {
-            let objects = line.telling == Telling::Json;
-            Ok(of_one(run_traced(hand, &it, objects, out, start)?))
-        }
+        Work::Run(it) => Ok(of_one(run_traced(hand, &it, out, start)?)),
         Work::Serve(it) => {
             let mut folder = Folder::new(hand.rt, hand.held, it.backups);
             Ok(of_one(talk_file(hand, &it, &mut folder, out, start)?))
@@ -174,5 +170,14 @@ pub(crate) fn settle<R: Files<File = File> + AllocGlobal + Eprint, S: Start, T: 
 pub(crate) fn tell_loss<R: AllocGlobal + Eprint>(rt: &R, work: &Work<&str>, loss: Loss, is_made: bool) {
     if is_made {
         loss.tell(rt, path_of(work));
+    }
+}
+
+/// How a refusal of the work is said.
+pub(crate) fn style_of(work: &Work<&str>) -> Style {
+    match *work {
+        Work::Serial(serving) => serving.style,
+        Work::Run(running) => running.style,
+        _ => Style::Text,
     }
 }

@@ -16,7 +16,7 @@ use im_dump::{DumpFault, Loaded, read_dump};
 use im_image::image_length;
 use im_migration::{Asked, MoveNews, Original, Resized, prepare, put_new};
 use im_script::{ScriptFault, TextFault};
-use im_text::{News, Reason, Words, end};
+use im_text::{News, Reason, Style, Words, end};
 use im_types::{Observer, Refusal};
 use im_words::Making;
 use std::alloc::Global;
@@ -214,5 +214,5 @@ pub fn load_file<
     let resized = prepare_loaded(rt.alloc(), &loaded, making.asked, observer)?;
     let to = put_file(rt, making.new, &resized, observer, start)?;
     let told = print_counted(rt.alloc(), "loaded", loaded.count, out);
-    Ok((end(rt.alloc(), told, out, observer), to))
+    Ok((end(rt.alloc(), Style::Text, told, out, observer), to))
 }

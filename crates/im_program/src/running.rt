@@ -2,7 +2,7 @@
 ghost use Rattle.std.specs.Prelude.{◌≡◌, ◌≤◌, true, ◌⊎◌, is_some, IfOk, IfErr, OnErr};
 ghost use Rattle.std.specs.Io.KnownBytes.{Keeps};
 ghost use Rattle.im_types.specs.Types.{Device, NoMemory, BadScript};
-ghost use Rattle.im_run.specs.Once.{RunsWhen};
+ghost use Rattle.{im_text.specs.Said.output, im_run.specs.Once.RunsWhen};
 ghost use Rattle.im_program.specs.{Places.IsOpenAt, Working.RanAs, Working.WasRun};
 
 use crate::console::Console;
@@ -14,8 +14,9 @@ use crate::watching::Watch;
 use im_disk::{Disk, FileDisk, Start};
 use im_run::{Assignment, RunContext, STALLED, Trace, run_on, run_on_plan, run_once_on};
 use im_script::Script;
+use im_serial::StyledScript;
 use im_serving::{Host, Open, Standing, Teller};
-use im_text::News;
+use im_text::{News, Style};
 use im_types::{Observer, Refusal};
 use im_words::ScriptRun;
 use std::fs::File;
@@ -26,8 +27,9 @@ use std::thread::Threads;
 
 // A script that is run, and how.
 #[derive(Clone, Copy)]
-struct RunTask<'s, 'a> {
-    script: &'s Script<'a>,
+struct RunTask<'a> {
+    script: &'a Script<'a>,
+    style: Style,
     once: bool,
     planned: bool,
 }
@@ -42,28 +44,35 @@ fn run_task<
 >(
     context: &RunContext<'_, Open, V, R>,
     disk: D,
-    task: RunTask<'_, '_>,
+    task: RunTask<'_>,
     out: &mut W,
     observer: &mut N,
 ) -> (u8, D, Trace)
     ensures status { (result.0 ≤ 1) ⊎ (result.0 ≡ STALLED) }
     ensures run { RunsWhen D.Disk task.entry.once task.entry.planned task.entry.script.now disk result.1
-        (W.contents out.old) (W.contents out.new) result.2 result.0 }
+        (output task.entry.style (W.contents out.old)) (W.contents out.new) result.2 result.0 }
     ensures recorded { context.now.recorded ≡ true → result.2.recorded ≡ true }
+    ensures honest { D.honest result.1 → D.honest disk }
 {
     let RunTask {
         script,
+        style,
         once,
         planned,
     } = task;
     if once {
-        let asked = Assignment { script, planned };
+        let asked = Assignment {
+            script,
+            style,
+            planned,
+        };
         return run_once_on(context, disk, asked, out, observer);
     }
+    let styled = StyledScript { script, style };
     if planned {
-        return run_on_plan(context, disk, script, out, observer);
+        return run_on_plan(context, disk, &styled, out, observer);
     }
-    run_on(context, disk, script, out, observer)
+    run_on(context, disk, &styled, out, observer)
 }
 
 /// Runs the script of one file on the image of another, each element's requests by threads of its own. The script may
@@ -116,14 +125,15 @@ pub fn run_file<
     let context = RunContext::new(rt, rt.alloc(), &Open, watcher, running.trace.is_some());
     let task = RunTask {
         script: &script,
+        style: running.style,
         once: running.once,
         planned: running.planned,
     };
     Ok(run_task(&context, disk, task, out, observer))
 }
 
-/// Runs a script with threads for its elements, and writes its trace if one is asked for: as objects of JSON if
-/// `objects` is set. If nothing was run, the trace's file is removed.
+/// Runs a script with threads for its elements, and writes its trace if one is asked for: as objects of JSON if its
+/// lines are said so. If nothing was run, the trace's file is removed.
 pub(crate) fn run_traced<
     R: Files<File = File> + AllocGlobal + Eprint + Threads + Wait + Sync,
     S: Start + Send,
@@ -132,7 +142,6 @@ pub(crate) fn run_traced<
 >(
     hand: AtHand<'_, R, I, Console<'_, R>>,
     running: &ScriptRun<&str>,
-    objects: bool,
     out: &mut W,
     start: S,
 ) -> Result<(u8, FileDisk<S>), Refusal>
@@ -150,6 +159,7 @@ pub(crate) fn run_traced<
         input,
         observer: &mut *console,
     };
+    let objects = running.style == Style::Json;
     match run_file(inner, running, watch, out, start) {
         Ok((status, disk, trace)) => {
             keep_trace(rt, file, Some(trace), objects, console);

@@ -1,17 +1,17 @@
 //! The work that the program does.
-ghost use Rattle.std.specs.Prelude.{◌≡◌, ℕ, ◌≤◌, ◌⊎◌, List, MatchResult, None};
-ghost use Rattle.im_text.specs.Printing.{Begins, IsLast};
+ghost use Rattle.std.specs.Prelude.{◌≡◌, ◌≤◌, ◌⊎◌, MatchResult, None};
+ghost use Rattle.im_text.specs.Said.{output, SaysLast};
 ghost use Rattle.im_program.specs.Told.{LineDone};
 
 use crate::advice::tell_what_there_is;
 use crate::console::Console;
 use crate::hand::AtHand;
-use crate::jobs::{do_work, may_do, settle, tell_loss};
+use crate::jobs::{do_work, may_do, settle, style_of, tell_loss};
 use crate::overwriting::Loss;
 use im_disk::{Disk, FileDisk, Start};
 use im_listening::Ear;
 use im_run::STALLED;
-use im_text::{News, PathFault, Reason, put_refusal};
+use im_text::{News, PathFault, Reason, Style, put_refusal};
 use im_types::{Observer, Refusal};
 use im_words::CommandLine;
 use std::alloc::Global;
@@ -24,6 +24,7 @@ use std::thread::Threads;
 // What work came to. A refusal prints its line.
 fn or_refused<S: Start, T: Start, W: Write>(
     alloc: Global,
+    style: Style,
     done: Result<(u8, Option<FileDisk<S>>, Option<FileDisk<T>>), Refusal>,
     out: &mut W,
 ) -> (u8, Option<FileDisk<S>>, Option<FileDisk<T>>)
@@ -31,7 +32,7 @@ fn or_refused<S: Start, T: Start, W: Write>(
 {
     match done {
         Ok(done) => done,
-        Err(refusal) => (refuse(alloc, refusal, out), None, None),
+        Err(refusal) => (refuse(alloc, style, refusal, out), None, None),
     }
 }
 
@@ -85,7 +86,8 @@ pub fn act<
     let mut loss = Loss::none();
     if !may_do(rt, work, input, console, &mut loss) {
         console.tell(News::Refused(Reason::File(PathFault::Exists)));
-        return (refuse(rt.alloc(), Refusal::Device, out), None, None);
+        let status = refuse(rt.alloc(), style_of(work), Refusal::Device, out);
+        return (status, None, None);
     }
     let inner = AtHand {
         rt,
@@ -94,7 +96,7 @@ pub fn act<
         observer: &mut *console,
     };
     let done = do_work(inner, line, out, starts);
-    let (status, disk, old) = or_refused(rt.alloc(), done, out);
+    let (status, disk, old) = or_refused(rt.alloc(), style_of(work), done, out);
     settle(rt, work, &disk, &old, console);
     tell_what_there_is(rt, work, status);
     tell_loss(rt, work, loss, disk.is_some());
@@ -102,10 +104,10 @@ pub fn act<
 }
 
 /// Prints the line of a refusal and returns the status 1.
-pub fn refuse<W: Write>(alloc: Global, refusal: Refusal, out: &mut W) -> u8
+pub fn refuse<W: Write>(alloc: Global, style: Style, refusal: Refusal, out: &mut W) -> u8
     ensures status { result ≡ 1 }
-    ensures last { (last : List ℕ) × (IsLast last × Begins (W.contents out.old) (W.contents out.new) last) }
+    ensures last { SaysLast (output style (W.contents out.old)) (W.contents out.new) }
 {
-    put_refusal(alloc, refusal, out);
+    put_refusal(alloc, style, refusal, out);
     1 // Whatever was printed.
 }

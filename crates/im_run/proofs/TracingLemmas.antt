@@ -4,10 +4,10 @@ use Rattle.std.proofs.Common.{if◌then◌else◌, OnOk, slice_get, Some, None, 
 use Rattle.std.proofs.Common.{subst, ⊎_elim, append_assoc, append-nil, arith, take_all}
 use Rattle.std.proofs.{KnownBytes.Appends-nil, lemmas.Bool.cases_lt, lemmas.List.take-append-le}
 use Rattle.std.specs.Io.KnownBytes.{Appends}
-use Rattle.{im_types.specs.Types.Line, im_types.proofs.Tests.false_true, im_trace.specs.declared.Since.Since}
-use Rattle.{im_text.specs.declared.Lines.Lines, im_text.specs.Printing.Begins, im_text.specs.Printing.Prints}
-use Rattle.{im_text.specs.Printing.PrintsMore, im_text.specs.Printing.PrintsOn, im_text.specs.Texts.texts_below}
-use Rattle.im_text.proofs.PrintingLemmas.{prints_all, prints_begins, prints_none, take-prefix}
+use Rattle.im_types.{specs.Types.Line, proofs.Tests.false_true}
+use Rattle.{im_trace.specs.declared.Since.Since, im_text.specs.declared.Batch.Batch, im_text.specs.Texts.texts_below}
+use Rattle.im_text.proofs.PrintingLemmas.{batches_all, batches_begin, batches_none, take-prefix}
+use Rattle.im_text.specs.Printing.{Batches, BatchesMore, BatchesOn, Begins}
 use Rattle.im_run.specs.Tracing.{BeginsTrace, first_lines, IsTracedText, IsTraceText, MayStand, PrintsBeginning}
 use Rattle.im_run.specs.Tracing.{PrintsSome, PrintsTraced, trace_line, trace_lines, traced_text, TraceState, unmarked}
 use Rattle.im_run.specs.Tracing.{WritesTrace}
@@ -82,16 +82,16 @@ unmarked_rest objects setup lines many (suc more) text is =
 -- ---- the first lines
 
 -- none is printed yet
-pub none_printed : (objects : Bool) (setup lines : List Line) (is : Option (List ℕ)) (after : Lines)
+pub none_printed : (objects : Bool) (setup lines : List Line) (is : Option (List ℕ)) (after : Batch)
     → PrintsTraced objects setup lines 0 is after is after
 none_printed objects setup lines is after =
-    ([], (refl, λ start text it. subst (Prints start is after) (sym (append-nil text)) it))
+    ([], (refl, λ start text it. subst (Batches start is after) (sym (append-nil text)) it))
 
 -- one more is printed
 pub one_printed : (objects : Bool) (setup lines : List Line) (at : ℕ) (since : Since) (was mid is : Option (List ℕ))
-    (before between after : Lines) → PrintsTraced objects setup lines at was before mid between
+    (before between after : Batch) → PrintsTraced objects setup lines at was before mid between
     → MayStand setup lines at since
-    → PrintsMore mid between is after (traced_text objects since (slice_get lines at))
+    → BatchesMore mid between is after (traced_text objects since (slice_get lines at))
     → PrintsTraced objects setup lines (at + 1) was before is after
 one_printed objects setup lines at since was mid is before between after first may more =
     let last = traced_text objects since (slice_get lines at) in
@@ -100,21 +100,21 @@ one_printed objects setup lines at since was mid is before between after first m
       first.0 ++ last,
       (
         same_many objects setup lines (suc at) (at + 1) (first.0 ++ last) (omega arith) all,
-        λ start text it. subst (Prints start is after) (append_assoc text first.0 last)
+        λ start text it. subst (Batches start is after) (append_assoc text first.0 last)
             (more start (text ++ first.0) (first.1.1 start text it)),
       ),
     )
 
 -- all are printed
 pub all_printed : (objects : Bool) (setup lines : List Line) (at : ℕ) (was is : Option (List ℕ))
-    (before after : Lines) → at ≡ length lines → PrintsTraced objects setup lines at was before is after
+    (before after : Batch) → at ≡ length lines → PrintsTraced objects setup lines at was before is after
     → PrintsTraced objects setup lines (length lines) was before is after
 all_printed objects setup lines at was is before after same printed =
     subst (λ (n : ℕ). PrintsTraced objects setup lines n was before is after) same printed
 
 -- the first of these lines are a beginning of them
 pub begins_with : (objects : Bool) (setup lines : List Line) (at : ℕ) (was is : Option (List ℕ))
-    (before after : Lines) → at ≤ length lines → PrintsTraced objects setup lines at was before is after
+    (before after : Batch) → at ≤ length lines → PrintsTraced objects setup lines at was before is after
     → PrintsSome objects setup lines was before is after
 begins_with objects setup lines at was is before after within printed =
     let text = printed.0 in
@@ -128,8 +128,8 @@ begins_with objects setup lines at was is before after within printed =
     )
 
 -- nothing more is printed
-pub begins_on : (objects : Bool) (setup lines : List Line) (was mid is : Option (List ℕ)) (before between after : Lines)
-    → PrintsSome objects setup lines was before mid between → PrintsOn mid between is after
+pub begins_on : (objects : Bool) (setup lines : List Line) (was mid is : Option (List ℕ)) (before between after : Batch)
+    → PrintsSome objects setup lines was before mid between → BatchesOn mid between is after
     → PrintsSome objects setup lines was before is after
 begins_on objects setup lines was mid is before between after some on =
     let begun = some.1.1 in (
@@ -153,20 +153,20 @@ longer was is part rest begun = ⊎_elim
     (cases_lt begun.0 (length part))
 
 -- as much was written as the writer took
-pub written_some : (start mid is : Option (List ℕ)) (before between after : Lines) (text : List ℕ)
+pub written_some : (start mid is : Option (List ℕ)) (before between after : Batch) (text : List ℕ)
     → before.pending.items ≡ [] → PrintsBeginning start before mid between text
-    → PrintsOn mid between is after → Begins start is text
+    → BatchesOn mid between is after → Begins start is text
 written_some start mid is before between after text empty begun on =
     subst (Begins start is) (sym begun.1.1.0)
-    (longer start is begun.0 begun.1.0 (prints_begins start is after begun.0
-    (on start begun.0 (begun.1.1.1 start [] (prints_none start before empty)))))
+    (longer start is begun.0 begun.1.0 (batches_begin start is after begun.0
+    (on start begun.0 (begun.1.1.1 start [] (batches_none start before empty)))))
 
 -- all was written
-pub written_all : (start mid is : Option (List ℕ)) (before between after : Lines) (text : List ℕ)
-    → before.pending.items ≡ [] → PrintsMore start before mid between text
-    → PrintsOn mid between is after → after.broken ≡ false → after.pending.items ≡ [] → Appends start is text
+pub written_all : (start mid is : Option (List ℕ)) (before between after : Batch) (text : List ℕ)
+    → before.pending.items ≡ [] → BatchesMore start before mid between text
+    → BatchesOn mid between is after → after.broken ≡ false → after.pending.items ≡ [] → Appends start is text
 written_all start mid is before between after text empty printed on works flushed =
-    prints_all start is after text works flushed (on start text (printed start [] (prints_none start before empty)))
+    batches_all start is after text works flushed (on start text (printed start [] (batches_none start before empty)))
 
 -- what holds of both, if the call succeeded
 pub on_ok_both : {T E P Q R : Type 0} (r : Result T E) → (P → Q → R) → OnOk r P → OnOk r Q → OnOk r R
@@ -177,8 +177,8 @@ on_ok_both (Err e) both one two = tt
 
 module _ (objects : Bool) (t : TraceState) (setup served : List Line) (first : setup ≡ t.setup)
     (others : served ≡ (if t.recorded then t.served else [])) where
-  pub traced_some : (start mid is : Option (List ℕ)) (before between after : Lines) → before.pending.items ≡ []
-      → PrintsSome objects setup (setup ++ served) start before mid between → PrintsOn mid between is after
+  pub traced_some : (start mid is : Option (List ℕ)) (before between after : Batch) → before.pending.items ≡ []
+      → PrintsSome objects setup (setup ++ served) start before mid between → BatchesOn mid between is after
       → BeginsTrace objects t start is
   traced_some start mid is before between after empty printed on =
       let some = subst (λ (l : List Line). PrintsSome objects t.setup (t.setup ++ l) start before mid between) others
@@ -187,9 +187,9 @@ module _ (objects : Bool) (t : TraceState) (setup served : List Line) (first : s
         (trace_is objects t some.0 some.1.0, written_some start mid is before between after some.0 empty some.1.1 on),
       )
 
-  pub traced_all : (start mid is : Option (List ℕ)) (before between after : Lines) → before.pending.items ≡ []
+  pub traced_all : (start mid is : Option (List ℕ)) (before between after : Batch) → before.pending.items ≡ []
       → PrintsTraced objects setup (setup ++ served) (length (setup ++ served)) start before mid between
-      → PrintsOn mid between is after → after.broken ≡ false → after.pending.items ≡ []
+      → BatchesOn mid between is after → after.broken ≡ false → after.pending.items ≡ []
       → WritesTrace objects t start is
   traced_all start mid is before between after empty printed on works flushed =
       let all = subst (λ (l : List Line). PrintsTraced objects t.setup (t.setup ++ l) (length (t.setup ++ l)) start

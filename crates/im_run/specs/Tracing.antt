@@ -5,7 +5,7 @@ use Rattle.std.specs.Io.KnownBytes.{Appends}
 use Rattle.im_types.specs.Types.{Request, Outcome, Call, Line, Asks, Confirm, Tells, Confirmed, Commands, Collect}
 use Rattle.im_types.specs.Types.{Refusal, number_of}
 use Rattle.im_trace.specs.{Ends.empty_recording, Ends.RecordingState, Lines.may_begin}
-use Rattle.im_text.specs.{declared.Lines.Lines, Printing.Begins, Printing.PrintsMore}
+use Rattle.im_text.specs.{declared.Batch.Batch, Printing.BatchesMore, Printing.Begins}
 use Rattle.im_text.specs.Texts.{entry_text, line_feed, op_text, texts_below}
 use Rattle.im_run.specs.Traced.{call_object}
 pub use Rattle.im_trace.specs.declared.traced.Since.{Since}
@@ -101,20 +101,20 @@ abbrev pub BeginsTrace : Bool → TraceState → Option (List ℕ) → Option (L
 BeginsTrace objects t was is = (text : List ℕ) × (IsTraceText objects t text × Begins was is text)
 
 -- the text of the first so many lines was printed
-abbrev pub PrintsTraced : Bool → List Line → List Line → ℕ → Option (List ℕ) → Lines → Option (List ℕ) → Lines → Type 0
+abbrev pub PrintsTraced : Bool → List Line → List Line → ℕ → Option (List ℕ) → Batch → Option (List ℕ) → Batch → Type 0
 PrintsTraced objects setup lines many was before is after =
-    (text : List ℕ) × (IsTracedText objects setup lines many text × PrintsMore was before is after text)
+    (text : List ℕ) × (IsTracedText objects setup lines many text × BatchesMore was before is after text)
 
 -- the text of all lines was printed
-abbrev pub PrintsAll : Bool → List Line → List Line → Option (List ℕ) → Lines → Option (List ℕ) → Lines → Type 0
+abbrev pub PrintsAll : Bool → List Line → List Line → Option (List ℕ) → Batch → Option (List ℕ) → Batch → Type 0
 PrintsAll objects setup lines was before is after = PrintsTraced objects setup lines (length lines) was before is after
 
 -- a beginning of this text was printed
-abbrev pub PrintsBeginning : Option (List ℕ) → Lines → Option (List ℕ) → Lines → List ℕ → Type 0
+abbrev pub PrintsBeginning : Option (List ℕ) → Batch → Option (List ℕ) → Batch → List ℕ → Type 0
 PrintsBeginning was before is after text =
-    (part : List ℕ) × ((rest : List ℕ) × ((text ≡ part ++ rest) × PrintsMore was before is after part))
+    (part : List ℕ) × ((rest : List ℕ) × ((text ≡ part ++ rest) × BatchesMore was before is after part))
 
 -- the same of the text of all lines
-abbrev pub PrintsSome : Bool → List Line → List Line → Option (List ℕ) → Lines → Option (List ℕ) → Lines → Type 0
+abbrev pub PrintsSome : Bool → List Line → List Line → Option (List ℕ) → Batch → Option (List ℕ) → Batch → Type 0
 PrintsSome objects setup lines was before is after = (text : List ℕ)
     × (IsTracedText objects setup lines (length lines) text × PrintsBeginning was before is after text)

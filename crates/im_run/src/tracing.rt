@@ -1,13 +1,13 @@
 //! The trace of a run: its calls in the order that was kept, each with its answer and its marks.
 ghost use Rattle.std.specs.Prelude.{◌≡◌, [], ◌++◌, length, OnOk, slice_get};
-ghost use Rattle.im_text.specs.Printing.{Pushes};
+ghost use Rattle.im_text.specs.Printing.{TakesText};
 ghost use Rattle.im_run.specs.Tracing.{BeginsTrace, MayStand, PrintsAll, PrintsSome, traced_text, unmarked};
 ghost use Rattle.im_run.specs.Tracing.{WritesTrace};
 
 use crate::calls::Calls;
 use crate::wording::make_call;
 use im_controller::{Since, Traced};
-use im_text::{Lines, Reason};
+use im_text::{Batch, Reason};
 use im_types::Line;
 use std::alloc::Global;
 use std::io::Write;
@@ -50,16 +50,16 @@ fn print_call<W: Write>(
     objects: bool,
     call: (Since, Option<Line>),
     text: &mut String,
-    lines: &mut Lines,
+    batch: &mut Batch,
     out: &mut W,
 ) -> Result<(), Reason>
-    ensures more { Pushes result (W.contents out.old) lines.old (W.contents out.new) lines.new
+    ensures more { TakesText result (W.contents out.old) batch.old (W.contents out.new) batch.new
         (traced_text objects call.0 call.1) }
 {
     let Ok(()) = make_call(text, objects, call.0, call.1) else {
         return Err(Reason::Memory);
     };
-    lines.push(out, text.as_str())
+    batch.push(out, text.as_str())
 }
 
 // The calls of a trace: those of the setup, and those of the servers. Whether they are written as objects.
@@ -138,22 +138,22 @@ fn count_of(setup: &[Line], served: &[Traced]) -> usize
 fn print_lines<W: Write>(
     both: TraceLines<'_>,
     text: &mut String,
-    lines: &mut Lines,
+    batch: &mut Batch,
     out: &mut W,
 ) -> Result<(), Reason>
     ensures all { OnOk result (PrintsAll both.entry.objects both.entry.setup.now
-        (both.entry.setup.now ++ both.entry.served.now) (W.contents out.old) lines.old (W.contents out.new)
-        lines.new) }
+        (both.entry.setup.now ++ both.entry.served.now) (W.contents out.old) batch.old (W.contents out.new)
+        batch.new) }
     ensures some { PrintsSome both.entry.objects both.entry.setup.now
-        (both.entry.setup.now ++ both.entry.served.now) (W.contents out.old) lines.old (W.contents out.new)
-        lines.new }
+        (both.entry.setup.now ++ both.entry.served.now) (W.contents out.old) batch.old (W.contents out.new)
+        batch.new }
 {
     let setup = both.setup;
     let served = both.served;
     for at in 0..count_of(setup, served) {
         let since = marks_at(both, at);
         let line = line_at(setup, served, at);
-        match print_call(both.objects, (since, line), text, lines, out) {
+        match print_call(both.objects, (since, line), text, batch, out) {
             Ok(()) => {}
             Err(reason) => return Err(reason),
         }
@@ -181,7 +181,7 @@ pub fn write_trace<W: Write>(
     ensures whole { OnOk result (WritesTrace objects trace.now (W.contents out.old) (W.contents out.new)) }
     ensures begins { BeginsTrace objects trace.now (W.contents out.old) (W.contents out.new) }
 {
-    let Ok(mut lines) = Lines::new(alloc) else {
+    let Ok(mut batch) = Batch::new(alloc) else {
         return Err(Reason::Memory);
     };
     let mut text = String::new(alloc);
@@ -190,10 +190,10 @@ pub fn write_trace<W: Write>(
         served: trace.served.as_slice(),
         objects,
     };
-    match print_lines(both, &mut text, &mut lines, out) {
-        Ok(()) => lines.flush(out),
+    match print_lines(both, &mut text, &mut batch, out) {
+        Ok(()) => batch.flush(out),
         Err(reason) => {
-            let _written = lines.flush(out);
+            let _written = batch.flush(out);
             Err(reason)
         }
     }

@@ -2,11 +2,11 @@
 
 use crate::ProgramDesk;
 use crate::spelling::{add_text, add_word};
-use im_filters::Telling;
 use im_migration::Asked;
 use im_program::{CommandLine, WordFault, Work, read_words};
 use im_report::View;
 use im_story::{Phrase, Saying};
+use im_text::Style;
 
 fn add_size(said: &mut Saying, size: Option<u32>, name: &str) {
     if let Some(number) = size {
@@ -75,13 +75,21 @@ fn add_work(said: &mut Saying, work: &Work<&str>) {
     }
 }
 
+fn style_of(work: &Work<&str>) -> Style {
+    match *work {
+        Work::Serial(it) => it.style,
+        Work::Run(it) => it.style,
+        _ => Style::Text,
+    }
+}
+
 fn add_line(said: &mut Saying, line: &CommandLine) {
     add_work(said, &line.work);
     said.either(line.statuses, ", by statuses", "");
-    said.text(match line.telling {
-        Telling::Plain => "",
-        Telling::Quiet => ", quietly",
-        Telling::Json => ", as JSON",
+    said.text(match style_of(&line.work) {
+        Style::Text => "",
+        Style::Quiet => ", quietly",
+        Style::Json => ", as JSON",
     });
     if line.wait > 0 {
         write!(said, ", waiting {} s", line.wait)

@@ -9,6 +9,7 @@ use im_program::{
 };
 use im_report::View;
 use im_story::{Phrase, Printout, Saying};
+use im_text::Style;
 use im_types::Limits;
 use std::fs;
 use std::io::ErrorKind;
@@ -54,6 +55,7 @@ fn is_done<'a>(
         image,
         script: call.word(3),
         once: false,
+        style: Style::Text,
     };
     let hand = AtHand {
         rt,

@@ -6,9 +6,9 @@ use Rattle.clap.specs.Words.{App, first_of, new_app, new_rule, Row, Rule, subcom
 use Rattle.clap.specs.Words.{with_subcommand}
 use Rattle.std.specs.{Borrow.Bor, List.after_first, List.before_first, List.position_or_len, Option.option_map_or}
 use Rattle.{im_migration.specs.declared.Asked.Asked, im_script.specs.Grammar.number_up_to}
+use Rattle.im_text.specs.declared.Style.{Style, TheVariants.Json, TheVariants.Quiet, TheVariants.Text as InText}
 use Rattle.im_report.specs.declared.{Filter.Filter, Span.Span, View.View}
 use Rattle.im_report.specs.declared.View.TheVariants.{DumpJson, Report, ReportJson, Stat, StatJson}
-use Rattle.im_filters.specs.declared.Telling.{Telling, TheVariants.Json, TheVariants.Plain, TheVariants.Quiet}
 use Rattle.im_words.specs.declared.{table.TheConstants.COMMON, table.TheConstants.SUBCOMMANDS, words.Work.Work}
 use Rattle.im_words.specs.declared.words.Work.TheVariants.{Copy, Demonstration, Dump, Format, Inspect, Load, Migrate}
 use Rattle.im_words.specs.declared.words.Work.TheVariants.{Run, Serial, Serve}
@@ -104,12 +104,18 @@ texts_in (Format it) = Format (record {
   slots = it.slots;
   is_new = it.is_new;
 })
-texts_in (Serial it) = Serial (record { image = it.image.now; script = it.script.now; once = it.once })
+texts_in (Serial it) = Serial (record {
+  image = it.image.now;
+  script = it.script.now;
+  once = it.once;
+  style = it.style;
+})
 texts_in (Run it) = Run (record {
   image = it.image.now;
   script = it.script.now;
   planned = it.planned;
   once = it.once;
+  style = it.style;
   trace = option_map (λ path. path.now) it.trace;
 })
 texts_in (Serve it) = Serve (record {
@@ -155,34 +161,36 @@ format_work rows = option_map (λ asked. Format (record {
   is_new = is_given rows (codes "new");
 })) (sizes_given rows)
 
--- how lines are told, by whether it is quiet and whether it is in JSON; it can't be both
-abbrev pub telling_with : Bool → Bool → Option Telling
-telling_with false false = Some Plain
-telling_with true false = Some Quiet
-telling_with false true = Some Json
-telling_with true true = None
+-- how lines are said, by whether it is quiet and whether it is in JSON; it can't be both
+abbrev pub style_with : Bool → Bool → Option Style
+style_with false false = Some InText
+style_with true false = Some Quiet
+style_with false true = Some Json
+style_with true true = None
 
--- how the lines of a script are told
-abbrev pub telling_given : List Row → Option Telling
-telling_given rows = telling_with (is_given rows (codes "quiet")) (is_given rows (codes "json"))
+-- how the lines of a script are said
+abbrev pub style_given : List Row → Option Style
+style_given rows = style_with (is_given rows (codes "quiet")) (is_given rows (codes "json"))
 
--- what serial is asked for, if it says how lines are told
+-- what serial is asked for, if it says how lines are said
 abbrev pub serial_work : List Row → Option (Work Text)
-serial_work rows = option_map (λ _. Serial (record {
+serial_work rows = option_map (λ style. Serial (record {
   image = path_in rows (codes "IMAGE");
   script = path_in rows (codes "SCRIPT");
   once = is_given rows (codes "once");
-})) (telling_given rows)
+  style = style;
+})) (style_given rows)
 
--- what run is asked for, if it says how lines are told
+-- what run is asked for, if it says how lines are said
 abbrev pub run_work : List Row → Option (Work Text)
-run_work rows = option_map (λ _. Run (record {
+run_work rows = option_map (λ style. Run (record {
   image = path_in rows (codes "IMAGE");
   script = path_in rows (codes "SCRIPT");
   planned = is_given rows (codes "planned");
   once = is_given rows (codes "once");
+  style = style;
   trace = first_of (codes "trace") rows;
-})) (telling_given rows)
+})) (style_given rows)
 
 -- what serve is asked for
 abbrev pub serve_work : List Row → Work Text
@@ -300,19 +308,6 @@ seconds_in rows = option_map_or seconds_of (first_of (codes "wait") rows) (Some 
 abbrev pub wait_in : Option (Text × List Row) → Option ℕ
 wait_in None = Some 0
 wait_in (Some met) = seconds_in met.1
-
--- whether a subcommand serves a script
-abbrev pub is_of_script : Text → Bool
-is_of_script name = bytes_eq name (codes "serial") || bytes_eq name (codes "run")
-
--- how the lines of the subcommand that was found are told
-abbrev pub telling_in : Option (Text × List Row) → Telling
-telling_in None = Plain
-telling_in (Some met) = if is_of_script met.0 then unwrap_or (telling_given met.1) Plain else Plain
-
--- the same of the words, as clap walks them
-abbrev pub asks_telling : List Text → Telling
-asks_telling words = telling_in (subcommand_of imem_app words)
 
 -- the same of the words, as clap walks them
 abbrev pub asks_wait : List Text → Option ℕ

@@ -2,14 +2,14 @@
 ghost use Rattle.std.specs.Prelude.{◌≡◌, codes, option_map};
 ghost use Rattle.clap.specs.Words.{first_of, found_of, rows_of};
 ghost use Rattle.im_words.specs.Words.{filter_in, given_cells, given_in, given_number, is_given, path_in, seconds_in};
-ghost use Rattle.im_words.specs.Words.{seconds_of, sizes_given, span_between, span_given, span_in, telling_given};
-ghost use Rattle.im_words.specs.Words.{telling_with};
+ghost use Rattle.im_words.specs.Words.{seconds_of, sizes_given, span_between, span_given, span_in, style_given};
+ghost use Rattle.im_words.specs.Words.{style_with};
 
 use clap::ArgMatches;
-use im_filters::Telling;
 use im_migration::Asked;
 use im_report::{Filter, Span};
 use im_script::read_u32;
+use im_text::Style;
 
 /// The most seconds that the opening of a file waits for its lock: a day.
 const MAX_WAIT: u32 = 86_400;
@@ -153,22 +153,22 @@ pub(crate) fn filter_of(found: &ArgMatches) -> Option<Filter>
     })
 }
 
-/// How lines are told by two flags. Returns `None` if both are given.
-fn telling_with(quiet: bool, json: bool) -> Option<Telling>
-    ensures { result ≡ telling_with quiet json }
+/// How lines are said by two flags. Returns `None` if both are given.
+fn style_with(quiet: bool, json: bool) -> Option<Style>
+    ensures { result ≡ style_with quiet json }
 {
     if quiet {
-        if json { None } else { Some(Telling::Quiet) }
+        if json { None } else { Some(Style::Quiet) }
     } else if json {
-        Some(Telling::Json)
+        Some(Style::Json)
     } else {
-        Some(Telling::Plain)
+        Some(Style::Text)
     }
 }
 
-/// How the lines of a script are told. Returns `None` if they are to be told in two ways.
-pub(crate) fn telling_given(found: &ArgMatches) -> Option<Telling>
-    ensures { result ≡ telling_given (rows_of (found_of found.now)) }
+/// How the lines of a script are said. Returns `None` if they are to be said in two ways.
+pub(crate) fn style_given(found: &ArgMatches) -> Option<Style>
+    ensures { result ≡ style_given (rows_of (found_of found.now)) }
 {
-    telling_with(is_given(found, "quiet"), is_given(found, "json"))
+    style_with(is_given(found, "quiet"), is_given(found, "json"))
 }

@@ -1,9 +1,9 @@
 //! What the words of the command line ask for.
 
 use clap::Error;
-use im_filters::Telling;
 use im_migration::Asked;
 use im_report::View;
+use im_text::Style;
 
 /// The number of cells of an image, if the command line doesn't say it.
 pub const DEFAULT_CELLS: u32 = 4_096;
@@ -54,7 +54,7 @@ pub struct Formatting<P> {
     pub is_new: bool,
 }
 
-/// What is served: the paths of the image and of the script, and whether it is done once.
+/// What is served: the paths of the image and of the script, and how.
 #[derive(Clone, Copy)]
 pub struct Serving<P> {
     /// The path of the image.
@@ -63,6 +63,8 @@ pub struct Serving<P> {
     pub script: P,
     /// Whether what the image has of the script isn't asked anew.
     pub once: bool,
+    /// How its lines are said.
+    pub style: Style,
 }
 
 /// What is run: the paths of the image and of the script, and how.
@@ -76,6 +78,8 @@ pub struct ScriptRun<P> {
     pub planned: bool,
     /// Whether what the image has of the script isn't asked anew.
     pub once: bool,
+    /// How its lines are said.
+    pub style: Style,
     /// The path of the new file for the trace, if one is asked for.
     pub trace: Option<P>,
 }
@@ -129,8 +133,6 @@ pub struct CommandLine<'a> {
     pub statuses: bool,
     /// How many seconds the opening of a file waits for its lock.
     pub wait: u32,
-    /// How the lines on standard output are told.
-    pub telling: Telling,
 }
 
 /// Why the command line asks for no work.

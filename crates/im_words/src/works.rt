@@ -5,7 +5,7 @@ ghost use Rattle.im_words.specs.Words.{copy_work, dump_as, dump_work, format_wor
 ghost use Rattle.im_words.specs.Words.{load_work, migrate_work, run_work, serial_work, serve_work, stat_look};
 ghost use Rattle.im_words.specs.Words.{stat_work, texts_in};
 
-use crate::given::{filter_of, is_given, path_if, path_of, sizes_given, telling_given};
+use crate::given::{filter_of, is_given, path_if, path_of, sizes_given, style_given};
 use crate::words::{
     DEFAULT_CELLS, DEFAULT_ELEMENTS, DEFAULT_SLOTS, Formatting, Inspection, Making, Moving,
     ScriptRun, Serving, Talking, Work,
@@ -28,28 +28,30 @@ pub(crate) fn format_work<'a>(found: &ArgMatches<'a>) -> Option<Work<&'a str>>
     }))
 }
 
-/// What `serial` is asked for. Returns `None` if lines are to be told in two ways.
+/// What `serial` is asked for. Returns `None` if lines are to be said in two ways.
 pub(crate) fn serial_work<'a>(found: &ArgMatches<'a>) -> Option<Work<&'a str>>
     ensures { option_map texts_in result ≡ serial_work (rows_of (found_of found.now)) }
 {
-    let _telling = telling_given(found)?;
+    let style = style_given(found)?;
     Some(Work::Serial(Serving {
         image: path_of(found, "IMAGE"),
         script: path_of(found, "SCRIPT"),
         once: is_given(found, "once"),
+        style,
     }))
 }
 
-/// What `run` is asked for. Returns `None` if lines are to be told in two ways.
+/// What `run` is asked for. Returns `None` if lines are to be said in two ways.
 pub(crate) fn run_work<'a>(found: &ArgMatches<'a>) -> Option<Work<&'a str>>
     ensures { option_map texts_in result ≡ run_work (rows_of (found_of found.now)) }
 {
-    let _telling = telling_given(found)?;
+    let style = style_given(found)?;
     Some(Work::Run(ScriptRun {
         image: path_of(found, "IMAGE"),
         script: path_of(found, "SCRIPT"),
         planned: is_given(found, "planned"),
         once: is_given(found, "once"),
+        style,
         trace: path_if(found, "trace"),
     }))
 }

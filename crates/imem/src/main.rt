@@ -12,6 +12,7 @@ use crate::openings::{Clocked, Openings};
 use crate::working::{Surroundings, work_on};
 use im_disk::{Disk, FileDisk, Start};
 use im_program::{Descriptors, Terminals, WordFault, read_words, refuse};
+use im_text::Style;
 use im_types::Refusal;
 use std::alloc::{AllocError, Global};
 use std::env::{self, Env};
@@ -79,7 +80,7 @@ fn start<
         (exit_status result.0) result.2 result.3 }
 {
     let Ok(texts) = texts(place.rt.alloc(), words) else {
-        let status = refuse(place.rt.alloc(), Refusal::NoMemory, &mut out);
+        let status = refuse(place.rt.alloc(), Style::Text, Refusal::NoMemory, &mut out);
         return (ExitCode::from(status), out, None, None);
     };
     match read_words(place.rt.alloc(), texts.as_slice()) {
@@ -90,7 +91,7 @@ fn start<
             (ExitCode::from(status), out, disk, old)
         }
         Err(WordFault::NoMemory) => {
-            let status = refuse(place.rt.alloc(), Refusal::NoMemory, &mut out);
+            let status = refuse(place.rt.alloc(), Style::Text, Refusal::NoMemory, &mut out);
             (ExitCode::from(status), out, None, None)
         }
         Err(WordFault::Bad(error)) => {
@@ -115,7 +116,7 @@ fn no_words<R: AllocGlobal + Eprint, W: Write>(rt: &R, error: &io::Error, out: &
     ensures { (exit_status result ≡ 1) ⊎ (exit_status result ≡ 2) }
 {
     if error.kind() == io::ErrorKind::OutOfMemory {
-        return ExitCode::from(refuse(rt.alloc(), Refusal::NoMemory, out));
+        return ExitCode::from(refuse(rt.alloc(), Style::Text, Refusal::NoMemory, out));
     }
     let _printed = rt.eprintln("error: each word of the command line has to be UTF-8 text");
     ExitCode::from(2)

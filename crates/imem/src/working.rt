@@ -6,9 +6,9 @@ ghost use Rattle.im_program.specs.Ending.{EndedOn};
 use im_disk::{Disk, FileDisk, Start};
 use im_listening::{InputBytes, Listener};
 use im_program::{
-    AtHand, CommandLine, Console, Descriptors, Prompter, Terminals, Work, act_told, refuse,
-    status_for,
+    AtHand, CommandLine, Console, Descriptors, Prompter, Terminals, Work, act, refuse, status_for,
 };
+use im_text::Style;
 use im_types::Refusal;
 use std::alloc::Global;
 use std::fs::File;
@@ -59,9 +59,9 @@ fn listen<
     listener
 }
 
-/// Does the work, and tells its lines as the command line says. Each read of standard input takes as much as there is,
-/// so that lines of a dialogue that come together are served together. In a dialogue a thread listens to standard
-/// input, and a person at a terminal sees a prompt. If standard input doesn't block, the program waits for it.
+/// Does the work of a command line. Each read of standard input takes as much as there is, so that lines of a dialogue
+/// that come together are served together. In a dialogue a thread listens to standard input, and a person at a terminal
+/// sees a prompt. If standard input doesn't block, the program waits for it.
 pub(crate) fn work_on<
     R: Files<File = File>
         + AllocGlobal
@@ -95,7 +95,7 @@ pub(crate) fn work_on<
     let heard: Listener<R, I, K> = listen(rt, rt.alloc(), input, line);
     let prompter = Prompter::new(rt, heard, prompts(line, place.terminals));
     let Ok(mut input) = BufReader::new(rt.alloc(), prompter) else {
-        let status = refuse(rt.alloc(), Refusal::NoMemory, &mut out);
+        let status = refuse(rt.alloc(), Style::Text, Refusal::NoMemory, &mut out);
         return (status, out, None, None);
     };
     let mut console = Console::new(rt, place.held, &line.work, place.terminals);
@@ -105,7 +105,7 @@ pub(crate) fn work_on<
         input: &mut input,
         observer: &mut console,
     };
-    let (status, out, disk, old) = act_told(hand, line, out, starts);
+    let (status, disk, old) = act(hand, line, &mut out, starts);
     let ends = status_for(status, line.statuses, console.reason());
     (ends, out, disk, old)
 }

@@ -6,7 +6,7 @@ pub returns-in-Ok-clause-ended : goal.returns-in-Ok-clause-ended
 returns-in-Ok-clause-ended g c = ended_as _ _ _ _ _ _ _ _ _ _ _ _ _
     (ap (λ (l : List (Bor (List ℕ))). map (λ w. w.now) l) c.as_slice.ensures.value ∙ c.in-Ok.ensures) c.from.ensures
     (ended_by _ _ _ _ _ _ _ _ (map (λ w. w.now) c.as_slice.result.now) c.in-Ok-read_words.line _ _
-    c.in-Ok-read_words.ensures.work c.in-Ok-read_words.ensures.statuses c.in-Ok-read_words.ensures.telling
+    c.in-Ok-read_words.ensures.work c.in-Ok-read_words.ensures.statuses
     c.work_on-status.ensures.ended)
 
 pub returns-in-Err-NoMemory-clause-ended : goal.returns-in-Err-NoMemory-clause-ended

@@ -16,8 +16,8 @@ returns-in-Ok-print_lines-clause-whole g c =
     on_ok_both f.result (λ works flushed. traced_all c.args.objects c.args.trace.now a.result.now b.result.now
     (a.ensures.value ∙ ap (λ (t : TraceState). t.setup) c.trace.view_is)
     (b.ensures ∙ ap (λ (t : TraceState). if t.recorded then t.served else []) c.trace.view_is)
-    (g.W.Write.contents c.args.out.now) (g.W.Write.contents p.new.out) (g.W.Write.contents f.new.out) c.in-Ok.lines
-    p.new.lines f.new.self c.in-Ok.ensures.pending c.in-Ok-print_lines.ensures.all f.ensures.on works flushed)
+    (g.W.Write.contents c.args.out.now) (g.W.Write.contents p.new.out) (g.W.Write.contents f.new.out) c.in-Ok.batch
+    p.new.batch f.new.self c.in-Ok.ensures.pending c.in-Ok-print_lines.ensures.all f.ensures.on works flushed)
     f.ensures.works f.ensures.pending
 
 pub returns-in-Ok-print_lines-clause-begins : goal.returns-in-Ok-print_lines-clause-begins
@@ -29,8 +29,8 @@ returns-in-Ok-print_lines-clause-begins g c =
     traced_some c.args.objects c.args.trace.now a.result.now b.result.now
     (a.ensures.value ∙ ap (λ (t : TraceState). t.setup) c.trace.view_is)
     (b.ensures ∙ ap (λ (t : TraceState). if t.recorded then t.served else []) c.trace.view_is)
-    (g.W.Write.contents c.args.out.now) (g.W.Write.contents p.new.out) (g.W.Write.contents f.new.out) c.in-Ok.lines
-    p.new.lines f.new.self c.in-Ok.ensures.pending p.ensures.some f.ensures.on
+    (g.W.Write.contents c.args.out.now) (g.W.Write.contents p.new.out) (g.W.Write.contents f.new.out) c.in-Ok.batch
+    p.new.batch f.new.self c.in-Ok.ensures.pending p.ensures.some f.ensures.on
 
 pub returns-clause-begins : goal.returns-clause-begins
 returns-clause-begins g c =
@@ -41,5 +41,5 @@ returns-clause-begins g c =
     traced_some c.args.objects c.args.trace.now a.result.now b.result.now
     (a.ensures.value ∙ ap (λ (t : TraceState). t.setup) c.trace.view_is)
     (b.ensures ∙ ap (λ (t : TraceState). if t.recorded then t.served else []) c.trace.view_is)
-    (g.W.Write.contents c.args.out.now) (g.W.Write.contents p.new.out) (g.W.Write.contents f.new.out) c.in-Ok.lines
-    p.new.lines f.new.self c.in-Ok.ensures.pending p.ensures.some f.ensures.on
+    (g.W.Write.contents c.args.out.now) (g.W.Write.contents p.new.out) (g.W.Write.contents f.new.out) c.in-Ok.batch
+    p.new.batch f.new.self c.in-Ok.ensures.pending p.ensures.some f.ensures.on

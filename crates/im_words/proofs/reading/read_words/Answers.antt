@@ -2,8 +2,8 @@ use Rattle.std.proofs.Common.{◌≡◌, true, [], IsSome, None, Option, sym, re
 use Rattle.clap.specs.Simple.{is_simple, subcommand_of}
 use Rattle.clap.specs.Words.{App, app_of, fault_of, is_simple_and_free, takes}
 use Rattle.im_script.specs.Grammar.{texts}
-use Rattle.im_words.specs.Words.{asks_wait, asks_work, has_statuses, imem_app, telling_in, wait_in, with_subcommands}
-use Rattle.im_words.specs.Words.{with_words, work_in}
+use Rattle.im_words.specs.Words.{asks_wait, asks_work, has_statuses, imem_app, wait_in, with_subcommands, with_words}
+use Rattle.im_words.specs.Words.{work_in}
 use Rattle.im_words.proofs.reading.read_words.Goals as goal
 
 free : is_simple_and_free imem_app ≡ true
@@ -45,13 +45,6 @@ returns-in-Some-clause-wait c =
     let met = c.in-Ok-try_get_matches_from.ensures.matches (ap is_simple app ∙ simple) in
     let same = met.1 ∙ ap (λ (a : App). subcommand_of a (texts c.args.words.now)) app in
     sym (ap wait_in same) ∙ c.in-Some.ensures.wait
-
-pub returns-in-Some-clause-telling : goal.returns-in-Some-clause-telling
-returns-in-Some-clause-telling c =
-    let app : app_of c.in-Ok.command ≡ imem_app = c.in-Ok.ensures.app in
-    let met = c.in-Ok-try_get_matches_from.ensures.matches (ap is_simple app ∙ simple) in
-    let same = met.1 ∙ ap (λ (a : App). subcommand_of a (texts c.args.words.now)) app in
-    c.in-Some.ensures.telling ∙ ap telling_in same
 
 no_some : (A : Type 0) → IsSome {T = A} None → ⊥
 no_some A some = search rules
