@@ -1,8 +1,9 @@
 """The toolchain's command `rt` as a module, for the scripts beside this file.
 
-As a program it runs `rt ci` here, with one thing changed. `rt ci` gives a crate that others wait for each processor
+As a program it runs `rt ci` here, with two things changed. `rt ci` gives a crate that others wait for each processor
 that is free, if the memory suffices. It reckons with five times the memory that the crates here take, so the last
-ones, each of which waits for the one before, would be proved on one processor.
+ones, each of which waits for the one before, would be proved on one processor. And a crate keeps the processors that it
+began with to its end, though its last functions need one: so half as many more are given out as there are.
 """
 import importlib.machinery
 import importlib.util
@@ -25,7 +26,8 @@ def command():
 
 def main():
     rt = command()
-    rt.need = lambda crate: ROOM_FOR_A_PROOF
+    there = rt.processors()
+    rt.need, rt.processors = lambda crate: ROOM_FOR_A_PROOF, lambda: there + there // 2
     return rt.main(["ci"])
 
 

@@ -35,13 +35,16 @@ enough_left m l n c enough = by_test (takes_place m l c)
     by_test true = omega (arith, enough)
     by_test false = omega (arith, enough)
 
--- what the members come to one after another is the same
+-- what members come to is the same with any places, if there is one for each of them
+abbrev pub IsSameWith : {X : Type 0} → (Contents → ℕ → List Command → X) → Type 0
+IsSameWith f = (m : Contents) (k l : ℕ) (cs : List Command) → length cs ≤ k → length cs ≤ l → f m k cs ≡ f m l cs
+
 module _ {X : Type 0} (f : Contents → ℕ → List Command → X) (one : Contents → ℕ → Command → X → X)
     (ends : (m : Contents) (k l : ℕ) → f m k [] ≡ f m l [])
     (goes : (m : Contents) (k : ℕ) (c : Command) (cs : List Command)
     → f m k (c ∷ cs) ≡ one m k c (f (contents_with m k c) (places_behind m k c) cs))
     (same : (m : Contents) (k l : ℕ) (c : Command) (x : X) → 0 < k → 0 < l → one m k c x ≡ one m l c x) where
-  enough : (m : Contents) (k l : ℕ) (cs : List Command) → length cs ≤ k → length cs ≤ l → f m k cs ≡ f m l cs
+  enough : IsSameWith f
   enough m k l [] at_k at_l = ends m k l
   enough m k l (c ∷ cs) at_k at_l =
       let some_k : 0 < k = omega (arith, at_k) in
@@ -53,28 +56,23 @@ module _ {X : Type 0} (f : Contents → ℕ → List Command → X) (one : Conte
       (enough_left m k (length cs) c at_k) (enough_left m l (length cs) c at_l))
       ∙ sym (goes m l c cs)
 
-pub enough-commands : (m : Contents) (k l : ℕ) (cs : List Command) → length cs ≤ k → length cs ≤ l
-    → commands_at m k cs ≡ commands_at m l cs
+pub enough-commands : IsSameWith commands_at
 enough-commands = enough commands_at (λ m k c x. command_at m k c ++ x) (λ m k l. refl) (λ m k c cs. refl)
     (λ m k l c x some_k some_l. ap (λ (b : Bool). (if b then c ∷ [] else []) ++ x) (same_takes m k l c some_k some_l))
 
-pub enough-takes : (m : Contents) (k l : ℕ) (cs : List Command) → length cs ≤ k → length cs ≤ l
-    → takes_at m k cs ≡ takes_at m l cs
+pub enough-takes : IsSameWith takes_at
 enough-takes = enough takes_at (λ m k c x. takes_place m k c ∷ x) (λ m k l. refl) (λ m k c cs. refl)
     (λ m k l c x some_k some_l. ap (λ (b : Bool). b ∷ x) (same_takes m k l c some_k some_l))
 
-pub enough-answers : (m : Contents) (k l : ℕ) (cs : List Command) → length cs ≤ k → length cs ≤ l
-    → answers_with m k cs ≡ answers_with m l cs
+pub enough-answers : IsSameWith answers_with
 enough-answers = enough answers_with (λ m k c x. answer_with m k c ∷ x) (λ m k l. refl) (λ m k c cs. refl)
     (λ m k l c x some_k some_l. ap (λ (a : Result Outcome Refusal). a ∷ x) (same_answer m k l c some_k some_l))
 
-pub enough-contents : (m : Contents) (k l : ℕ) (cs : List Command) → length cs ≤ k → length cs ≤ l
-    → contents_after_all m k cs ≡ contents_after_all m l cs
+pub enough-contents : IsSameWith contents_after_all
 enough-contents = enough contents_after_all (λ m k c x. x) (λ m k l. refl) (λ m k c cs. refl)
     (λ m k l c x some_k some_l. refl)
 
-pub enough-pages : (m : Contents) (k l : ℕ) (cs : List Command) → length cs ≤ k → length cs ≤ l
-    → most_pages_with m k cs ≡ most_pages_with m l cs
+pub enough-pages : IsSameWith most_pages_with
 enough-pages = enough most_pages_with (λ m k c x. most_pages_at m k c + x) (λ m k l. refl) (λ m k c cs. refl)
     (λ m k l c x some_k some_l. ap (λ (b : Bool). (if b then most_pages m c else 0) + x)
     (same_takes m k l c some_k some_l))
