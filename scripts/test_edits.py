@@ -3,6 +3,7 @@
 
 usage: scripts/test_edits.py      from anywhere in a checkout
 """
+import shutil
 import tempfile
 import unittest
 from pathlib import Path
@@ -10,7 +11,10 @@ from pathlib import Path
 import edits
 
 KEPT = Path(__file__).resolve().parent / "kept"
-TOP = KEPT / "sources"  # The functions that the kept words are about, as far as it matters, each at the line that they name.
+FOLDER = tempfile.TemporaryDirectory()
+# The functions that the kept words are about, as far as it matters, each at the line that they name.
+TOP = Path(shutil.copytree(KEPT / "sources", FOLDER.name, dirs_exist_ok=True))
+(TOP / "crates.txt").write_text("im_disk:\nim_arena:\n")
 
 
 def words(crate, name):
@@ -49,15 +53,9 @@ class Words(unittest.TestCase):
 
     def test_each_of_several_functions_has_its_own_goals(self):
         said = words("im_arena", "several_at_once.txt")
-        goals = {
-            "Arena::free_count": ["returns-clause-free", "returns-clause-sum"],
-            "Arena::is_full": ["returns"],
-            "Arena::node_count": ["returns"],
-            "Arena::list_count": ["returns"],
-            "Arena::len": ["returns-then-node"],
-            "Arena::waiters": ["from-requires", "returns"],
-            "pairs::hand_over": ["returns-clause-lists"],
-        }
+        goals = {f"Arena::{it}": ["returns"] for it in ("is_full", "node_count", "list_count")}
+        goals |= {"Arena::free_count": ["returns-clause-free", "returns-clause-sum"], "Arena::len": ["returns-then-node"]}
+        goals |= {"Arena::waiters": ["from-requires", "returns"], "pairs::hand_over": ["returns-clause-lists"]}
         self.assertEqual(said.goals, goals)
         self.assertEqual(said.gone, {})
         self.assertEqual(said.open_at("Arena::waiters", "requires from"), ["from-requires"])
