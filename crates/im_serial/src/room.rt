@@ -1,5 +1,5 @@
 //! Makes room for the next request: in the journal, and in its element's window. A server does so before each request.
-ghost use Rattle.std.specs.Prelude.{◌≡◌, ℕ, ◌≤◌, IfOk, OnOk, OnErr, Ok};
+ghost use Rattle.std.specs.Prelude.{◌≡◌, ℕ, IfOk, OnOk, OnErr, Ok};
 ghost use Rattle.im_types.specs.Types.{Outcome, Confirm, bounds};
 ghost use Rattle.im_session.specs.Serving.{CommandRefused, CommandServed};
 
@@ -43,18 +43,6 @@ pub fn confirm<D: Disk>(
         Ok(_) => Ok(()),
         Err(refusal) => Err(refusal),
     }
-}
-
-/// Returns the first number, from `base` on and before `next`, whose entry still waits. Returns `next` if none does.
-pub fn first_waiting<D: Disk>(engine: &Engine<D>, element: u16, base: u64, next: u64) -> u64
-    ensures { base ≤ next → base ≤ result }
-{
-    for number in base..next {
-        if engine.collect(element, number) == Ok(Entry::Waiting) {
-            return number;
-        }
-    }
-    next
 }
 
 // Returns how many entries of these numbers wait.

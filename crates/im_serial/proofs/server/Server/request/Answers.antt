@@ -7,11 +7,11 @@ pub returns-in-Ok-clause-serves : goal.returns-in-Ok-clause-serves
 returns-in-Ok-clause-serves g c =
     let old = c.args.self.now in
     let mid = c.prepare.new.self in
-    asked_then c.ask_next.result c.args.element c.args.op _ _ _
+    asked_then c.ask.result c.args.element c.args.op _ _ _
     (prepared_goes old.session mid.session old.waited.items mid.waited.items old.places.marks.items
     mid.places.marks.items (g.W.Write.contents c.args.out.now) old.lines mid.lines c.in-Ok.ensures.goes
     c.prepare.ensures.lines)
-    c.ask_next.ensures.serves
+    c.ask.ensures.serves
 
 pub returns-in-Err-clause-serves : goal.returns-in-Err-clause-serves
 returns-in-Err-clause-serves g c = record {
