@@ -78,7 +78,11 @@ impl<D: Disk> Server<D> {
         ensures bases { self.new.bases.items ≡ self.old.bases.items }
     {
         let who = (request.element, request.number);
-        match serve_one(&mut self.session, &mut self.progress, &Command::Request(request)) {
+        match serve_one(
+            &mut self.session,
+            &mut self.progress,
+            &Command::Request(request),
+        ) {
             Ok(Outcome::Entry(entry)) => match self.print(who, entry, out) {
                 Ok(()) => match self.note(who, entry) {
                     Ok(()) => Ok(entry),
