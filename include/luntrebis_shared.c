@@ -135,9 +135,9 @@ static int is_of_thread(const struct ticket *ticket) {
     return !ticket->done && !ticket->queue;
 }
 
-/* ---- A thread sleeps on its ticket's state. All whom a group answers are told together, once the owner needs the lock
- * no more, and each one who is told wakes two others: so the owner, which has a sync to make, wakes one. A ticket may be
- * gone when its thread is woken. Then nobody is, or somebody who looks, and sleeps again. */
+/* ---- A thread sleeps on its ticket's state, without the lock. All whom a group answers are told together as the owner
+ * gives up the lock, and each one who is told wakes two others: so the owner, which has a sync to make, wakes one. A
+ * ticket may be gone when its thread is woken. Then nobody is, or somebody who looks, and sleeps again. */
 
 #if LTS_FUTEX
 
@@ -147,11 +147,12 @@ static void wake_thread(struct lts *shared, const _Atomic int *state) {
 }
 
 /* Sleeps until a ticket is told, or that time. Returns whether it is told. */
-static int is_told(struct lts *shared, struct ticket *ticket, const struct timespec *end) {
+static int await_told(struct lts *shared, struct ticket *ticket, const struct timespec *end) {
+    const int how = FUTEX_WAIT_BITSET_PRIVATE;
+    const unsigned any = FUTEX_BITSET_MATCH_ANY;
     int state, over = 0;
     while ((state = ticket->state) != TOLD && !over)
-        over = syscall(SYS_futex, &ticket->state, FUTEX_WAIT_BITSET_PRIVATE, state, end, NULL, FUTEX_BITSET_MATCH_ANY) != 0
-            && errno == ETIMEDOUT;
+        over = syscall(SYS_futex, &ticket->state, how, state, end, NULL, any) < 0 && errno == ETIMEDOUT;
     if (state != TOLD) return 0;
     for (size_t at = 0; at < 2; at++) wake_thread(shared, ticket->wakes[at]);
     return 1;
@@ -160,10 +161,13 @@ static int is_told(struct lts *shared, struct ticket *ticket, const struct times
 #else
 
 static void wake_thread(struct lts *shared, const _Atomic int *state) {
-    if (state) pthread_cond_broadcast(&shared->told);
+    if (!state) return;
+    pthread_mutex_lock(&shared->lock);
+    pthread_cond_broadcast(&shared->told);
+    pthread_mutex_unlock(&shared->lock);
 }
 
-static int is_told(struct lts *shared, struct ticket *ticket, const struct timespec *end) {
+static int await_told(struct lts *shared, struct ticket *ticket, const struct timespec *end) {
     int told, over = 0;
     pthread_mutex_lock(&shared->lock);
     while (ticket->state != TOLD && !over)
@@ -502,26 +506,29 @@ static size_t count_bits(uint64_t bits) {
 }
 
 /* Waits until so many have asked, or that time. */
-static void wait_for(struct lts *shared, size_t wanted, const struct timespec *end) {
+static void await_asked(struct lts *shared, size_t wanted, const struct timespec *end) {
+    pthread_cond_t *come = &shared->come;
     int over = 0;
     if (shared->queued >= wanted || shared->ending) return;
     shared->wanted = wanted;
     give_up_lock(shared);
     pthread_mutex_lock(&shared->lock);
     while (shared->queued < wanted && !shared->ending && !over)
-        over = end ? pthread_cond_timedwait(&shared->come, &shared->lock, end) : pthread_cond_wait(&shared->come, &shared->lock);
+        over = end ? pthread_cond_timedwait(come, &shared->lock, end) : pthread_cond_wait(come, &shared->lock);
     shared->wanted = 0;
 }
 
 /* Waits for those who were in the last three groups and aren't ahead, for at most a quarter of the time that a group
- * takes. Without it those who are answered together come back one by one, and stay parted into two groups. Behind a group
- * ahead it waits only if more than eight may come: else those who are ahead are answered sooner. */
+ * takes. Without it those who are answered together come back one by one, and stay parted into two groups. Behind a
+ * group ahead it waits only if more than eight may come, or if all don't fit into one group: else those who are ahead
+ * are answered sooner, and come back with the others. */
 static void linger(struct lts *shared) {
-    size_t wanted = count_bits((shared->lately[0] | shared->lately[1] | shared->lately[2]) & ~elements_ahead(shared));
+    uint64_t lately = shared->lately[0] | shared->lately[1] | shared->lately[2];
+    size_t wanted = count_bits(lately & ~elements_ahead(shared));
     int64_t end = now() + shared->pace / 4;
     struct timespec until = {.tv_sec = end / 1000000000, .tv_nsec = end % 1000000000};
-    if (shared->ahead.count && wanted <= WORTH_WAITING) return;
-    wait_for(shared, wanted < MEMBERS ? wanted : MEMBERS, &until);
+    if (shared->ahead.count && wanted <= WORTH_WAITING && count_bits(lately) <= MEMBERS) return;
+    await_asked(shared, wanted < MEMBERS ? wanted : MEMBERS, &until);
 }
 
 /* Puts a group of those who asked ahead, and answers the one before it. */
@@ -552,7 +559,7 @@ static void *own(void *given) {
         if (shared->asked.first || shared->ahead.count)
             serve_next(shared);
         else if (!tidy(shared))
-            wait_for(shared, 1, NULL);
+            await_asked(shared, 1, NULL);
         note_work(shared);
     }
     refuse_all(shared, LT_NO_CALL);
@@ -595,9 +602,9 @@ static void ask_and_wait(struct lts *shared, struct ticket *ticket, const struct
         ticket->window = (struct lt_bounds){ticket->outcome.refusal, 0, 0};
     }
     pthread_mutex_unlock(&shared->lock);
-    if (!entered || is_told(shared, ticket, end)) return;
+    if (!entered || await_told(shared, ticket, end)) return;
     take_back(shared, ticket);
-    is_told(shared, ticket, NULL);
+    await_told(shared, ticket, NULL);
 }
 
 struct lt_outcome lts_ask(struct lts *shared, const struct lt_command *command) {
