@@ -17,7 +17,7 @@
 #include <sys/syscall.h>
 #endif
 
-enum { ELEMENTS = 64, KEPT = 64, MEMBERS = 16, CONFIRM_AT = 48, WORTH_WAITING = 8 };
+enum { ELEMENTS = 64, KEPT = 64, MEMBERS = 16, CONFIRM_AT = 63, WORTH_WAITING = 8 };
 
 enum kind { ASKS, AWAITS, SHOWS_WINDOW, LEASES };
 enum state { QUEUED, TAKEN, WAITS, TOLD };
