@@ -11,7 +11,7 @@
 #include <sys/stat.h>
 #include <unistd.h>
 
-enum { MEMBERS = 16, KEPT = 64, SWEPT_AT_ONCE = 64, BOOT_NAME = 37 };
+enum { MEMBERS = 16, KEPT = 64, SWEPT_AT_ONCE = 1024, BOOT_NAME = 37 };
 
 struct ltf {
     struct lt_image image;
