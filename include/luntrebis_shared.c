@@ -3,6 +3,7 @@
 
 #include <errno.h>
 #include <pthread.h>
+#include <sched.h>
 #include <stdatomic.h>
 #include <stdlib.h>
 #include <string.h>
@@ -18,6 +19,7 @@
 #endif
 
 enum { ELEMENTS = 64, KEPT = 64, MEMBERS = 16, CONFIRM_AT = 63, WORTH_WAITING = 8 };
+enum { LOOK_OUT = 50000 }; /* nanoseconds, about what a sleep and a wake of the owner take */
 
 enum kind { ASKS, AWAITS, SHOWS_WINDOW, LEASES };
 enum state { QUEUED, TAKEN, WAITS, TOLD };
@@ -85,7 +87,8 @@ struct lts {
     struct ltf_fault failure;
     uint16_t elements;
     int ending, dead;
-    size_t queued, wanted; /* how many asked, and for how many the owner waits */
+    _Atomic size_t queued; /* how many asked */
+    size_t wanted; /* for how many of them the owner sleeps */
     struct group ahead; /* its bodies are on the disk, and none of its members has acted */
 };
 
@@ -131,6 +134,12 @@ static struct ticket **waiting_for(struct lts *shared, uint16_t element, uint64_
     return &shared->waiting[element % ELEMENTS][number % KEPT];
 }
 
+static int64_t now(void) {
+    struct timespec time;
+    clock_gettime(CLOCK_MONOTONIC, &time);
+    return time.tv_sec * (int64_t)1000000000 + time.tv_nsec;
+}
+
 static int is_of_thread(const struct ticket *ticket) {
     return !ticket->done && !ticket->queue;
 }
@@ -158,6 +167,12 @@ static int await_told(struct lts *shared, struct ticket *ticket, const struct ti
     return 1;
 }
 
+/* Looks for those who come soon, before the owner sleeps. */
+static void look_out(const struct lts *shared, size_t wanted) {
+    int64_t end = now() + (shared->pace / 8 < LOOK_OUT ? shared->pace / 8 : LOOK_OUT);
+    while (shared->queued < wanted && now() < end) sched_yield();
+}
+
 #else
 
 static void wake_thread(struct lts *shared, const _Atomic int *state) {
@@ -176,6 +191,11 @@ static int await_told(struct lts *shared, struct ticket *ticket, const struct ti
     told = ticket->state == TOLD;
     pthread_mutex_unlock(&shared->lock);
     return told;
+}
+
+static void look_out(const struct lts *shared, size_t wanted) {
+    (void)shared;
+    (void)wanted;
 }
 
 #endif
@@ -493,12 +513,6 @@ static int tidy(struct lts *shared) {
     return did == 1;
 }
 
-static int64_t now(void) {
-    struct timespec time;
-    clock_gettime(CLOCK_MONOTONIC, &time);
-    return time.tv_sec * (int64_t)1000000000 + time.tv_nsec;
-}
-
 static size_t count_bits(uint64_t bits) {
     size_t count = 0;
     for (; bits; bits &= bits - 1) count++;
@@ -510,9 +524,10 @@ static void await_asked(struct lts *shared, size_t wanted, const struct timespec
     pthread_cond_t *come = &shared->come;
     int over = 0;
     if (shared->queued >= wanted || shared->ending) return;
-    shared->wanted = wanted;
     give_up_lock(shared);
+    if (end) look_out(shared, wanted);
     pthread_mutex_lock(&shared->lock);
+    shared->wanted = wanted;
     while (shared->queued < wanted && !shared->ending && !over)
         over = end ? pthread_cond_timedwait(come, &shared->lock, end) : pthread_cond_wait(come, &shared->lock);
     shared->wanted = 0;
