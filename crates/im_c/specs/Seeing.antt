@@ -1,12 +1,12 @@
 -- A cell, a block, and the numbers of a memory, for C.
 use Rattle.std.specs.Prelude.{◌≡◌, ℕ, zero, suc, ◌+◌, ◌-◌, min, Bool, true, false, ◌&&◌, List, [], ◌∷◌, ◌++◌, length}
 use Rattle.std.specs.Prelude.{drop, if◌then◌else◌, ◌==◌, Some, None, Ok, Err, Option, Result}
-use Rattle.im_types.specs.Types.{Block, Cell, CellEmpty as Empty, CellWaiting as Waiting, CellFull as Full}
-use Rattle.im_types.specs.Types.{CellClashed as Clashed, Contents, Refusal, Window, WINDOW, block_at, bounds, held_at}
-use Rattle.im_types.specs.Types.{kept_for, kind_code, presence_in}
+use Rattle.im_types.specs.Types.{Block, Refusal, WINDOW, Window, Contents, held_at, kept_for, block_at, presence_in}
+use Rattle.im_types.specs.Types.{Cell, CellEmpty as Empty, CellWaiting as Waiting, CellFull as Full}
+use Rattle.im_types.specs.Types.{CellClashed as Clashed, bounds, kind_code}
 use Rattle.{im_memory.specs.Confirming.does_wait, im_listed.specs.Image.ImageState}
 use Rattle.im_report.specs.Figures.{count_below, queue_figures, window_figures}
-use Rattle.im_c.specs.declared.seen.{LtSpan.LtSpan, LtPresence.LtPresence, LtFigures.LtFigures}
+use Rattle.im_c.specs.declared.seen.{LtFigures.LtFigures, LtPresence.LtPresence, LtSpan.LtSpan}
 
 -- ---- cells
 
@@ -32,18 +32,18 @@ cell_told (Some b) (Some cell) =
     record { kind = kind_code b.kind; state = state_code cell; value = state_value cell }
 
 -- the cell at an address
-abbrev pub cell_seen : Contents → ℕ → LtPresence
-cell_seen m a = cell_told (block_at m.cells a) (presence_in (held_at m.cells a))
+abbrev pub cell_told_at : Contents → ℕ → LtPresence
+cell_told_at m a = cell_told (block_at m.cells a) (presence_in (held_at m.cells a))
 
 -- so many cells, from an address on
-unfoldable pub cells_from : Contents → ℕ → ℕ → List LtPresence
-cells_from m from zero = []
-cells_from m from (suc n) = cells_from m from n ++ cell_seen m (from + n) ∷ []
+unfoldable pub cells_told : Contents → ℕ → ℕ → List LtPresence
+cells_told m from zero = []
+cells_told m from (suc n) = cells_told m from n ++ cell_told_at m (from + n) ∷ []
 
 -- The cells from an address on are told, as many as there are and as there are places.
 pub record TellsCells (m : Contents) (from : ℕ) (old : List LtPresence) (count : ℕ) (new : List LtPresence) : Type 0 where
   pub few : count ≡ min (length m.cells - from) (length old)
-  pub told : new ≡ cells_from m from count ++ drop count old
+  pub told : new ≡ cells_told m from count ++ drop count old
 
 -- the same of an image; none after a lost step
 pub record ShowsCells (i : ImageState) (from : ℕ) (old : List LtPresence) (count : ℕ) (new : List LtPresence) : Type 0 where
@@ -65,24 +65,24 @@ pub record ShowsBlock (i : ImageState) (a : ℕ) (out : LtSpan) : Type 0 where
 -- ---- numbers
 
 -- whether an address is counted: 0 the base of a block, else the number of its cell's state
-abbrev pub is_counted : ℕ → ℕ → Option Block → Option Cell → Bool
-is_counted sort a None cell = false
-is_counted sort a (Some b) cell = if sort == 0 then b.base == a else (cell_told (Some b) cell).state == sort
+abbrev pub is_of_sort : ℕ → ℕ → Option Block → Option Cell → Bool
+is_of_sort sort a None cell = false
+is_of_sort sort a (Some b) cell = if sort == 0 then b.base == a else (cell_told (Some b) cell).state == sort
 
 -- how many addresses are counted
 abbrev pub many : Contents → ℕ → ℕ
 many m sort =
-    count_below (λ a. is_counted sort a (block_at m.cells a) (presence_in (held_at m.cells a))) (length m.cells)
+    count_below (λ a. is_of_sort sort a (block_at m.cells a) (presence_in (held_at m.cells a))) (length m.cells)
 
 -- whether a window with these bounds is full, and its oldest entry waits
-abbrev pub is_stuck_in : List Window → ℕ → Result (ℕ × ℕ) Refusal → Bool
-is_stuck_in windows e (Ok b) =
+abbrev pub asks_nothing_in : List Window → ℕ → Result (ℕ × ℕ) Refusal → Bool
+asks_nothing_in windows e (Ok b) =
     (b.1 - b.0 == WINDOW) && does_wait (kept_for windows (record { element = e; number = b.0 }))
-is_stuck_in windows e (Err refusal) = false
+asks_nothing_in windows e (Err refusal) = false
 
 -- whether an element can't ask before its oldest entry is answered
-abbrev pub is_stuck : List Window → ℕ → Bool
-is_stuck windows e = is_stuck_in windows e (bounds windows e)
+abbrev pub asks_nothing : List Window → ℕ → Bool
+asks_nothing windows e = asks_nothing_in windows e (bounds windows e)
 
 -- the numbers of a memory
 abbrev pub stat_told : Contents → LtFigures
@@ -95,7 +95,7 @@ stat_told m = record {
   kept = (window_figures m).kept;
   waiting = (queue_figures m).requests;
   full_windows = (window_figures m).full;
-  stuck = count_below (is_stuck m.windows) (length m.windows);
+  stuck = count_below (asks_nothing m.windows) (length m.windows);
 }
 
 -- all numbers 0

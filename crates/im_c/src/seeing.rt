@@ -1,9 +1,9 @@
 //! The cells and the blocks of an image or a memory, for C. Nothing changes.
-ghost use Rattle.std.specs.Prelude.{◌≡◌, None, IsSome};
+ghost use Rattle.std.specs.Prelude.{◌≡◌, IsSome, None};
 ghost use Rattle.im_types.specs.Types.{block_at, kind_code};
 ghost use Rattle.im_c.specs.Handing.{ShowsHeld};
-ghost use Rattle.im_c.specs.Seeing.{block_told, cell_seen, cell_told, ShowsBlock, ShowsCells, state_code, state_value};
-ghost use Rattle.im_c.specs.Seeing.{TellsCells};
+ghost use Rattle.im_c.specs.Seeing.{block_told, cell_told, cell_told_at, ShowsBlock, ShowsCells, state_code};
+ghost use Rattle.im_c.specs.Seeing.{state_value, TellsCells};
 
 use crate::image::LtImage;
 use crate::memory::LtMemory;
@@ -73,8 +73,8 @@ pub(crate) fn cell_told(block: Option<Block>, cell: Option<Cell>) -> LtPresence
 }
 
 // The cell at an address.
-fn cell_seen(memory: &Memory, a: u32) -> LtPresence
-    ensures { result ≡ cell_seen memory.now.contents a }
+fn cell_told_at(memory: &Memory, a: u32) -> LtPresence
+    ensures { result ≡ cell_told_at memory.now.contents a }
 {
     cell_told(memory.block(a), memory.cell(a))
 }
@@ -88,7 +88,7 @@ fn tell_cells(memory: &Memory, from: u32, places: &mut [LtPresence]) -> usize
         if count == places.len() {
             return count;
         }
-        places[count] = cell_seen(memory, a);
+        places[count] = cell_told_at(memory, a);
         count += 1;
     }
     count

@@ -2,7 +2,7 @@
 ghost use Rattle.std.specs.Prelude.{◌≡◌, ◌≤◌, length, if◌then◌else◌, IsSome};
 ghost use Rattle.{im_memory.specs.Confirming.does_wait, im_report.specs.Figures.count_below};
 ghost use Rattle.im_c.specs.Handing.{ShowsHeld};
-ghost use Rattle.im_c.specs.Seeing.{is_counted, is_stuck, many, no_stat, ShowsStat, stat_told};
+ghost use Rattle.im_c.specs.Seeing.{asks_nothing, is_of_sort, many, no_stat, ShowsStat, stat_told};
 
 use crate::image::LtImage;
 use crate::seeing::cell_told;
@@ -21,8 +21,8 @@ fn one_if(test: bool) -> u64
 }
 
 // Whether an address is counted: 0 the base of a block, else the number of its cell's state.
-fn is_counted(sort: u8, a: u32, block: Option<Block>, cell: Option<Cell>) -> bool
-    ensures { result ≡ is_counted sort a block cell }
+fn is_of_sort(sort: u8, a: u32, block: Option<Block>, cell: Option<Cell>) -> bool
+    ensures { result ≡ is_of_sort sort a block cell }
 {
     match block {
         Some(found) => {
@@ -42,7 +42,7 @@ fn many(memory: &Memory, sort: u8) -> u64
 {
     let mut count = 0;
     for a in 0..memory.cells() {
-        count += one_if(is_counted(sort, a, memory.block(a), memory.cell(a)));
+        count += one_if(is_of_sort(sort, a, memory.block(a), memory.cell(a)));
     }
     count
 }
@@ -58,8 +58,8 @@ fn does_wait(kept: Option<Kept>) -> bool
 }
 
 // Whether an element can't ask before its oldest entry is answered.
-fn is_stuck(memory: &Memory, element: u16) -> bool
-    ensures { result ≡ is_stuck memory.now.contents.windows element }
+fn asks_nothing(memory: &Memory, element: u16) -> bool
+    ensures { result ≡ asks_nothing memory.now.contents.windows element }
 {
     match memory.window(element) {
         Ok((base, next)) => {
@@ -72,11 +72,11 @@ fn is_stuck(memory: &Memory, element: u16) -> bool
 // How many elements can't.
 fn stuck(memory: &Memory) -> u64
     ensures { let windows = memory.now.contents.windows in
-        result ≡ count_below (is_stuck windows) (length windows) }
+        result ≡ count_below (asks_nothing windows) (length windows) }
 {
     let mut count = 0;
     for element in 0..memory.elements() {
-        count += one_if(is_stuck(memory, element));
+        count += one_if(asks_nothing(memory, element));
     }
     count
 }
