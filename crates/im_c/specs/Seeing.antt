@@ -41,12 +41,14 @@ cells_told m from zero = []
 cells_told m from (suc n) = cells_told m from n ++ cell_told_at m (from + n) ∷ []
 
 -- The cells from an address on are told, as many as there are and as there are places.
-pub record TellsCells (m : Contents) (from : ℕ) (old : List LtPresence) (count : ℕ) (new : List LtPresence) : Type 0 where
+pub record TellsCells (m : Contents) (from : ℕ) (old : List LtPresence) (count : ℕ)
+    (new : List LtPresence) : Type 0 where
   pub few : count ≡ min (length m.cells - from) (length old)
   pub told : new ≡ cells_told m from count ++ drop count old
 
 -- the same of an image; none after a lost step
-pub record ShowsCells (i : ImageState) (from : ℕ) (old : List LtPresence) (count : ℕ) (new : List LtPresence) : Type 0 where
+pub record ShowsCells (i : ImageState) (from : ℕ) (old : List LtPresence) (count : ℕ)
+    (new : List LtPresence) : Type 0 where
   pub lost : i.lost ≡ true → (count ≡ 0) × (new ≡ old)
   pub alive : i.lost ≡ false → TellsCells i.engine.memory from old count new
 
