@@ -52,8 +52,7 @@ size_t lt_tell(const struct lt_command *command, const struct lt_outcome *outcom
 
 void lt_held_memory_collect(struct lt_memory memory, uint16_t element, uint64_t number, struct lt_memory *next,
                             struct lt_outcome *outcome);
-size_t lt_held_memory_cells(struct lt_memory memory, uint32_t from, struct lt_memory *next, struct lt_presence *cells,
-                            size_t room);
+void lt_held_memory_cell(struct lt_memory memory, uint32_t address, struct lt_memory *next, struct lt_presence *cell);
 size_t lt_held_steps(struct lt_image image, struct lt_image *next);
 void lt_held_step_at(struct lt_image image, size_t index, struct lt_image *next, struct lt_step *step);
 uint8_t lt_held_step_bytes(struct lt_image image, size_t index, struct lt_image *next, uint8_t *buffer, size_t length);
@@ -64,7 +63,6 @@ void lt_held_entry(struct lt_image image, uint16_t element, uint64_t number, str
 size_t lt_held_waiters(struct lt_image image, uint32_t address, struct lt_image *next, struct lt_waiter *waiters,
                        size_t room);
 size_t lt_held_cells(struct lt_image image, uint32_t from, struct lt_image *next, struct lt_presence *cells, size_t room);
-void lt_held_block(struct lt_image image, uint32_t address, struct lt_image *next, struct lt_span *block);
 void lt_held_stat(struct lt_image image, struct lt_image *next, struct lt_figures *figures);
 void lt_held_window(struct lt_image image, uint16_t element, struct lt_image *next, struct lt_bounds *window);
 uint32_t lt_held_room(struct lt_image image, struct lt_image *next);
@@ -76,9 +74,11 @@ uint8_t lt_memory_collect(const struct lt_memory *memory, uint16_t element, uint
     return outcome->refusal;
 }
 
-size_t lt_memory_cells(const struct lt_memory *memory, uint32_t from, struct lt_presence *cells, size_t room) {
+struct lt_presence lt_memory_cell(const struct lt_memory *memory, uint32_t address) {
     struct lt_memory same = {0};
-    return lt_held_memory_cells(*memory, from, &same, cells, room);
+    struct lt_presence cell = {0, 0, 0, 0, 0};
+    lt_held_memory_cell(*memory, address, &same, &cell);
+    return cell;
 }
 
 size_t lt_steps(const struct lt_image *image) {
@@ -117,7 +117,7 @@ size_t lt_waiters(const struct lt_image *image, uint32_t address, struct lt_wait
 }
 
 struct lt_presence lt_cell(const struct lt_image *image, uint32_t address) {
-    struct lt_presence cell = {0, 0, 0};
+    struct lt_presence cell = {0, 0, 0, 0, 0};
     lt_cells(image, address, &cell, 1);
     return cell;
 }
@@ -125,13 +125,6 @@ struct lt_presence lt_cell(const struct lt_image *image, uint32_t address) {
 size_t lt_cells(const struct lt_image *image, uint32_t from, struct lt_presence *cells, size_t room) {
     struct lt_image same = {0};
     return lt_held_cells(*image, from, &same, cells, room);
-}
-
-struct lt_span lt_block(const struct lt_image *image, uint32_t address) {
-    struct lt_image same = {0};
-    struct lt_span block = {0, 0, 0};
-    lt_held_block(*image, address, &same, &block);
-    return block;
 }
 
 struct lt_figures lt_stat(const struct lt_image *image) {

@@ -128,10 +128,12 @@ enum lt_state {
     LT_CLASHED = 4  /* it had `value` when it was written once more */
 };
 
-/* A cell. If the address lies in no block, all is 0. */
+/* A cell, and the block that it lies in. If it lies in none, all is 0. */
 struct lt_presence {
-    uint8_t kind; /* LT_ALLOC_I or LT_ALLOC_M, by which its block was made */
+    uint8_t kind;    /* LT_ALLOC_I or LT_ALLOC_M, by which the block was made */
     uint8_t state;
+    uint32_t base;   /* the address of the block's first cell */
+    uint32_t length; /* the number of its cells */
     uint64_t value;
 };
 
@@ -153,8 +155,8 @@ uint8_t lt_memory_step(struct lt_memory memory, const struct lt_command *command
  * LT_GAP. Returns the refusal. */
 uint8_t lt_memory_collect(const struct lt_memory *memory, uint16_t element, uint64_t number, struct lt_outcome *outcome);
 
-/* Writes the cells from an address on, as lt_cells does. */
-size_t lt_memory_cells(const struct lt_memory *memory, uint32_t from, struct lt_presence *cells, size_t room);
+/* Returns the cell at an address. */
+struct lt_presence lt_memory_cell(const struct lt_memory *memory, uint32_t address);
 
 /* Frees the memory. */
 void lt_memory_free(struct lt_memory memory);
@@ -205,13 +207,6 @@ struct lt_sizes {
 struct lt_waiter {
     uint16_t element;
     uint64_t number;
-};
-
-/* A block of cells. If there is none, all is 0. */
-struct lt_span {
-    uint8_t kind; /* LT_ALLOC_I or LT_ALLOC_M, by which it was made */
-    uint32_t base;
-    uint32_t length;
 };
 
 /* The numbers of an image. */
@@ -338,15 +333,13 @@ struct lt_command lt_entry(const struct lt_image *image, uint16_t element, uint6
  * Returns how many it wrote, 0 after a lost step. A store answers all of them, a put the first. */
 size_t lt_waiters(const struct lt_image *image, uint32_t address, struct lt_waiter *waiters, size_t room);
 
-/* Returns the cell at an address. After a lost step it shows none, as the calls that follow up to lt_stuck. */
+/* Returns the cell at an address, with its block. After a lost step it shows none, as the calls that follow up to
+ * lt_stuck. */
 struct lt_presence lt_cell(const struct lt_image *image, uint32_t address);
 
 /* Writes the cells from an address on at `cells`, as many as there is room for. Returns how many it wrote: fewer at the
  * end of the memory. */
 size_t lt_cells(const struct lt_image *image, uint32_t from, struct lt_presence *cells, size_t room);
-
-/* Returns the block that an address lies in. */
-struct lt_span lt_block(const struct lt_image *image, uint32_t address);
 
 /* Returns the numbers of the image. It looks at each cell several times. */
 struct lt_figures lt_stat(const struct lt_image *image);

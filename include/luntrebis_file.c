@@ -421,10 +421,6 @@ size_t ltf_cells(const struct ltf *file, uint32_t from, struct lt_presence *cell
     return lt_cells(&file->image, from, cells, room);
 }
 
-struct lt_span ltf_block(const struct ltf *file, uint32_t address) {
-    return lt_block(&file->image, address);
-}
-
 struct lt_figures ltf_stat(const struct ltf *file) {
     return lt_stat(&file->image);
 }

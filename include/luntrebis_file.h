@@ -83,11 +83,10 @@ size_t ltf_waiters(const struct ltf *file, uint32_t address, struct lt_waiter *w
 
 struct lt_bounds ltf_window(const struct ltf *file, uint16_t element);
 
-/* Show cells, the block of an address, the numbers of the image, and who is stuck, as the calls of luntrebis.h. They
- * make no request, and show what is on the disk: what is ahead hasn't acted. */
+/* Show cells with their blocks, the numbers of the image, and who is stuck, as the calls of luntrebis.h. They make no
+ * request, and show what is on the disk: what is ahead hasn't acted. */
 struct lt_presence ltf_cell(const struct ltf *file, uint32_t address);
 size_t ltf_cells(const struct ltf *file, uint32_t from, struct lt_presence *cells, size_t room);
-struct lt_span ltf_block(const struct ltf *file, uint32_t address);
 struct lt_figures ltf_stat(const struct ltf *file);
 size_t ltf_stuck(const struct ltf *file, struct lt_waiter *stuck, size_t room);
 

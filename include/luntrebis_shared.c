@@ -688,7 +688,7 @@ int lts_look(struct lts *shared, lts_looks *looks, void *given) {
     return ticket.outcome.refusal;
 }
 
-enum sort { CELLS, BLOCK, STAT, STUCK, WAITERS, ENTRY, OUTCOME, ROOM, COUNT, BACKUP };
+enum sort { CELLS, STAT, STUCK, WAITERS, ENTRY, OUTCOME, ROOM, COUNT, BACKUP };
 
 /* What a call here looks for, and what it sees. */
 struct sight {
@@ -699,7 +699,6 @@ struct sight {
     const char *path;
     void *places;
     size_t room;
-    struct lt_span span;
     struct lt_figures figures;
     struct lt_command entry;
     struct lt_outcome outcome;
@@ -710,7 +709,6 @@ static void see(const struct ltf *file, void *given) {
     struct sight *it = given;
     switch (it->sort) {
     case CELLS: it->count = ltf_cells(file, it->address, it->places, it->room); break;
-    case BLOCK: it->span = ltf_block(file, it->address); break;
     case STAT: it->figures = ltf_stat(file); break;
     case STUCK: it->count = ltf_stuck(file, it->places, it->room); break;
     case WAITERS: it->count = ltf_waiters(file, it->address, it->places, it->room); break;
@@ -734,13 +732,9 @@ size_t lts_cells(struct lts *shared, uint32_t from, struct lt_presence *cells, s
 }
 
 struct lt_presence lts_cell(struct lts *shared, uint32_t address) {
-    struct lt_presence cell = {0, 0, 0};
+    struct lt_presence cell = {0, 0, 0, 0, 0};
     lts_cells(shared, address, &cell, 1);
     return cell;
-}
-
-struct lt_span lts_block(struct lts *shared, uint32_t address) {
-    return seen(shared, (struct sight){.sort = BLOCK, .address = address}).span;
 }
 
 struct lt_figures lts_stat(struct lts *shared) {

@@ -93,7 +93,6 @@ struct lt_outcome lts_call_until(struct lts *shared, uint16_t element, uint8_t t
 
 struct lt_presence lts_cell(struct lts *shared, uint32_t address);
 size_t lts_cells(struct lts *shared, uint32_t from, struct lt_presence *cells, size_t room);
-struct lt_span lts_block(struct lts *shared, uint32_t address);
 struct lt_figures lts_stat(struct lts *shared);
 size_t lts_stuck(struct lts *shared, struct lt_waiter *stuck, size_t room);
 size_t lts_waiters(struct lts *shared, uint32_t address, struct lt_waiter *waiters, size_t room);

@@ -96,15 +96,15 @@ static void check_copy(const char *path, const struct moment *before, const stru
 static void check_stuck(void) {
     struct lt_waiter stuck[64];
     struct lt_presence cells[CELLS + 1];
-    struct lt_span block = lts_block(shared, 67);
+    struct lt_presence last = lts_cell(shared, 67);
     struct lt_command oldest;
     expect("who is stuck", lts_stuck(shared, stuck, 64) == 1 && stuck[0].element == STUCK && stuck[0].number == 1);
     oldest = lts_entry(shared, STUCK, 1);
     expect("where", oldest.tag == LT_TAKE && oldest.address == 4);
     expect("for what", lts_collect(shared, STUCK, 1).tag == LT_WAITING);
     expect("nobody in no room", lts_stuck(shared, stuck, 0) == 0);
-    expect("a block", block.kind == LT_ALLOC_M && block.base == 4 && block.length == 64);
-    expect("no block", lts_block(shared, 68).kind == 0 && lts_block(shared, 4000000000).kind == 0);
+    expect("a block", last.kind == LT_ALLOC_M && last.base == 4 && last.length == 64);
+    expect("no block", lts_cell(shared, 68).length == 0 && lts_cell(shared, 4000000000).kind == 0);
     expect("all cells", lts_cells(shared, 0, cells, CELLS + 1) == CELLS);
     expect("the first one of 64", cells[3].state == LT_EMPTY && cells[4].state == LT_AWAITED && cells[68].state == LT_NOWHERE);
     expect("the last cells", lts_cells(shared, CELLS - 2, cells, 9) == 2 && lts_cells(shared, CELLS, cells, 9) == 0);

@@ -1,7 +1,7 @@
 -- Cells that are told one after another.
-use Rattle.std.proofs.Common.{◌≡◌, ℕ, suc, ◌+◌, ◌-◌, ◌<◌, ◌≤◌, min, List, [], ◌∷◌, ◌++◌, length, take, drop, set}
-use Rattle.std.proofs.Common.{sym, refl, ap, ◌∙◌, ap₂, arith, length-set, take-append-drop, take-suc-set, drop-set-lt}
-use Rattle.std.proofs.Common.{drop-drop}
+use Rattle.std.proofs.Common.{◌≡◌, ℕ, suc, ◌+◌, ◌-◌, ◌<◌, ◌≤◌, min, List, [], ◌∷◌, ◌++◌, length, take, drop, set, sym}
+use Rattle.std.proofs.Common.{refl, ap, ◌∙◌, ap₂, arith, length-set, take-append-drop, drop-drop, take-suc-set}
+use Rattle.std.proofs.Common.{drop-set-lt}
 use Rattle.im_types.specs.Types.{Contents}
 use Rattle.im_c.specs.{declared.seen.LtPresence.LtPresence, Seeing.cell_told_at, Seeing.cells_told, Seeing.TellsCells}
 
@@ -18,7 +18,8 @@ unfolding cells_told
 told_none m from old =
     record { next = omega arith; few = omega arith; whole = refl; told = refl; rest = refl }
 
-one_told : (m : Contents) (from n : ℕ) → cells_told m from (suc n) ≡ cells_told m from n ++ cell_told_at m (from + n) ∷ []
+one_told : (m : Contents) (from n : ℕ)
+    → cells_told m from (suc n) ≡ cells_told m from n ++ cell_told_at m (from + n) ∷ []
 unfolding cells_told
 one_told m from n = refl
 

@@ -1,4 +1,4 @@
--- A cell, a block, and the numbers of a memory, for C.
+-- A cell, and the numbers of a memory, for C.
 use Rattle.std.specs.Prelude.{◌≡◌, ℕ, zero, suc, ◌+◌, ◌-◌, min, Bool, true, false, ◌&&◌, List, [], ◌∷◌, ◌++◌, length}
 use Rattle.std.specs.Prelude.{drop, if◌then◌else◌, ◌==◌, Some, None, Ok, Err, Option, Result}
 use Rattle.im_types.specs.Types.{Block, Refusal, WINDOW, Window, Contents, held_at, kept_for, block_at, presence_in}
@@ -6,7 +6,7 @@ use Rattle.im_types.specs.Types.{Cell, CellEmpty as Empty, CellWaiting as Waitin
 use Rattle.im_types.specs.Types.{CellClashed as Clashed, bounds, kind_code}
 use Rattle.{im_memory.specs.Confirming.does_wait, im_listed.specs.Image.ImageState}
 use Rattle.im_report.specs.Figures.{count_below, queue_figures, window_figures}
-use Rattle.im_c.specs.declared.seen.{LtFigures.LtFigures, LtPresence.LtPresence, LtSpan.LtSpan}
+use Rattle.im_c.specs.declared.seen.{LtFigures.LtFigures, LtPresence.LtPresence}
 
 -- ---- cells
 
@@ -24,12 +24,21 @@ state_value Waiting = 0
 state_value (Full v) = v
 state_value (Clashed v) = v
 
--- a cell, by the block that it lies in; all is 0 if there is none
+-- no cell
+abbrev pub no_cell : LtPresence
+no_cell = record { kind = 0; state = 0; base = 0; length = 0; value = 0 }
+
+-- a cell and its block
 abbrev pub cell_told : Option Block → Option Cell → LtPresence
-cell_told None cell = record { kind = 0; state = 0; value = 0 }
-cell_told (Some b) None = record { kind = 0; state = 0; value = 0 }
-cell_told (Some b) (Some cell) =
-    record { kind = kind_code b.kind; state = state_code cell; value = state_value cell }
+cell_told None cell = no_cell
+cell_told (Some b) None = no_cell
+cell_told (Some b) (Some cell) = record {
+  kind = kind_code b.kind;
+  state = state_code cell;
+  base = b.base;
+  length = b.length;
+  value = state_value cell;
+}
 
 -- the cell at an address
 abbrev pub cell_told_at : Contents → ℕ → LtPresence
@@ -51,18 +60,6 @@ pub record ShowsCells (i : ImageState) (from : ℕ) (old : List LtPresence) (cou
     (new : List LtPresence) : Type 0 where
   pub lost : i.lost ≡ true → (count ≡ 0) × (new ≡ old)
   pub alive : i.lost ≡ false → TellsCells i.engine.memory from old count new
-
--- ---- blocks
-
--- a block; all is 0 if there is none
-abbrev pub block_told : Option Block → LtSpan
-block_told None = record { kind = 0; base = 0; length = 0 }
-block_told (Some b) = record { kind = kind_code b.kind; base = b.base; length = b.length }
-
--- the block that an address lies in; none after a lost step
-pub record ShowsBlock (i : ImageState) (a : ℕ) (out : LtSpan) : Type 0 where
-  pub lost : i.lost ≡ true → out ≡ block_told None
-  pub alive : i.lost ≡ false → out ≡ block_told (block_at i.engine.memory.cells a)
 
 -- ---- numbers
 

@@ -30,8 +30,8 @@ pub use looking::{lt_held_collect, lt_held_count, lt_held_entry, lt_held_room, l
 pub use memory::{LtMemory, lt_held_memory_collect, lt_memory_free, lt_memory_new, lt_memory_step};
 pub use naming::{lt_answer_name, lt_refusal_name};
 pub use plain::{LtAdvanced, LtBounds, LtCommand, LtLimits, LtOutcome, LtStep, LtWaiter};
-pub use seeing::{lt_held_block, lt_held_cells, lt_held_memory_cells};
-pub use seen::{LtSpan, LtPresence, LtFigures};
+pub use seeing::{lt_held_cells, lt_held_memory_cell};
+pub use seen::{LtFigures, LtPresence, LtSpan};
 pub use serving::{lt_serve, lt_sweep, lt_turn};
 pub use sizes::lt_limits;
 pub use stat::lt_held_stat;

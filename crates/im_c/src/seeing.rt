@@ -1,13 +1,12 @@
-//! The cells and the blocks of an image or a memory, for C. Nothing changes.
+//! The cells of an image or a memory, for C. Nothing changes.
 ghost use Rattle.std.specs.Prelude.{◌≡◌, IsSome, None};
-ghost use Rattle.im_types.specs.Types.{block_at, kind_code};
+ghost use Rattle.im_types.specs.Types.{kind_code};
 ghost use Rattle.im_c.specs.Handing.{ShowsHeld};
-ghost use Rattle.im_c.specs.Seeing.{block_told, cell_told, cell_told_at, ShowsBlock, ShowsCells, state_code};
-ghost use Rattle.im_c.specs.Seeing.{state_value, TellsCells};
+ghost use Rattle.im_c.specs.Seeing.{cell_told, cell_told_at, no_cell, ShowsCells, state_code, state_value, TellsCells};
 
 use crate::image::LtImage;
 use crate::memory::LtMemory;
-use crate::seen::{LtSpan, LtPresence};
+use crate::seen::LtPresence;
 use im_listed::Image;
 use im_memory::Memory;
 use im_types::{Block, Cell, Kind};
@@ -46,16 +45,18 @@ fn state_value(cell: Cell) -> u64
 
 // No cell.
 fn no_cell() -> LtPresence
-    ensures { result ≡ cell_told None None }
+    ensures { result ≡ no_cell }
 {
     LtPresence {
         kind: 0,
         state: 0,
+        base: 0,
+        length: 0,
         value: 0,
     }
 }
 
-/// A cell in C's form, by the block that it lies in.
+/// A cell and its block, in C's form.
 pub(crate) fn cell_told(block: Option<Block>, cell: Option<Cell>) -> LtPresence
     ensures { result ≡ cell_told block cell }
 {
@@ -68,6 +69,8 @@ pub(crate) fn cell_told(block: Option<Block>, cell: Option<Cell>) -> LtPresence
     LtPresence {
         kind: kind_code(block.kind),
         state: state_code(cell),
+        base: block.base,
+        length: block.length,
         value: state_value(cell),
     }
 }
@@ -104,34 +107,6 @@ fn shown_cells(image: &Image, from: u32, places: &mut [LtPresence]) -> usize
     }
 }
 
-// A block in C's form.
-fn block_told(block: Option<Block>) -> LtSpan
-    ensures { result ≡ block_told block }
-{
-    match block {
-        Some(block) => LtSpan {
-            kind: kind_code(block.kind),
-            base: block.base,
-            length: block.length,
-        },
-        None => LtSpan {
-            kind: 0,
-            base: 0,
-            length: 0,
-        },
-    }
-}
-
-// The block that an address lies in.
-fn shown_block(image: &Image, a: u32) -> LtSpan
-    ensures { ShowsBlock image.now a result }
-{
-    match image.is_lost() {
-        true => block_told(None),
-        false => block_told(image.memory().block(a)),
-    }
-}
-
 /// Writes the cells from an address on at `cells`, as many as there are places. Returns how many it wrote: fewer at the
 /// end of the memory, and 0 after a lost step. Nothing changes.
 #[unsafe(no_mangle)]
@@ -150,39 +125,18 @@ pub extern "C" fn lt_held_cells(
     count
 }
 
-/// Writes the block that an address lies in at `block`. Its kind is 0 if there is none, and after a lost step. Nothing
-/// changes.
+/// Writes the cell at an address of a memory at `cell`. Nothing changes.
 #[unsafe(no_mangle)]
-pub extern "C" fn lt_held_block(
-    image: LtImage,
-    address: u32,
-    next: &mut LtImage,
-    block: &mut LtSpan,
-)
-    requires some { IsSome image.value }
-    ensures found { ShowsHeld image.value next.new.value (λ i. ShowsBlock i address block.new) }
-{
-    let held = image.into_box();
-    let shown = shown_block(&held, address);
-    *next = LtImage::of_box(held);
-    *block = shown;
-}
-
-/// Writes the cells of a memory from an address on at `cells`, as many as there are places. Returns how many it wrote:
-/// fewer at the end of the memory. Nothing changes.
-#[unsafe(no_mangle)]
-pub extern "C" fn lt_held_memory_cells(
+pub extern "C" fn lt_held_memory_cell(
     memory: LtMemory,
-    from: u32,
+    address: u32,
     next: &mut LtMemory,
-    cells: &mut [LtPresence],
-) -> usize
+    cell: &mut LtPresence,
+)
     requires some { IsSome memory.value }
-    ensures told { ShowsHeld memory.value next.new.value (λ m.
-        TellsCells m.contents from cells.old result cells.new) }
+    ensures told { ShowsHeld memory.value next.new.value (λ m. cell.new ≡ cell_told_at m.contents address) }
 {
     let held = memory.into_box();
-    let count = tell_cells(&held, from, cells);
+    *cell = cell_told_at(&held, address);
     *next = LtMemory::of_box(held);
-    count
 }

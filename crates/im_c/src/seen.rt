@@ -1,4 +1,4 @@
-//! A cell, a block, and the numbers of an image, in C's form.
+//! A cell, and the numbers of an image, in C's form.
 
 /// A cell. If the address lies in no block, all is 0.
 #[repr(C)]
@@ -8,20 +8,12 @@ pub struct LtPresence {
     pub kind: u8,
     /// 1 it is empty, 2 requests wait for it, 3 it is full, 4 it was written while it was full.
     pub state: u8,
+    /// The address of its block's first cell.
+    pub base: u32,
+    /// The number of its block's cells.
+    pub length: u32,
     /// Its value, in the states 3 and 4; else 0.
     pub value: u64,
-}
-
-/// A block. If there is none, all is 0.
-#[repr(C)]
-#[derive(Clone, Copy)]
-pub struct LtSpan {
-    /// The kind of its cells: 1 I, 2 M.
-    pub kind: u8,
-    /// The address of its first cell.
-    pub base: u32,
-    /// The number of its cells.
-    pub length: u32,
 }
 
 /// The numbers of a memory.

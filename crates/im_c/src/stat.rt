@@ -131,7 +131,7 @@ fn shown_stat(image: &Image) -> LtFigures
 #[unsafe(no_mangle)]
 pub extern "C" fn lt_held_stat(image: LtImage, next: &mut LtImage, stat: &mut LtFigures)
     requires some { IsSome image.value }
-    ensures counted { ShowsHeld image.value next.new.value (λ i. ShowsStat i stat.new) }
+    ensures told { ShowsHeld image.value next.new.value (λ i. ShowsStat i stat.new) }
 {
     let held = image.into_box();
     let shown = shown_stat(&held);

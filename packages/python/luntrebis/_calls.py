@@ -111,15 +111,19 @@ class lt_state(enum.IntEnum):
 
 
 class lt_presence(c.Structure):
-    """A cell. If the address lies in no block, all is 0."""
+    """A cell, and the block that it lies in. If it lies in none, all is 0."""
 
     _fields_ = [
         ("kind", c.c_uint8),
         ("state", c.c_uint8),
+        ("base", c.c_uint32),
+        ("length", c.c_uint32),
         ("value", c.c_uint64),
     ]
     kind: Any
     state: Any
+    base: Any
+    length: Any
     value: Any
 
 
@@ -187,19 +191,6 @@ class lt_waiter(c.Structure):
     ]
     element: Any
     number: Any
-
-
-class lt_span(c.Structure):
-    """A block of cells. If there is none, all is 0."""
-
-    _fields_ = [
-        ("kind", c.c_uint8),
-        ("base", c.c_uint32),
-        ("length", c.c_uint32),
-    ]
-    kind: Any
-    base: Any
-    length: Any
 
 
 class lt_figures(c.Structure):
@@ -301,7 +292,7 @@ CALLS: dict[str, tuple[Any, ...]] = {
     "lt_memory_new": (c.c_uint8, c.c_uint32, c.c_uint16, c.POINTER(lt_memory)),
     "lt_memory_step": (c.c_uint8, lt_memory, c.POINTER(lt_command), c.POINTER(lt_memory), c.POINTER(lt_outcome)),
     "lt_memory_collect": (c.c_uint8, c.POINTER(lt_memory), c.c_uint16, c.c_uint64, c.POINTER(lt_outcome)),
-    "lt_memory_cells": (c.c_size_t, c.POINTER(lt_memory), c.c_uint32, c.POINTER(lt_presence), c.c_size_t),
+    "lt_memory_cell": (lt_presence, c.POINTER(lt_memory), c.c_uint32),
     "lt_memory_free": (None, lt_memory),
     "lt_image_length": (c.c_uint64, c.c_uint32, c.c_uint16, c.c_uint32),
     "lt_limits": (c.c_uint8, c.c_char_p, c.c_size_t, c.POINTER(lt_sizes)),
@@ -339,7 +330,6 @@ CALLS: dict[str, tuple[Any, ...]] = {
     "lt_waiters": (c.c_size_t, c.POINTER(lt_image), c.c_uint32, c.POINTER(lt_waiter), c.c_size_t),
     "lt_cell": (lt_presence, c.POINTER(lt_image), c.c_uint32),
     "lt_cells": (c.c_size_t, c.POINTER(lt_image), c.c_uint32, c.POINTER(lt_presence), c.c_size_t),
-    "lt_block": (lt_span, c.POINTER(lt_image), c.c_uint32),
     "lt_stat": (lt_figures, c.POINTER(lt_image)),
     "lt_stuck": (c.c_size_t, c.POINTER(lt_image), c.POINTER(lt_waiter), c.c_size_t),
     "lt_window": (c.c_uint8, c.POINTER(lt_image), c.c_uint16, c.POINTER(lt_bounds)),
@@ -380,7 +370,6 @@ CALLS: dict[str, tuple[Any, ...]] = {
     "ltf_window": (lt_bounds, c.POINTER(ltf), c.c_uint16),
     "ltf_cell": (lt_presence, c.POINTER(ltf), c.c_uint32),
     "ltf_cells": (c.c_size_t, c.POINTER(ltf), c.c_uint32, c.POINTER(lt_presence), c.c_size_t),
-    "ltf_block": (lt_span, c.POINTER(ltf), c.c_uint32),
     "ltf_stat": (lt_figures, c.POINTER(ltf)),
     "ltf_stuck": (c.c_size_t, c.POINTER(ltf), c.POINTER(lt_waiter), c.c_size_t),
     "ltf_room": (c.c_uint32, c.POINTER(ltf)),

@@ -92,14 +92,9 @@ class Held:
 
     def cell(self, address: int) -> Optional[Cell]:
         """Returns what a cell holds, or None if it lies in no block. This and what follows makes no request."""
-        return (self.cells(address, 1) or [None])[0]
+        return seen(self._cell(addressed(address)))
 
-    def cells(self, start: int, count: int) -> list[Optional[Cell]]:
-        """Returns what so many cells hold, from an address on: fewer at the end of the memory."""
-        places = (lt_presence * count)()
-        return [seen(it) for it in places[: self._cells(addressed(start), places, count)]]
-
-    def _cells(self, start: int, places: Any, count: int) -> int:
+    def _cell(self, address: int) -> lt_presence:
         raise NotImplementedError
 
 
@@ -133,10 +128,11 @@ class Memory(Held):
             LIB.lt_memory_collect(self._handle, element, number, outcome)
         return told(outcome, lambda: f"{element}.{number}", number)
 
-    def _cells(self, start: int, places: Any, count: int) -> int:
+    def _cell(self, address: int) -> lt_presence:
         with self._lock:
             self._check()
-            return int(LIB.lt_memory_cells(self._handle, start, places, count))
+            found: lt_presence = LIB.lt_memory_cell(self._handle, address)
+        return found
 
 
 class Image(Held):
@@ -246,12 +242,18 @@ class Image(Held):
             self._carried_out(Device.number if self._call("ltf_failure").error else 0)
         return shown
 
-    def _cells(self, start: int, places: Any, count: int) -> int:
-        return int(self._look("ltf_cells", start, places, count))
+    def _cell(self, address: int) -> lt_presence:
+        found: lt_presence = self._look("ltf_cell", address)
+        return found
+
+    def cells(self, start: int, count: int) -> list[Optional[Cell]]:
+        """Returns what so many cells hold, from an address on: fewer at the end of the memory."""
+        places = (lt_presence * min(count, self.limits[0]))()
+        return [seen(it) for it in places[: self._look("ltf_cells", addressed(start), places, len(places))]]
 
     def block(self, address: int) -> Optional[Block]:
         """Returns the block that an address lies in, or None."""
-        found = self._look("ltf_block", addressed(address))
+        found = self._cell(addressed(address))
         return Block(found.base, found.length) if found.kind else None
 
     def waiters(self, address: int) -> list[tuple[int, int]]:

@@ -101,8 +101,8 @@ async def by_library(path):
     with luntrebis.Memory(128, 4) as memory:
         for request in REQUESTS:
             memory.ask(request)
-        assert memory.cells(0, 3) == [Cell("i", State.FULL, 7), Cell("i", State.EMPTY), Cell("i", State.AWAITED)]
-        assert memory.cell(3) == Cell("m", State.CLASHED, 8) and memory.cells(127, 5) == [None]
+        assert memory.cell(0) == Cell("i", State.FULL, 7) and memory.cell(2) == Cell("i", State.AWAITED)
+        assert memory.cell(3) == Cell("m", State.CLASHED, 8) and memory.cell(127) is memory.cell(128) is None
 
 
 async def by_program(path, imem):

@@ -180,13 +180,17 @@ pub const LT_FULL: u8 = 3;
 /// It had `value` when it was written once more
 pub const LT_CLASHED: u8 = 4;
 
-/// A cell. If the address lies in no block, all is 0.
+/// A cell, and the block that it lies in. If it lies in none, all is 0.
 #[repr(C)]
 #[derive(Clone, Copy, Debug, Default, PartialEq, Eq)]
 pub struct lt_presence {
-    /// LT_ALLOC_I or LT_ALLOC_M, by which its block was made
+    /// LT_ALLOC_I or LT_ALLOC_M, by which the block was made
     pub kind: u8,
     pub state: u8,
+    /// The address of the block's first cell
+    pub base: u32,
+    /// The number of its cells
+    pub length: u32,
     pub value: u64,
 }
 
@@ -240,16 +244,6 @@ pub struct lt_sizes {
 pub struct lt_waiter {
     pub element: u16,
     pub number: u64,
-}
-
-/// A block of cells. If there is none, all is 0.
-#[repr(C)]
-#[derive(Clone, Copy, Debug, Default, PartialEq, Eq)]
-pub struct lt_span {
-    /// LT_ALLOC_I or LT_ALLOC_M, by which it was made
-    pub kind: u8,
-    pub base: u32,
-    pub length: u32,
 }
 
 /// The numbers of an image.
@@ -376,8 +370,8 @@ extern "C" {
     /// LT_FORGOTTEN or LT_GAP. Returns the refusal.
     pub fn lt_memory_collect(memory: *const lt_memory, element: u16, number: u64, outcome: *mut lt_outcome) -> u8;
 
-    /// Writes the cells from an address on, as lt_cells does.
-    pub fn lt_memory_cells(memory: *const lt_memory, from: u32, cells: *mut lt_presence, room: usize) -> usize;
+    /// Returns the cell at an address.
+    pub fn lt_memory_cell(memory: *const lt_memory, address: u32) -> lt_presence;
 
     /// Frees the memory.
     pub fn lt_memory_free(memory: lt_memory);
@@ -487,15 +481,13 @@ extern "C" {
     /// Returns how many it wrote, 0 after a lost step. A store answers all of them, a put the first.
     pub fn lt_waiters(image: *const lt_image, address: u32, waiters: *mut lt_waiter, room: usize) -> usize;
 
-    /// Returns the cell at an address. After a lost step it shows none, as the calls that follow up to lt_stuck.
+    /// Returns the cell at an address, with its block. After a lost step it shows none, as the calls that follow up to
+    /// lt_stuck.
     pub fn lt_cell(image: *const lt_image, address: u32) -> lt_presence;
 
     /// Writes the cells from an address on at `cells`, as many as there is room for. Returns how many it wrote: fewer
     /// at the end of the memory.
     pub fn lt_cells(image: *const lt_image, from: u32, cells: *mut lt_presence, room: usize) -> usize;
-
-    /// Returns the block that an address lies in.
-    pub fn lt_block(image: *const lt_image, address: u32) -> lt_span;
 
     /// Returns the numbers of the image. It looks at each cell several times.
     pub fn lt_stat(image: *const lt_image) -> lt_figures;
@@ -637,13 +629,11 @@ extern "C" {
 
     pub fn ltf_window(file: *const ltf, element: u16) -> lt_bounds;
 
-    /// Show cells, the block of an address, the numbers of the image, and who is stuck, as the calls of luntrebis.h.
-    /// They make no request, and show what is on the disk: what is ahead hasn't acted.
+    /// Show cells with their blocks, the numbers of the image, and who is stuck, as the calls of luntrebis.h. They make
+    /// no request, and show what is on the disk: what is ahead hasn't acted.
     pub fn ltf_cell(file: *const ltf, address: u32) -> lt_presence;
 
     pub fn ltf_cells(file: *const ltf, from: u32, cells: *mut lt_presence, room: usize) -> usize;
-
-    pub fn ltf_block(file: *const ltf, address: u32) -> lt_span;
 
     pub fn ltf_stat(file: *const ltf) -> lt_figures;
 

@@ -93,15 +93,8 @@ impl Memory {
 
     /// Returns what a cell holds, or `None` if it lies in no block.
     pub fn cell(&self, address: u32) -> Option<Cell> {
-        self.cells(address, 1).pop().flatten()
-    }
-
-    /// Returns what so many cells hold, from an address on: fewer at the end of the memory.
-    pub fn cells(&self, start: u32, count: u32) -> Vec<Option<Cell>> {
-        let mut cells = vec![sys::lt_presence::default(); count as usize];
-        // SAFETY: the handle is held, and there are so many cells.
-        let shown = unsafe { sys::lt_memory_cells(&self.handle, start, cells.as_mut_ptr(), cells.len()) };
-        cells[..shown].iter().map(seen).collect()
+        // SAFETY: the handle is held.
+        seen(&unsafe { sys::lt_memory_cell(&self.handle, address) })
     }
 
     fn step(&mut self, command: &sys::lt_command) -> sys::lt_outcome {
@@ -273,7 +266,7 @@ impl Image {
     /// Returns the block that an address lies in.
     pub fn block(&self, address: u32) -> Result<Option<Block>> {
         // SAFETY: as above.
-        let sys::lt_span { kind, base, length } = unsafe { sys::ltf_block(self.file, address) };
+        let sys::lt_presence { kind, base, length, .. } = unsafe { sys::ltf_cell(self.file, address) };
         self.check(0)?;
         Ok((kind > 0).then_some(Block { base, length }))
     }

@@ -367,7 +367,7 @@ fn what_it_holds_is_shown_and_copied() {
     for request in &requests {
         memory.ask(request).unwrap();
     }
-    assert_eq!((memory.cell(0), memory.cells(127, 2)), (full, vec![None]));
+    assert_eq!((memory.cell(0), memory.cell(127), memory.cell(128)), (full, None, None));
 }
 
 fn cell(kind: Kind, state: State) -> Option<Cell> {

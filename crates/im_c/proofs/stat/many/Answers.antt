@@ -1,7 +1,8 @@
 use Rattle.std.proofs.Common.{◌≡◌, ◌+◌, length, if◌then◌else◌, ap, ◌∙◌, ap₂, arith}
 use Rattle.im_types.specs.Types.{held_at, block_at, presence_in}
-use Rattle.im_report.{proofs.SumLemmas.one_few, proofs.SumLemmas.sums_more, proofs.SumLemmas.sums_none}
-use Rattle.{im_report.specs.Figures.sum_below, im_c.specs.Seeing.is_of_sort}
+use Rattle.im_report.proofs.SumLemmas.{one_few, sums_more, sums_none}
+use Rattle.im_report.specs.Figures.{sum_below}
+use Rattle.im_c.specs.Seeing.{is_of_sort}
 use Rattle.im_c.proofs.stat.many.Goals as goal
 
 pub loop-a-init : goal.loop-a-init

@@ -1,6 +1,7 @@
 use Rattle.std.proofs.Common.{◌≡◌, ◌+◌, length, if◌then◌else◌, ap, ◌∙◌, arith}
-use Rattle.im_report.{proofs.SumLemmas.one_few, proofs.SumLemmas.sums_more, proofs.SumLemmas.sums_none}
-use Rattle.{im_report.specs.Figures.sum_below, im_c.specs.Seeing.asks_nothing}
+use Rattle.im_report.proofs.SumLemmas.{one_few, sums_more, sums_none}
+use Rattle.im_report.specs.Figures.{sum_below}
+use Rattle.im_c.specs.Seeing.{asks_nothing}
 use Rattle.im_c.proofs.stat.stuck.Goals as goal
 
 pub loop-element-init : goal.loop-element-init

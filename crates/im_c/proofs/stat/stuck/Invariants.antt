@@ -1,5 +1,6 @@
 use Rattle.std.proofs.Common.{if◌then◌else◌}
-use Rattle.{im_report.proofs.SumLemmas.Sums, im_c.specs.Seeing.asks_nothing}
+use Rattle.im_report.proofs.SumLemmas.{Sums}
+use Rattle.im_c.specs.Seeing.{asks_nothing}
 
 abbrev pub invariant-loop-element : Rattle.im_c.proofs.stat.stuck.Given.invariant-loop-element
 invariant-loop-element l =
