@@ -414,7 +414,8 @@ class Served:
         words = await self.line("stat")
         told = dict(zip(words[1::2], map(int, words[2::2])))
         names = ("blocks", "empty", "waiting", "full", "clashed", "kept", "deferred")
-        return Stat(*(told[it] for it in names), len(await self._full()), len(await self.stuck()))
+        full = await self._full()
+        return Stat(*(told[it] for it in names), len(full), len(await self._waiting(*full)))
 
     async def _about(self, *names: str) -> list[int]:
         words = await self.line("about")
