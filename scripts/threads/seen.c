@@ -10,7 +10,7 @@
 
 #include "luntrebis_shared.h"
 
-enum { THREADS = 8, COPIES = 10, LOOKS = 200, STUCK = 9, MAKER = 10, CELLS = 128 };
+enum { THREADS = 8, COPIES = 20, LOOKS = 2000, STUCK = 9, MAKER = 10, CELLS = 128 };
 
 static struct lts *shared;
 static int faults;

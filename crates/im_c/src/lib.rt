@@ -31,7 +31,7 @@ pub use memory::{LtMemory, lt_held_memory_collect, lt_memory_free, lt_memory_new
 pub use naming::{lt_answer_name, lt_refusal_name};
 pub use plain::{LtAdvanced, LtBounds, LtCommand, LtLimits, LtOutcome, LtStep, LtWaiter};
 pub use seeing::{lt_held_cells, lt_held_memory_cell};
-pub use seen::{LtFigures, LtPresence, LtSpan};
+pub use seen::{LtFigures, LtPresence};
 pub use serving::{lt_serve, lt_sweep, lt_turn};
 pub use sizes::lt_limits;
 pub use stat::lt_held_stat;

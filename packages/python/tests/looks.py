@@ -63,7 +63,7 @@ async def look(image, copied):
         pass
     assert await get(image.window(1)) == (1, 65)
     assert await get(image.count) == len(REQUESTS) and await get(image.limits) == (128, 4, 256)
-    assert 0 < await get(image.room) < 256
+    assert 0 < await get(image.room) <= 256
     await copied(image)
 
 
