@@ -1,14 +1,14 @@
 -- Cells that are told one after another.
-use Rattle.std.proofs.Common.{◌≡◌, ℕ, suc, ◌+◌, ◌-◌, ◌<◌, ◌≤◌, min, List, [], ◌∷◌, ◌++◌, length, take, drop, set, sym}
-use Rattle.std.proofs.Common.{refl, ap, ◌∙◌, ap₂, arith, length-set, take-append-drop, drop-drop, take-suc-set}
-use Rattle.std.proofs.Common.{drop-set-lt}
+use Rattle.std.proofs.Common.{◌≡◌, ℕ, suc, ◌+◌, ◌-◌, ◌<◌, ◌≤◌, List, [], ◌∷◌, ◌++◌, length, take, drop, set, sym, refl}
+use Rattle.std.proofs.Common.{ap, ◌∙◌, ap₂, arith, length-set, drop-drop, take-suc-set, drop-set-lt}
 use Rattle.im_types.specs.Types.{Contents}
-use Rattle.im_c.specs.{declared.seen.LtPresence.LtPresence, Seeing.cell_told_at, Seeing.cells_told, Seeing.TellsCells}
+use Rattle.im_c.specs.{declared.seen.LtPresence.LtPresence, Seeing.cell_told_at, Seeing.cells_told}
 
 -- So many cells are told, and `a` is the next address.
 pub record Told (m : Contents) (from : ℕ) (old : List LtPresence) (a count : ℕ) (now : List LtPresence) : Type 0 where
   pub next : a ≡ from + count
   pub few : count ≤ length m.cells - from
+  pub within : count ≤ length now
   pub whole : length now ≡ length old
   pub told : take count now ≡ cells_told m from count
   pub rest : drop count now ≡ drop count old
@@ -16,7 +16,7 @@ pub record Told (m : Contents) (from : ℕ) (old : List LtPresence) (a count : �
 pub told_none : (m : Contents) (from : ℕ) (old : List LtPresence) → Told m from old from 0 old
 unfolding cells_told
 told_none m from old =
-    record { next = omega arith; few = omega arith; whole = refl; told = refl; rest = refl }
+    record { next = omega arith; few = omega arith; within = omega arith; whole = refl; told = refl; rest = refl }
 
 one_told : (m : Contents) (from n : ℕ)
     → cells_told m from (suc n) ≡ cells_told m from n ++ cell_told_at m (from + n) ∷ []
@@ -31,6 +31,7 @@ told_more m from old a count now cell is below room it =
     record {
       next = omega (arith, it.next);
       few = omega (arith, it.next, it.few, below);
+      within = omega (arith, room, length-set now count cell);
       whole = length-set now count cell ∙ it.whole;
       told = ap (λ n. take n (set now count cell)) one ∙ take-suc-set now count cell room
           ∙ ap₂ (λ xs x. xs ++ x ∷ []) it.told (is ∙ ap (cell_told_at m) it.next)
@@ -38,10 +39,3 @@ told_more m from old a count now cell is below room it =
       rest = drop-set-lt (count + 1) now count cell (omega arith) ∙ sym (drop-drop 1 count now)
           ∙ ap (drop 1) it.rest ∙ drop-drop 1 count old;
     }
-
-pub told_all : (m : Contents) (from : ℕ) (old : List LtPresence) (a count : ℕ) (now : List LtPresence)
-    → Told m from old a count now → count ≡ min (length m.cells - from) (length old) → TellsCells m from old count now
-told_all m from old a count now it all = record {
-  few = all;
-  told = sym (take-append-drop count now) ∙ ap₂ (λ xs ys. xs ++ ys) it.told it.rest;
-}
