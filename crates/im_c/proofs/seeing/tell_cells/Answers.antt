@@ -10,5 +10,5 @@ loop-a-preserved c =
     let m = c.args.memory.now.contents in
     let below : c.loop-a.a < length m.cells = omega arith in
     let room : c.loop-a.count < length c.loop-a.places = omega arith in
-    told_more m c.args.from _ c.loop-a.a c.loop-a.count c.loop-a.places c.cell_told_at.result c.cell_told_at.ensures below
-    room c.loop-a.invariant
+    told_more m c.args.from _ c.loop-a.a c.loop-a.count c.loop-a.places c.cell_told_at.result c.cell_told_at.ensures
+    below room c.loop-a.invariant
