@@ -21,7 +21,7 @@
 enum { ELEMENTS = 64, KEPT = 64, MEMBERS = 16, CONFIRM_AT = 63, WORTH_WAITING = 8 };
 enum { LOOK_OUT = 50000 }; /* nanoseconds, about what a sleep and a wake of the owner take */
 
-enum kind { ASKS, AWAITS, SHOWS_WINDOW, LEASES };
+enum kind { ASKS, AWAITS, SHOWS_WINDOW, LEASES, LOOKS };
 enum state { QUEUED, TAKEN, WAITS, TOLD };
 
 /* An answer on its way to a queue. */
@@ -46,6 +46,7 @@ struct ticket {
     struct lts_queue *queue;
     void *mark;
     struct parcel first, later; /* for a queue */
+    lts_looks *looks; /* with `mark` */
 };
 
 struct list {
@@ -392,6 +393,14 @@ static void lease(struct lts *shared, struct ticket *ticket) {
     tell(shared, ticket, 0);
 }
 
+/* Lets a thread look at the file. */
+static void show(struct lts *shared, struct ticket *ticket) {
+    pthread_mutex_unlock(&shared->lock);
+    ticket->looks(shared->file, ticket->mark);
+    pthread_mutex_lock(&shared->lock);
+    tell(shared, ticket, 0);
+}
+
 /* Answers what needs no step, or lets it wait; adds each other command to the group. */
 static void sort_in(struct lts *shared, struct group *group, struct ticket *ticket) {
     if (ticket->kind == SHOWS_WINDOW) {
@@ -399,6 +408,8 @@ static void sort_in(struct lts *shared, struct group *group, struct ticket *tick
         tell(shared, ticket, 0);
     } else if (ticket->kind == LEASES) {
         lease(shared, ticket);
+    } else if (ticket->kind == LOOKS) {
+        show(shared, ticket);
     } else if (ticket->kind == AWAITS) {
         look(shared, ticket);
     } else if (number(shared, group, ticket)) {
@@ -697,6 +708,99 @@ static int submit(struct lts *shared, const struct ticket *like, const struct lt
 int lts_submit(struct lts *shared, const struct lt_command *commands, size_t count, lts_done *done, void *mark) {
     struct ticket like = {.kind = ASKS, .done = done, .mark = mark};
     return submit(shared, &like, commands, count);
+}
+
+/* ---- Those who look */
+
+int lts_look(struct lts *shared, lts_looks *looks, void *given) {
+    struct ticket ticket = {.kind = LOOKS, .looks = looks, .mark = given};
+    ask_and_wait(shared, &ticket, NULL);
+    return ticket.outcome.refusal;
+}
+
+enum sort { CELLS, STAT, STUCK, WAITERS, ENTRY, OUTCOME, ROOM, COUNT, BACKUP };
+
+/* What a call here looks for, and what it sees. */
+struct sight {
+    enum sort sort;
+    uint32_t address;
+    uint16_t element;
+    uint64_t number, count;
+    const char *path;
+    void *places;
+    size_t room;
+    struct lt_figures figures;
+    struct lt_command entry;
+    struct lt_outcome outcome;
+    int answer;
+};
+
+static void see(const struct ltf *file, void *given) {
+    struct sight *it = given;
+    switch (it->sort) {
+    case CELLS: it->count = ltf_cells(file, it->address, it->places, it->room); break;
+    case STAT: it->figures = ltf_stat(file); break;
+    case STUCK: it->count = ltf_stuck(file, it->places, it->room); break;
+    case WAITERS: it->count = ltf_waiters(file, it->address, it->places, it->room); break;
+    case ENTRY: it->entry = ltf_entry(file, it->element, it->number); break;
+    case OUTCOME: ltf_collect(file, it->element, it->number, &it->outcome); break;
+    case ROOM: it->count = ltf_room(file); break;
+    case COUNT: it->count = ltf_count(file); break;
+    case BACKUP: it->answer = ltf_backup(file, it->path); break;
+    }
+}
+
+static struct sight seen(struct lts *shared, struct sight it) {
+    int refusal = lts_look(shared, see, &it);
+    if (refusal) it.outcome = (struct lt_outcome){(uint8_t)refusal, 0, 0};
+    if (refusal) it.answer = refusal;
+    return it;
+}
+
+size_t lts_cells(struct lts *shared, uint32_t from, struct lt_presence *cells, size_t room) {
+    return seen(shared, (struct sight){.sort = CELLS, .address = from, .places = cells, .room = room}).count;
+}
+
+struct lt_presence lts_cell(struct lts *shared, uint32_t address) {
+    struct lt_presence cell = {0, 0, 0, 0, 0};
+    lts_cells(shared, address, &cell, 1);
+    return cell;
+}
+
+struct lt_figures lts_stat(struct lts *shared) {
+    return seen(shared, (struct sight){.sort = STAT}).figures;
+}
+
+size_t lts_stuck(struct lts *shared, struct lt_waiter *stuck, size_t room) {
+    return seen(shared, (struct sight){.sort = STUCK, .places = stuck, .room = room}).count;
+}
+
+size_t lts_waiters(struct lts *shared, uint32_t address, struct lt_waiter *waiters, size_t room) {
+    return seen(shared, (struct sight){.sort = WAITERS, .address = address, .places = waiters, .room = room}).count;
+}
+
+struct lt_command lts_entry(struct lts *shared, uint16_t element, uint64_t number) {
+    return seen(shared, (struct sight){.sort = ENTRY, .element = element, .number = number}).entry;
+}
+
+struct lt_outcome lts_collect(struct lts *shared, uint16_t element, uint64_t number) {
+    return seen(shared, (struct sight){.sort = OUTCOME, .element = element, .number = number}).outcome;
+}
+
+uint32_t lts_room(struct lts *shared) {
+    return (uint32_t)seen(shared, (struct sight){.sort = ROOM}).count;
+}
+
+uint64_t lts_count(struct lts *shared) {
+    return seen(shared, (struct sight){.sort = COUNT}).count;
+}
+
+struct lt_sizes lts_limits(struct lts *shared) {
+    return ltf_limits(shared->file);
+}
+
+int lts_backup(struct lts *shared, const char *path) {
+    return seen(shared, (struct sight){.sort = BACKUP, .path = path}).answer;
 }
 
 /* ---- Queues */
