@@ -15,6 +15,8 @@ FOLDER = tempfile.TemporaryDirectory()
 # The functions that the kept words are about, as far as it matters, each at the line that they name.
 TOP = Path(shutil.copytree(KEPT / "sources", FOLDER.name, dirs_exist_ok=True))
 (TOP / "crates.txt").write_text("im_disk:\nim_arena:\n")
+for file in [*TOP.rglob("*.rt.txt")]:
+    file.rename(file.with_suffix(""))
 
 
 def words(crate, name):
