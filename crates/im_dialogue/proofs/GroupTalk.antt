@@ -32,11 +32,16 @@ second false b is = absurd (true_false false is refl)
 
 -- ---- one member
 
-of_one : (m : Contents) (p : Point) (c : Command) (b z : Bool) → z ≡ false
-    → IsOutcomeOf m p c (if b && z then Err JournalFull else (step m c).answer)
-of_one m p c false z some = inl refl
-of_one m p c true true some = absurd (true_false true refl some)
-of_one m p c true false some = inl refl
+of_one : (m : Contents) (p : Point) (c : Command) (b : Bool) (left : ℕ) → is_accepted m c ≡ b
+    → (left ≡ 0 → (p.room ≡ 0) × IsSpent p)
+    → IsOutcomeOf m p c (if b && (left == 0) then Err JournalFull else (step m c).answer)
+of_one m p c false left is full = inl refl
+of_one m p c true left is full = by_test (left == 0) refl
+  where
+    by_test : (z : Bool) → (left == 0) ≡ z
+        → IsOutcomeOf m p c (if true && z then Err JournalFull else (step m c).answer)
+    by_test true e = let none : left ≡ 0 = grind (arith, nat_tests, e) in inr (is, (refl, full none))
+    by_test false e = inl refl
 
 -- ---- where the engine stands behind members
 
@@ -106,30 +111,6 @@ left_and_put m left (c ∷ cs) = by_test (takes_place m left c) refl
         let none = ap (λ (b : Bool). if b then left - 1 else left) is in
         omega (arith, all, none)
 
--- the room behind commands, at the last count and below it
-room_of : (k : ℕ) (p : Point) → suc k ≤ LAST - p.count
-    → (point_behind (suc k) p).room ≡ (if p.count + suc k == LAST then 0 else p.room - suc k)
-room_of k p low = ap (λ (q : Point). q.room) (moved_all k p low)
-
-pub room_at_last : (put : ℕ) (p : Point) → (put ≡ 0 → ⊥) → put ≤ LAST - p.count → p.count + put ≡ LAST
-    → 0 ≡ (point_behind put p).room
-room_at_last zero p some low last = absurd (some refl)
-room_at_last (suc k) p some low last = sym (room_of k p low
-    ∙ ap (λ (b : Bool). if b then 0 else p.room - suc k) there)
-  where
-    there : (p.count + suc k == LAST) ≡ true
-    there = grind (arith, nat_tests, last)
-
-pub room_below_last : (put : ℕ) (p : Point) → (put ≡ 0 → ⊥) → put ≤ LAST - p.count → (p.count + put ≡ LAST → ⊥)
-    → p.room - put ≡ (point_behind put p).room
-room_below_last zero p some low below = absurd (some refl)
-room_below_last (suc k) p some low below = sym (room_of k p low
-    ∙ ap (λ (b : Bool). if b then 0 else p.room - suc k) (not_there (p.count + suc k == LAST) refl))
-  where
-    not_there : (b : Bool) → (p.count + suc k == LAST) ≡ b → b ≡ false
-    not_there false is = refl
-    not_there true is = let same : p.count + suc k ≡ LAST = grind (arith, nat_tests, is) in absurd (below same)
-
 -- ---- what was said of a group, by the memory that it comes to
 
 module _ (watch : Bool) (b : GroupStart) where
@@ -173,7 +154,8 @@ module _ (watch : Bool) (b : GroupStart) where
         ∙ sym is
 
     module _ (c : Command) (asked : asked_of line ≡ Some (asks.Serve c))
-        (some : (places_between b ahead == 0) ≡ false) where
+        (full : places_between b ahead ≡ 0
+        → ((point_between b ahead).room ≡ 0) × IsSpent (point_between b ahead)) where
       abbrev answered_so : Result Outcome Refusal
       answered_so = answer_with (memory_between b ahead) (places_between b ahead) c
 
@@ -206,7 +188,7 @@ module _ (watch : Bool) (b : GroupStart) where
                   refl,
                   subst (λ (m : Contents). IsOutcomeOf m (point_between b ahead) c answered_so) told.memory
                       (of_one (memory_between b ahead) (point_between b ahead) c
-                      (is_accepted (memory_between b ahead) c) (places_between b ahead == 0) some),
+                      (is_accepted (memory_between b ahead) c) (places_between b ahead) refl full),
                 ),
             (told.lead, told.answered),
           ),
@@ -226,39 +208,6 @@ module _ (watch : Bool) (b : GroupStart) where
         backups = told.backups;
         asks = asks_on (ServedAs c answered_so) (Some (asks.Serve c)) asked;
       }
-
-    pub told_shown : (asked : Question) (answer : LineAnswer) → asked_of line ≡ Some asked
-        → IsKnownBehind b ahead asked answer
-        → (more : List ℕ) → more ≡ text ++ (answer_text name (memory_between b ahead) answer
-        ++ watch_text watch (memory_between b ahead) answer)
-        → SaysAll watch b ahead more (qs ++ Some asked ∷ [])
-    told_shown asked answer read shown more is =
-        let same : put_of b.memory (exchange answer ∷ told.said) ≡ put_of b.memory told.said
-        = ap (λ (l : List Command). put_of b.memory told.said ++ l) (shown.puts here)
-        ∙ append-nil (put_of b.memory told.said) in
-        record {
-          said = exchange answer ∷ told.said;
-          answered = (
-            told.turns,
-            (
-              subst (λ (o : Option Question). AnswersQuestion here (b.point.count + length (put_of b.memory told.said))
-                  told.turns (point_between b ahead) o answer) (sym read)
-                  (subst (λ (m : Contents). AnswersQuestion m (b.point.count + length (put_of b.memory told.said))
-                  told.turns (point_between b ahead) (Some asked) answer) told.memory
-                  (subst (λ (l : List Command). AnswersQuestion (memory_between b ahead) (b.point.count + length l)
-                  told.turns (point_between b ahead) (Some asked) answer) (sym told.put)
-                  (shown.answers told.turns))),
-              (told.lead, told.answered),
-            ),
-          );
-          turns = [];
-          lead = sym (ap (λ (l : List Command). point_behind (length l) (point_between b ahead)) (shown.puts here));
-          memory = told.memory ∙ ap (λ (l : List Command). after b.memory l) (sym same);
-          put = same ∙ told.put;
-          texts = texts_on answer more is;
-          backups = ap (λ (l : List Backup). l ++ backups_of b.memory told.said) (shown.keeps here) ∙ told.backups;
-          asks = asks_on answer (Some asked) read;
-        }
 
 -- ---- a group that was served
 
