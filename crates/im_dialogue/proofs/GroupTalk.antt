@@ -1,7 +1,7 @@
 -- What was said by a group of lines.
 use Rattle.std.proofs.Common.{◌≡◌, ℕ, zero, suc, ◌+◌, ◌-◌, ◌<◌, ◌≤◌, Bool, true, false, ◌&&◌, List, [], ◌∷◌, ◌++◌}
-use Rattle.std.proofs.Common.{length, if◌then◌else◌, nat_lt, ◌==◌, Some, Ok, Err, Option, Result, sym, refl, ap, ◌∙◌}
-use Rattle.std.proofs.Common.{subst, ap₂, inl, ⊎_elim, append-nil, arith, length-append}
+use Rattle.std.proofs.Common.{length, if◌then◌else◌, nat_lt, ◌==◌, Some, Err, Option, Result, sym, refl, ap, ◌∙◌, subst}
+use Rattle.std.proofs.Common.{ap₂, inl, ⊎_elim, append-nil, arith, length-append}
 use Rattle.std.{proofs.KnownBytes.Appends-nil, proofs.lemmas.Bool.Decides.nat_tests, specs.Io.KnownBytes.Appends}
 use Rattle.im_types.specs.Types.{Command, Outcome, Served, Refusal, JournalFull, MAX_GROUP, LAST, Contents, step}
 use Rattle.im_types.specs.Types.{is_accepted, after}
@@ -19,11 +19,10 @@ use Rattle.im_dialogue.proofs.{ReachLemmas.contents_behind, TalkLemmas.ended_her
 use Rattle.im_dialogue.specs.{Answers.answer_text, Asking.asked_of, Backups.Backup, declared.asking.Question.Question}
 use Rattle.im_dialogue.specs.{Hearing.Hears, Hearing.HearsSome, Telling.SaysAll, Watching.watch_text}
 use Rattle.im_dialogue.specs.declared.answers.LineAnswer.{LineAnswer, TheVariants.Served as ServedAs}
-use Rattle.im_dialogue.specs.Talk.{AnswersQuestion, backups_of, Exchange, exchange_at, Halts, HasSaid, IsOutcomeOf}
-use Rattle.im_dialogue.specs.Talk.{outputs, point_behind, put_of, questions_of, stands_behind, TalkEnds, TalksOn}
-use Rattle.im_dialogue.specs.Talk.{texts_of, with_left}
-use Rattle.im_dialogue.specs.Together.{group_start, GroupStart, IsKnownBehind, memory_between, places_between}
-use Rattle.im_dialogue.specs.Together.{point_between}
+use Rattle.im_dialogue.specs.Talk.{AnswersQuestion, Exchange, exchange_at, Halts, HasSaid, IsOutcomeOf, outputs}
+use Rattle.im_dialogue.specs.Talk.{point_behind, put_of, questions_of, stands_behind, TalkEnds, TalksOn, texts_of}
+use Rattle.im_dialogue.specs.Talk.{with_left}
+use Rattle.im_dialogue.specs.Together.{group_start, GroupStart, memory_between, places_between, point_between}
 use Rattle.im_dialogue.specs.declared.asking.Question.TheVariants as asks
 
 second : (a b : Bool) → (a && b) ≡ true → b ≡ true

@@ -1,21 +1,18 @@
 -- What the lines of an input ask for, and what of it was heard.
 use Rattle.std.proofs.Common.{◌≡◌, ℕ, zero, suc, ◌+◌, ◌-◌, ◌<◌, ◌≤◌, Bool, true, false, ◌&&◌, List, [], ◌∷◌, ◌++◌, map}
-use Rattle.std.proofs.Common.{length, get_or, take, drop, IfSome, IfOk, if◌then◌else◌, OnOk, nat_lt, nat_le, ◌==◌}
-use Rattle.std.proofs.Common.{slice_index, Some, None, Ok, Err, Option, Result, option_map, sym, refl, ap, ◌∙◌, subst}
-use Rattle.std.proofs.Common.{append_assoc, append-nil, arith, length-append, take-append-drop, length-take-le}
-use Rattle.std.proofs.Common.{take_all}
-use Rattle.std.proofs.{KnownBytes.Consumes-kept, KnownBytes.Consumes-nil, lemmas.Bool.Decides.nat_tests}
-use Rattle.std.proofs.lemmas.List.{drop_more, Elements.All-append, Elements.All-nil, take-append-le}
+use Rattle.std.proofs.Common.{length, get_or, take, drop, IfSome, if◌then◌else◌, OnOk, nat_lt, nat_le, ◌==◌, Some, None}
+use Rattle.std.proofs.Common.{Ok, Err, Option, Result, option_map, sym, refl, ap, ◌∙◌, subst, append_assoc, append-nil}
+use Rattle.std.proofs.Common.{arith, take-append-drop, length-take-le, take_all}
+use Rattle.std.proofs.KnownBytes.{Consumes-kept, Consumes-nil}
+use Rattle.std.proofs.lemmas.{Bool.Decides.nat_tests, List.drop_more, List.Elements.All-append, List.Elements.All-nil}
 use Rattle.std.proofs.lemmas.List.Splits.{length-slice_split, slice_split_at, slice_split_none}
-use Rattle.std.specs.{Char.is_ascii, List.list_all}
-use Rattle.std.specs.Io.{BufRead.DropsConsumable, KnownBytes.Consumes, KnownBytes.IsAtEnd, KnownBytes.Keeps, StartsWith}
+use Rattle.std.specs.{Char.is_ascii, Io.KnownBytes.Consumes, Io.KnownBytes.IsAtEnd, Io.KnownBytes.Keeps, List.list_all}
 use Rattle.im_script.specs.{Grammar.words_of, Script.lines_of}
 use Rattle.im_dialogue.specs.Asking.{asked_in, asked_of}
 use Rattle.im_dialogue.specs.declared.{asking.Question.Question, line_part.LinePart.LinePart, lines.TheConstants.KEPT}
-use Rattle.im_dialogue.specs.Hearing.{AreLines, as_asked, asked_after, asking, but_last, end_at, EndLines, EndsHere}
-use Rattle.im_dialogue.specs.Hearing.{HasReadPart, Hears, HearsAll, HearsSome, is_quit, IsLinePart, left_at}
-use Rattle.im_dialogue.specs.Hearing.{left_behind, questions_in, questions_left, ReadsLine, ReadsMore, ReadsPart}
-use Rattle.im_dialogue.specs.Hearing.{ShowsText, StandsIn, TakesLine, until_quit}
+use Rattle.im_dialogue.specs.Hearing.{asked_after, asking, but_last, HasReadPart, Hears, HearsAll, HearsSome, is_quit}
+use Rattle.im_dialogue.specs.Hearing.{IsLinePart, left_behind, questions_in, questions_left, ReadsLine, ReadsMore}
+use Rattle.im_dialogue.specs.Hearing.{ReadsPart, until_quit}
 use Rattle.im_dialogue.specs.declared.line_part.LinePart.TheVariants as piece
 
 -- ---- what was heard

@@ -1,24 +1,21 @@
 -- What the calls of a dialogue come to.
-use Rattle.std.proofs.Common.{◌≡◌, ℕ, zero, suc, ◌+◌, ◌<◌, ◌≤◌, min, Bool, true, false, List, [], ◌∷◌, ◌++◌, length, take}
-use Rattle.std.proofs.Common.{IfSome, OnOk, Some, None, Ok, Err, Option, Result, MatchResult, sym, refl, ap, ◌∙◌, subst}
+use Rattle.std.proofs.Common.{◌≡◌, ℕ, zero, suc, ◌+◌, ◌<◌, ◌≤◌, min, Bool, true, false, List, [], ◌∷◌, ◌++◌, length}
+use Rattle.std.proofs.Common.{take, OnOk, Some, None, Ok, Err, Option, Result, MatchResult, sym, refl, ap, ◌∙◌, subst}
 use Rattle.std.proofs.Common.{append_assoc, append-nil, arith, take-take, take_at}
-use Rattle.std.proofs.{KnownBytes.Appends-nil, KnownBytes.Appends-trans, lemmas.List.length-map}
-use Rattle.std.proofs.lemmas.List.{map-append}
+use Rattle.std.proofs.{KnownBytes.Appends-trans, lemmas.List.length-map, lemmas.List.map-append}
 use Rattle.std.specs.Io.KnownBytes.{append_known, Appends}
 use Rattle.im_types.specs.Types.{Command, MAX_GROUP, LAST}
 use Rattle.im_asks.specs.declared.{AskedCommand.AskedCommand, ToldAnswer.ToldAnswer}
 use Rattle.im_asks.specs.Lists.{answers_told, asks_told, commands_asked, commands_told}
 use Rattle.im_turning.specs.Turning.{IsSpent, point_of}
-use Rattle.im_session.specs.Kept.{SessionState}
-use Rattle.{im_front.specs.State.Advanced, im_front.specs.State.FrontRests, im_front.specs.State.FrontState}
-use Rattle.im_text.specs.Printing.{Begins}
+use Rattle.{im_session.specs.Kept.SessionState, im_text.specs.Printing.Begins}
+use Rattle.im_front.specs.State.{Advanced, FrontRests, FrontState}
 use Rattle.im_dialogue.proofs.GroupTalk.{done_by, group_cut, group_halts, group_on, worked}
 use Rattle.im_dialogue.proofs.HearingLemmas.{heard_some, hears_as, same_left}
-use Rattle.im_dialogue.proofs.TalkLemmas.{end_here, ends_after, halts_talk, Left, nothing_said, nothing_talked, on_after}
-use Rattle.im_dialogue.proofs.TalkLemmas.{rests_halts, take-past, taken_said}
+use Rattle.im_dialogue.proofs.TalkLemmas.{end_here, ends_after, halts_talk, Left, nothing_said, nothing_talked}
+use Rattle.im_dialogue.proofs.TalkLemmas.{on_after, rests_halts, take-past, taken_said}
 use Rattle.im_dialogue.proofs.ToldLemmas.{asked_split, fits_told, hears_told, lines_exist, same_alone, says_told}
-use Rattle.im_dialogue.proofs.WatchedLemmas.{tell_first}
-use Rattle.im_dialogue.specs.{Backups.Backup, declared.asking.Question.Question, Hearing.Hears, Hearing.HearsSome}
+use Rattle.im_dialogue.{proofs.WatchedLemmas.tell_first, specs.Backups.Backup, specs.Hearing.Hears}
 use Rattle.im_dialogue.specs.Serving.{behind_asked, PutsOut, told_onto, told_so}
 use Rattle.im_dialogue.specs.Talk.{OnlyTurned, Outputs, outputs, TalkEnds, TalksOn, with_left}
 use Rattle.im_dialogue.specs.Together.{AreAsked, AreLinesOf, group_start, questions_asked, TellWatchers, WasTold}
@@ -311,3 +308,10 @@ told_nothing_yet watch s held asked text kept left none empty = λ f. record {
 pub grown_on : (a b c : Option (List ℕ)) (was is : List ℕ) → (more : List ℕ) × Appends a b more → PutsOut was is b c
     → (more : List ℕ) × Appends a c more
 grown_on a b c was is (more, grown) (put, on, same) = (more ++ put, Appends-trans a b c more put grown on)
+
+-- by other names
+pub lines_as : (told other : List ToldAnswer) (nows others : List (List ℕ)) (text : List ℕ) → told ≡ other
+    → nows ≡ others → AreLinesOf told nows text → AreLinesOf other others text
+lines_as told other nows others text same alike lines =
+    subst (λ (l : List ToldAnswer). AreLinesOf l others text) same
+    (subst (λ (l : List (List ℕ)). AreLinesOf told l text) alike lines)

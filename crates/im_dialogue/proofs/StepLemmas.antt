@@ -1,28 +1,15 @@
 -- What a command leaves of a request that nobody asked yet, and of a memory.
-use Rattle.std.proofs.Common.{◌≡◌, ℕ, zero, suc, ◌+◌, ◌-◌, Bool, true, false, cond, ◌&&◌, ◌||◌, ◌≢◌, ◌⊎◌, List, [], ◌∷◌}
-use Rattle.std.proofs.Common.{if◌then◌else◌, nat_lt, ◌==◌, slice_get, Some, None, Ok, Err, Option, Result, option_map}
-use Rattle.std.proofs.Common.{option_and_then, sym, refl, ap, ◌∙◌, subst, inl, inr, ⊎_elim, arith}
-use Rattle.std.{proofs.lemmas.Bool.Decides.nat_tests, specs.List.list_any}
-use Rattle.im_types.specs.Types.{Entry, Kind, Op, Reply, Waiter, Kept, Answered, I, M, Alloc, Release, Reset, Fetch}
-use Rattle.im_types.specs.Types.{Store, Take, Put, Request, Command, Asks, Confirm, Fresh, Refusal, Gap, Forgotten}
-use Rattle.im_types.specs.Types.{Held, Window, Contents, held_at, waiters_in, kept_under, kept_for, IsMemory}
-use Rattle.im_types.specs.Types.{same_waiter, times, awaiting, waits_in, address_of, StaysOrIsAnswered, act}
-use Rattle.im_types.specs.Types.{next_number, judge, note, answer_at, answer_in, answer, answer_each, is_waiting}
-use Rattle.im_types.specs.Types.{confirm_window, ask_number, ask_window, ask, bounds_of, bounds, asker, step_request}
-use Rattle.im_types.specs.Types.{step_confirm, step, is_accepted}
-use Rattle.im_laws.proofs.AcceptLemmas.{accepted-fresh, accepted-moves_base, accepted-takes_next, confirm-confirms}
-use Rattle.im_laws.proofs.AcceptLemmas.{Confirms}
-use Rattle.im_laws.proofs.AgreementLemmas.{IsQuiet, same_op-awaiting, same_waiter-equal, waits_in-quiet}
-use Rattle.im_laws.proofs.{BoundsLemmas.slice_get-with_window, CellLemmas.act-other, MemoryLemmas.step-memory}
-use Rattle.im_laws.proofs.{RunAgrees.confirmed_stays, StepLemmas.IsNext, StepLemmas.judge-fresh}
-use Rattle.im_laws.proofs.StepAgrees.{act-agrees, AgreesAfter}
-use Rattle.im_laws.proofs.Tests.{and_both, below_or_from, eq_by_test, or_left, or_right, test-self, true_false}
+use Rattle.std.proofs.Common.{◌≡◌, ℕ, zero, suc, ◌-◌, Bool, true, false, cond, ◌&&◌, ◌⊎◌, List, [], ◌∷◌, if◌then◌else◌}
+use Rattle.std.proofs.Common.{nat_lt, ◌==◌, slice_get, Some, None, Ok, Err, Option, Result, option_map, option_and_then}
+use Rattle.std.proofs.Common.{sym, refl, ap, ◌∙◌, subst, inl, inr, ⊎_elim, arith}
+use Rattle.im_types.specs.Types.{Entry, Reply, Waiter, Kept, Request, Command, Confirm, Refusal, Window, Contents}
+use Rattle.im_types.specs.Types.{kept_under, kept_for, IsMemory, same_waiter, note, answer_at, answer_in, answer}
+use Rattle.im_types.specs.Types.{answer_each, confirm_window, asker, step_confirm, step, is_accepted}
+use Rattle.im_laws.proofs.AcceptLemmas.{confirm-confirms, Confirms}
+use Rattle.im_laws.proofs.{BoundsLemmas.slice_get-with_window, MemoryLemmas.step-memory, RunAgrees.confirmed_stays}
+use Rattle.im_laws.proofs.{StepLemmas.IsNext, Tests.below_or_from, Tests.eq_by_test}
 use Rattle.im_laws.proofs.WindowLemmas.{kept_for-here, kept_for-note, kept_for-set, kept_under-below}
-use Rattle.im_laws.specs.{Cells.MayChange, Windows.TakesNextNumber}
-use Rattle.im_groups.specs.Commands.{contents_after_all, contents_with, places_behind}
-use Rattle.im_dialogue.proofs.WatchLemmas.{quiet_resumes}
-use Rattle.im_dialogue.specs.Looks.{asks_at, kept_waits_at, may_answer, may_change, may_wait, op_waits_at}
-use Rattle.im_dialogue.specs.{Showing.recall, Showing.recalled, Watching.is_quiet}
+use Rattle.im_groups.specs.Commands.{contents_with}
 
 -- ---- where nothing is kept, an answer leaves nothing
 

@@ -1,30 +1,24 @@
 -- What was said over a session, line by line.
-use Rattle.std.proofs.Common.{◌≡◌, ℕ, suc, ◌+◌, ◌≤◌, Bool, true, false, ◌&&◌, List, [], ◌∷◌, ◌++◌, length, take, IfSome}
-use Rattle.std.proofs.Common.{if◌then◌else◌, OnOk, Some, None, Ok, Err, Option, Result, MatchResult, sym, refl, ap, ◌∙◌}
-use Rattle.std.proofs.Common.{subst, ap₂, inl, inr, ⊎_elim, append_assoc, append-nil, arith, length-append}
+use Rattle.std.proofs.Common.{◌≡◌, ℕ, suc, ◌+◌, Bool, false, List, [], ◌∷◌, ◌++◌, length, take, IfSome, OnOk, Some}
+use Rattle.std.proofs.Common.{None, Ok, Err, Option, Result, MatchResult, sym, refl, ap, ◌∙◌, subst, ap₂, append_assoc}
+use Rattle.std.proofs.Common.{append-nil, arith, length-append}
 use Rattle.std.{proofs.KnownBytes.Appends-nil, proofs.KnownBytes.Appends-trans, specs.Io.KnownBytes.Appends}
-use Rattle.im_types.specs.Types.{Command, Outcome, Refusal, JournalFull, Device, MAX_GROUP, Contents, step, is_accepted}
-use Rattle.im_types.specs.Types.{after}
-use Rattle.im_laws.proofs.{RunLemmas.after-append, Tests.true_or_false}
-use Rattle.im_checkpoint.{proofs.Fitting.none_or_some, specs.declared.TurnDone.TurnDone}
-use Rattle.im_engine.{proofs.Accepting.accepted_answers, specs.State.EngineState, specs.State.with_command}
-use Rattle.im_engine.specs.Answered.{Answered, is_device, TurnAnswered}
-use Rattle.{im_turning.proofs.TurningLemmas.turn_leads, im_session.proofs.ServedLemmas.undoubted}
-use Rattle.{im_session.proofs.ServedLemmas.unsure, im_session.specs.Kept.session_of, im_session.specs.Kept.SessionState}
-use Rattle.im_turning.specs.Turning.{HasMadeRoom, IsSpent, Point, point_of, TurnsLead}
+use Rattle.im_types.specs.Types.{Command, Refusal, Contents, after}
+use Rattle.im_laws.proofs.RunLemmas.{after-append}
+use Rattle.{im_checkpoint.specs.declared.TurnDone.TurnDone, im_engine.specs.Answered.TurnAnswered}
+use Rattle.{im_turning.proofs.TurningLemmas.turn_leads, im_text.specs.Printing.Begins}
+use Rattle.im_turning.specs.Turning.{HasMadeRoom, Point, point_of, TurnsLead}
 use Rattle.im_session.proofs.RoomLemmas.{rests_none, rests_then, turn_works}
-use Rattle.im_session.specs.{Put.doubted_by, Put.sure_by, Serving.Rests, Serving.served_one}
-use Rattle.im_text.{proofs.PrintingLemmas.true_false, specs.Printing.Begins}
-use Rattle.im_dialogue.proofs.HearingLemmas.{heard_some, hears_as, hears_none, hears_on, hears_some_on, none_heard}
-use Rattle.im_dialogue.proofs.HearingLemmas.{on_default, same_left}
-use Rattle.im_dialogue.specs.Answers.{answer_text}
-use Rattle.im_dialogue.specs.{Asking.asked_of, Backups.Backup, declared.asking.Question.Question, Watching.watch_text}
-use Rattle.im_dialogue.specs.declared.answers.LineAnswer.{LineAnswer, TheVariants.Served, TheVariants.Turned}
-use Rattle.im_dialogue.specs.Hearing.{Hears, HearsSome, is_quit, questions_left}
+use Rattle.im_session.specs.{Kept.session_of, Kept.SessionState, Serving.Rests}
+use Rattle.im_dialogue.proofs.HearingLemmas.{heard_some, hears_as, hears_none, hears_on, hears_some_on, on_default}
+use Rattle.im_dialogue.proofs.HearingLemmas.{same_left}
+use Rattle.im_dialogue.specs.{Answers.answer_text, Asking.asked_of, Backups.Backup, declared.asking.Question.Question}
+use Rattle.im_dialogue.specs.{Hearing.Hears, Hearing.HearsSome, Hearing.is_quit, Watching.watch_text}
+use Rattle.im_dialogue.specs.declared.answers.LineAnswer.{LineAnswer, TheVariants.Turned}
 use Rattle.im_dialogue.specs.Talk.{AnswersQuestion, AreAnswered, AreKept, backup_by, backups_of, Exchange, exchange_at}
-use Rattle.im_dialogue.specs.Talk.{Halts, HasEnded, HasSaid, is_end, IsOutcomeOf, OnlyTurned, Outputs, outputs}
-use Rattle.im_dialogue.specs.Talk.{point_behind, put_by, put_of, questions_of, SaysLine, SaysNow, stands_behind}
-use Rattle.im_dialogue.specs.Talk.{TalkEnds, Talking, TalksOn, texts_of, with_left}
+use Rattle.im_dialogue.specs.Talk.{Halts, HasEnded, HasSaid, OnlyTurned, Outputs, outputs, point_behind, put_by, put_of}
+use Rattle.im_dialogue.specs.Talk.{questions_of, SaysLine, SaysNow, stands_behind, TalkEnds, Talking, TalksOn, texts_of}
+use Rattle.im_dialogue.specs.Talk.{with_left}
 use Rattle.im_dialogue.specs.declared.asking.Question.TheVariants as asks
 
 -- what an input still asks for, where that is known

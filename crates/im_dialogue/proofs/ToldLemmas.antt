@@ -1,22 +1,19 @@
 -- What was said by a group that was told.
-use Rattle.std.proofs.Common.{◌≡◌, ℕ, suc, ◌+◌, ◌≤◌, max, Bool, true, false, List, [], ◌∷◌, ◌++◌, map, length, take, IfSome}
-use Rattle.std.proofs.Common.{◌==◌, Some, None, Ok, Err, Option, Result, sym, refl, ap, ◌∙◌, subst, inl, inr, ⊎_elim}
-use Rattle.std.proofs.Common.{append_assoc, append-nil, arith, length-append}
-use Rattle.std.proofs.lemmas.{Bool.Decides.nat_tests, List.length-map, List.map-append}
+use Rattle.std.proofs.Common.{◌≡◌, ℕ, zero, suc, ◌+◌, ◌<◌, ◌≤◌, max, Bool, true, false, List, [], ◌∷◌, ◌++◌, map}
+use Rattle.std.proofs.Common.{length, get_or, drop, IfSome, ◌==◌, Some, None, Ok, Err, Option, Result, sym, refl, ap}
+use Rattle.std.proofs.Common.{◌∙◌, subst, inl, inr, append_assoc, append-nil, arith, length-append}
+use Rattle.std.proofs.lemmas.{Bool.Decides.nat_tests, List.map-append}
 use Rattle.im_types.specs.Types.{Command, Outcome, Served, Refusal, LAST, as_served}
-use Rattle.im_laws.specs.Groups.{IsCounted}
 use Rattle.im_groups.proofs.{CommandLemmas.left_behind, EnoughLemmas.at_most_members}
 use Rattle.im_groups.specs.Commands.{answer_with, answers_with, contents_with, places, places_behind}
 use Rattle.im_asks.specs.declared.{AskedCommand.AskedCommand, ToldAnswer.ToldAnswer}
-use Rattle.im_asks.specs.Lists.{answers_told, asks_told, commands_asked, commands_told}
-use Rattle.im_turning.specs.Turning.{IsSpent, Point}
-use Rattle.im_session.specs.Serving.{served_answer}
+use Rattle.im_asks.specs.Lists.{answers_told, asks_told, commands_told}
+use Rattle.{im_turning.specs.Turning.IsSpent, im_session.specs.Serving.served_answer}
 use Rattle.im_dialogue.proofs.GroupTalk.{left_and_put, told_member, told_none}
 use Rattle.im_dialogue.proofs.{ReachLemmas.contents_behind, TalkLemmas.Left}
-use Rattle.im_dialogue.specs.Answers.{served_line}
+use Rattle.im_dialogue.specs.{Answers.served_line, Serving.behind_asked, Telling.SaysAll, Watching.told_with}
 use Rattle.im_dialogue.specs.declared.{answers.LineAnswer.TheVariants.Served as ServedAs, asking.Question.Question}
-use Rattle.im_dialogue.specs.{Hearing.asking, Hearing.Hears, Hearing.left_behind, Serving.behind_asked}
-use Rattle.im_dialogue.specs.{Telling.SaysAll, Watching.told_with}
+use Rattle.im_dialogue.specs.Hearing.{asking, Hears, left_behind}
 use Rattle.im_dialogue.specs.Together.{answer_told, AreAsked, AreLinesOf, first_text, FitInto, GroupStart, later_texts}
 use Rattle.im_dialogue.specs.Together.{memory_between, places_between, point_between, questions_asked, TellWatchers}
 use Rattle.im_dialogue.specs.Together.{WasTold}
@@ -197,3 +194,34 @@ same_alone asked a b none same =
     by_case : (a b : Left) → IfSome a (λ l. b ≡ Some l) → IfSome (behind_asked [] a) (λ l. b ≡ Some l)
     by_case None b same = tt
     by_case (Some l) b same = same
+
+-- ---- the lines, one after another
+
+pub lines_next : (told : List ToldAnswer) (i : ℕ) (d : ToldAnswer) (m : Contents) (name : List ℕ) (given : LineAnswer)
+    (nows later : List (List ℕ)) (now rest : List ℕ) → i < length told → later ≡ later_texts nows
+    → now ≡ first_text nows → given ≡ answer_told (get_or told i d) → AreLinesOf (drop (i + 1) told) later rest
+    → AreLinesOf (drop i told) nows ((answer_text name m given ++ told_with given now) ++ rest)
+lines_next told i d m name given nows later now rest within later_is now_is given_is it =
+    let next : suc i ≡ i + 1 = omega arith in
+    let first : ToldAnswer = get_or told i d in
+    subst (λ (l : List ToldAnswer). AreLinesOf l nows ((answer_text name m given ++ told_with given now) ++ rest))
+    (sym (drop-cons told i d within)) (
+      name,
+      (
+        rest,
+        (
+          ap (λ (a : LineAnswer). (answer_text name m a ++ told_with a now) ++ rest) given_is
+              ∙ ap (λ (n : List ℕ). (answer_text name m (answer_told first) ++ told_with (answer_told first) n) ++ rest)
+              now_is,
+          subst (λ (n : ℕ). AreLinesOf (drop n told) (later_texts nows) rest) (sym next)
+              (subst (λ (l : List (List ℕ)). AreLinesOf (drop (i + 1) told) l rest) later_is it),
+        ),
+      ),
+    )
+
+pub lines_end : (told : List ToldAnswer) (i : ℕ) (nows : List (List ℕ)) → length told ≤ i
+    → AreLinesOf (drop i told) nows []
+lines_end [] zero nows past = refl
+lines_end [] (suc i) nows past = refl
+lines_end (t ∷ told) zero nows past = absurd (omega (arith, past))
+lines_end (t ∷ told) (suc i) nows past = lines_end told i nows (omega (arith, past))

@@ -1,6 +1,6 @@
 -- What is told of those that waited.
 use Rattle.std.proofs.Common.{◌≡◌, ℕ, Bool, true, false, List, [], ◌++◌, take, drop, if◌then◌else◌, ◌==◌, Some, None}
-use Rattle.std.proofs.Common.{Ok, Err, Option, Result, option_map, sym, refl, ap, ◌∙◌, subst, append-nil}
+use Rattle.std.proofs.Common.{Option, option_map, sym, refl, ap, ◌∙◌, subst, append-nil}
 use Rattle.std.specs.List.{list_any}
 use Rattle.im_types.specs.Types.{Kind, Op, Reply, Waiter, Block, Answered, I, M, Alloc, Release, Reset, Fetch, Store}
 use Rattle.im_types.specs.Types.{Take, Put, BadLength, WrongKind, Released, StillWaiting, Cleared, Command, CellState}
@@ -8,10 +8,10 @@ use Rattle.im_types.specs.Types.{Empty, Full, Clashed, Held, Contents, held_at, 
 use Rattle.im_types.specs.Types.{ServedCell as Served, fetch, take_from, only_tells, same_kind, serve_cell, at_cell}
 use Rattle.im_types.specs.Types.{allocate_at, block_with_base, is_waiting_cell, unless_waited_for, emptied, act}
 use Rattle.{im_checkpoint.specs.declared.TurnDone.TurnDone, im_turning.specs.Turning.Point}
-use Rattle.im_dialogue.specs.{Answers.answer_text, Answers.look_text, Asking.command_in, Talk.AnswersQuestion}
+use Rattle.im_dialogue.specs.Answers.{answer_text, look_text}
+use Rattle.im_dialogue.specs.{Asking.command_in, Talk.AnswersQuestion, Watching.is_quiet, Watching.watch_text}
 use Rattle.im_dialogue.specs.declared.answers.LineAnswer.{LineAnswer, TheVariants.Looked}
 use Rattle.im_dialogue.specs.declared.{asking.Question.Question, look.Look.Look}
-use Rattle.im_dialogue.specs.Watching.{is_quiet, watch_text}
 use Rattle.im_dialogue.specs.declared.asking.Question.TheVariants as asks
 
 -- ---- who is resumed

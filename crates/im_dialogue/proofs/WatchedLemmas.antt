@@ -1,17 +1,17 @@
 -- What those that watch are told of commands, before these act.
-use Rattle.std.proofs.Common.{◌≡◌, ℕ, zero, suc, Bool, true, false, not, ◌&&◌, List, [], ◌∷◌, ◌++◌, length, take, is_none}
-use Rattle.std.proofs.Common.{if◌then◌else◌, Some, None, Ok, Err, Option, Result, sym, refl, ap, ◌∙◌, subst, append_assoc}
-use Rattle.std.proofs.Common.{append-nil, arith}
-use Rattle.std.specs.List.{list_any}
+use Rattle.std.proofs.Common.{◌≡◌, ℕ, zero, suc, ◌+◌, ◌<◌, Bool, true, false, not, ◌&&◌, List, [], ◌∷◌, ◌++◌, length}
+use Rattle.std.proofs.Common.{get_or, take, drop, is_none, if◌then◌else◌, Some, None, Ok, Err, Option, Result, sym}
+use Rattle.std.proofs.Common.{refl, ap, ◌∙◌, subst, append_assoc, append-nil, arith}
+use Rattle.std.{proofs.Math.Seq.drop-cons, specs.List.list_any}
 use Rattle.im_types.specs.Types.{Op, Kept as KeptEntry, I, M, Alloc, Release, Reset, Fetch, Store, Take, Put, Request}
 use Rattle.im_types.specs.Types.{Command, Outcome, Asks, Confirm, Refusal, Contents, kept_for, IsMemory, address_of}
 use Rattle.im_types.specs.Types.{store, put, act, asker, is_accepted}
 use Rattle.{im_laws.proofs.Tests.and_both, im_laws.proofs.Tests.true_false, im_groups.specs.Commands.answer_with}
-use Rattle.im_dialogue.proofs.{ReachLemmas.cell_after, ReachLemmas.none_after, ReachLemmas.resumed_here}
-use Rattle.im_dialogue.proofs.{ReachLemmas.told_accepted, WatchLemmas.quiet_resumes}
-use Rattle.im_dialogue.specs.declared.answers.LineAnswer.{LineAnswer}
+use Rattle.im_asks.specs.{declared.AskedCommand.AskedCommand, Lists.commands_asked}
+use Rattle.im_dialogue.proofs.ReachLemmas.{cell_after, none_after, resumed_here, told_accepted}
+use Rattle.im_dialogue.{proofs.WatchLemmas.quiet_resumes, specs.declared.answers.LineAnswer.LineAnswer}
 use Rattle.im_dialogue.specs.Firsts.{asks_for, is_first, may_reach}
-use Rattle.im_dialogue.specs.Together.{first_text, GroupStart, later_texts, memory_between, places_between, TellsWatchers}
+use Rattle.im_dialogue.specs.Together.{GroupStart, later_texts, memory_between, places_between, TellsWatchers}
 use Rattle.im_dialogue.specs.Together.{TellWatchers}
 use Rattle.im_dialogue.specs.Watching.{answers_nobody, nows_text, resumed_by, told_with, watch_text}
 use Rattle.im_dialogue.specs.declared.answers.LineAnswer.TheVariants as answer
@@ -163,3 +163,20 @@ first_asked ahead all rest is = ap (take (length ahead)) (sym is) ∙ front ahea
     front : (xs : List Command) → take (length xs) (xs ++ rest) ≡ xs
     front [] = refl
     front (x ∷ xs) = ap (λ (l : List Command). x ∷ l) (front xs)
+
+pub ahead_next : (asked : List AskedCommand) (i : ℕ) (d : AskedCommand) (ahead now : List Command) → i < length asked
+    → ahead ++ commands_asked (drop i asked) ≡ commands_asked asked → now ≡ ahead ++ (get_or asked i d).command ∷ []
+    → now ++ commands_asked (drop (i + 1) asked) ≡ commands_asked asked
+ahead_next asked i d ahead now within all is =
+    let next : suc i ≡ i + 1 = omega arith in
+    ap (λ (l : List Command). l ++ commands_asked (drop (i + 1) asked)) is
+    ∙ append_assoc ahead ((get_or asked i d).command ∷ []) (commands_asked (drop (i + 1) asked))
+    ∙ ap (λ (n : ℕ). ahead ++ ((get_or asked i d).command ∷ commands_asked (drop n asked))) (sym next)
+    ∙ ap (λ (l : List AskedCommand). ahead ++ commands_asked l) (sym (drop-cons asked i d within))
+    ∙ all
+
+-- of one at least, if the first is known
+pub some_ahead : (ahead : List Command) (known : Bool) → (length ahead ≡ 0 → known ≡ true) → known ≡ false
+    → 0 < length ahead
+some_ahead [] known first not = absurd (true_false (sym (first refl) ∙ not))
+some_ahead (c ∷ ahead) known first not = omega arith

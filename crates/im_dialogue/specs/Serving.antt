@@ -1,13 +1,12 @@
 -- What the methods of a dialogue come to. (Own.)
-use Rattle.std.specs.Prelude.{◌≡◌, ℕ, Bool, List, ◌++◌, MatchResult, Some, None, Option, Result, string_bytes, option_map}
+use Rattle.std.specs.Prelude.{◌≡◌, ℕ, Bool, List, ◌++◌, MatchResult, Some, None, string_bytes, Option, Result}
+use Rattle.std.specs.Prelude.{option_map}
 use Rattle.std.specs.Io.KnownBytes.{append_known, Appends}
-use Rattle.im_disk.specs.declared.Disk.{Ghosts}
-use Rattle.im_asks.specs.declared.AskedCommand.{AskedCommand}
-use Rattle.im_dialogue.specs.{Backups.Backup, Dialogue.TalkClosed}
+use Rattle.{im_disk.specs.declared.Disk.Ghosts, im_asks.specs.declared.AskedCommand.AskedCommand}
+use Rattle.im_dialogue.specs.{Backups.Backup, Dialogue.TalkClosed, Together.questions_asked}
 use Rattle.im_dialogue.specs.declared.{asking.Question.Question, serving.Dialogue.Dialogue}
 use Rattle.im_dialogue.specs.Hearing.{asked_after, asking, left_behind, questions_in, questions_left}
 use Rattle.im_dialogue.specs.Talk.{Outputs, outputs, TalkEnds, TalksOn, with_input, with_left}
-use Rattle.im_dialogue.specs.Together.{questions_asked}
 
 -- a dialogue was served to its end with these bytes as input, and closed
 abbrev pub ClosesDialogue : {D : Type 0} → Ghosts D → Dialogue D → Option (List ℕ) → D → Outputs → Outputs → ℕ → Type 0

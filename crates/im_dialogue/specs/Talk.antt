@@ -1,6 +1,6 @@
 -- A dialogue over a session: what was asked, what it was answered, and what was put. (Own.)
-use Rattle.std.specs.Prelude.{◌≡◌, ℕ, zero, suc, ◌+◌, ◌≤◌, Bool, true, false, ◌⊎◌, List, [], ◌∷◌, ◌++◌, length, take}
-use Rattle.std.specs.Prelude.{IfOk, MatchOption, MatchResult, Some, None, Ok, Err, Option, Result}
+use Rattle.std.specs.Prelude.{◌≡◌, ℕ, zero, suc, ◌+◌, ◌≤◌, Bool, true, false, ◌⊎◌, List, [], ◌∷◌, ◌++◌, length, IfOk}
+use Rattle.std.specs.Prelude.{MatchOption, MatchResult, Some, None, Ok, Err, Option, Result}
 use Rattle.std.specs.Io.KnownBytes.{Appends}
 use Rattle.im_types.specs.Types.{Command, Outcome, Refusal, JournalFull, Device, Failed, MAX_GROUP, Contents, bounds}
 use Rattle.im_types.specs.Types.{step, is_accepted, after, layout_in_use}
@@ -13,7 +13,7 @@ use Rattle.im_dialogue.specs.{declared.backups.BackupFault.BackupFault, Watching
 use Rattle.im_dialogue.specs.declared.{about.About.About, answers.LineAnswer.LineAnswer, asking.Question.Question}
 use Rattle.im_dialogue.specs.declared.answers.LineAnswer.TheVariants.{About as Facts, Backup as BackedUp, Count, Looked}
 use Rattle.im_dialogue.specs.declared.answers.LineAnswer.TheVariants.{Room, Served, Turned, Window, Wrong}
-use Rattle.im_dialogue.specs.Hearing.{asking, Hears, HearsSome, left_behind, questions_left}
+use Rattle.im_dialogue.specs.Hearing.{Hears, HearsSome, questions_left}
 use Rattle.im_dialogue.specs.declared.asking.Question.TheVariants as asks
 
 -- ---- what was said

@@ -1,7 +1,6 @@
 -- What is said by the answers to a group. (Own.)
 use Rattle.std.specs.Prelude.{◌≡◌, ℕ, Bool, List, [], Option}
-use Rattle.im_types.specs.Types.{Command, after}
-use Rattle.im_groups.specs.Commands.{commands_at}
+use Rattle.{im_types.specs.Types.Command, im_types.specs.Types.after, im_groups.specs.Commands.commands_at}
 use Rattle.{im_checkpoint.specs.declared.TurnDone.TurnDone, im_turning.specs.Turning.TurnsLead}
 use Rattle.im_dialogue.specs.declared.asking.Question.{Question}
 use Rattle.im_dialogue.specs.Talk.{AreAnswered, backups_of, Exchange, put_of, questions_of, stands_behind, texts_of}

@@ -4,13 +4,10 @@ use Rattle.im_types.specs.Types.{Command, Outcome, Served, Refusal, Contents, as
 use Rattle.im_groups.specs.Commands.{answer_with, answers_with, commands_at, contents_after_all, left_after, places}
 use Rattle.im_asks.specs.declared.{AskedCommand.AskedCommand, ToldAnswer.ToldAnswer}
 use Rattle.im_asks.specs.Lists.{answers_told, asks_told, commands_told}
-use Rattle.im_engine.specs.State.{EngineState}
+use Rattle.{im_engine.specs.State.EngineState, im_session.specs.Serving.served_answer}
 use Rattle.im_turning.specs.Turning.{IsSpent, Point, point_of}
-use Rattle.im_session.specs.Serving.{served_answer}
-use Rattle.im_dialogue.specs.Answers.{served_line}
-use Rattle.im_dialogue.specs.{Asking.asked_of, declared.answers.LineAnswer.LineAnswer}
-use Rattle.im_dialogue.specs.declared.asking.Question.{Question}
-use Rattle.im_dialogue.specs.Talk.{point_behind}
+use Rattle.im_dialogue.specs.{Answers.served_line, Asking.asked_of, Talk.point_behind}
+use Rattle.im_dialogue.specs.declared.{answers.LineAnswer.LineAnswer, asking.Question.Question}
 use Rattle.im_dialogue.specs.Watching.{told_with, watch_text}
 use Rattle.im_dialogue.specs.declared.asking.Question.TheVariants as asks
 use Rattle.im_dialogue.specs.declared.answers.LineAnswer.TheVariants as answer

@@ -4,8 +4,6 @@ use Rattle.im_types.specs.Types.{Kind, Op, Reply, Waiter, Answered, Store, Put, 
 use Rattle.im_types.specs.Types.{same_kind, act, asker, is_accepted}
 use Rattle.im_text.specs.Printing.{now_line}
 use Rattle.im_dialogue.specs.declared.answers.LineAnswer.{LineAnswer, TheVariants.Served}
-use Rattle.im_dialogue.specs.declared.asking.Question.{Question}
-use Rattle.im_dialogue.specs.declared.asking.Question.TheVariants as asks
 
 -- E.N now REPLY: the answer to a request that waited
 abbrev pub told_now : Waiter × Reply → List ℕ

@@ -3,11 +3,10 @@
 //! A line is read and parsed once. A command is asked of the front, and its answer waits for those ahead of it. Any other
 //! line is answered behind all that is asked. Answers are told as a text, which is put out once no whole line is left in
 //! the reader's buffer.
-ghost use Rattle.std.specs.Prelude.{◌≡◌, ◌<◌, false, [], ◌∷◌, length, IfOk, OnOk, Some, None};
+ghost use Rattle.std.specs.Prelude.{◌≡◌, ◌<◌, true, false, List, [], length, IfOk, OnOk, Some, None};
 ghost use Rattle.{im_asks.specs.declared.TheConstants.MOST_ASKED, im_session.specs.Kept.Kept};
 ghost use Rattle.im_turning.specs.Turning.{IsSpent, point_of};
-ghost use Rattle.im_dialogue.specs.{Asking.asked_of, Asking.command_in};
-ghost use Rattle.im_dialogue.specs.declared.asking.Question.TheVariants.{Serve};
+ghost use Rattle.im_dialogue.specs.{Asking.asked_of, Asking.command_in, declared.asking.Question.TheVariants.Serve};
 ghost use Rattle.im_dialogue.specs.{Talk.outputs, Together.AreAsked, Together.LineAsksFor};
 
 use crate::asking::{Question, read_asked};
@@ -69,7 +68,9 @@ fn command_in(asked: Option<Question>) -> Option<Command>
 
 impl<D: Disk> Dialogue<D> {
     ghost use Rattle.std.specs.Prelude.{string_bytes};
-    ghost use Rattle.im_dialogue.specs.Serving.{ServesAll, TalksLine, TalksNext, TalksWithin};
+    ghost use Rattle.im_text.specs.Printing.{Begins};
+    ghost use Rattle.im_dialogue.specs.Backups.{Backup};
+    ghost use Rattle.im_dialogue.specs.Serving.{PutsOut, ServesAll, TalksLine, TalksNext, TalksWithin};
 
     /// Begins a dialogue with a session. It has served no line.
     pub fn new(alloc: Global, session: Session<D>, setting: Setting) -> Dialogue<D>
@@ -379,9 +380,24 @@ impl<D: Disk> Dialogue<D> {
         }
     }
 
-    // Returns whether what was told has to be put out: nothing more is there to be read, or it is much.
+    // Returns whether what was told has to be put out: no whole line is there to be read, or it is much.
     fn is_due(&self) -> bool {
         !self.more || self.drafts.draft.text.len() >= MUCH
+    }
+
+    // Puts out what was told, if that is due.
+    fn put_due<W: Write>(&mut self, out: &mut W) -> Result<(), Reason>
+        ensures put { OnOk result (PutsOut (string_bytes self.old.drafts.draft.text)
+            (string_bytes self.new.drafts.draft.text) (W.contents out.old) (W.contents out.new)) }
+        ensures begins { Begins (W.contents out.old) (W.contents out.new) (string_bytes self.old.drafts.draft.text) }
+        ensures front { self.new.front ≡ self.old.front }
+        ensures same { self.new.setting ≡ self.old.setting }
+    {
+        if self.is_due() {
+            self.drafts.draft.put_out(out)
+        } else {
+            Ok(())
+        }
     }
 
     /// Serves a dialogue, until the input ends or `quit` is asked. Each line of the input is answered by

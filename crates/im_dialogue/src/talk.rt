@@ -1,8 +1,8 @@
 //! Does what a line asks that is no command.
 ghost use Rattle.std.specs.Prelude.{◌≡◌, ◌≤◌, true, ◌++◌, IfOk, OnOk, Some, None};
 ghost use Rattle.im_front.specs.State.{FrontRests};
-ghost use Rattle.im_dialogue.specs.declared.asking.Question.TheVariants.{Backup, Count, Room, Turn, Window};
 ghost use Rattle.im_dialogue.specs.{Asking.command_in, declared.look.Look.Look};
+ghost use Rattle.im_dialogue.specs.declared.asking.Question.TheVariants.{Backup, Count, Room, Turn, Window};
 ghost use Rattle.im_dialogue.specs.Talk.{about_of, AnswersOrHalts, backup_by, KeepsAnswered, KeepsNone, OnlyTurned};
 ghost use Rattle.im_dialogue.specs.Talk.{SaysNow, SaysOrHalts};
 ghost use Rattle.im_dialogue.specs.declared.answers.LineAnswer.TheVariants as answer;

@@ -203,7 +203,7 @@ fn add_nows(
     let mut ahead = ArrayVec::new();
     for one in asked {
         if ahead.len() >= MAX_GROUP {
-            return Ok(MAX_GROUP);
+            return Ok(ahead.len());
         }
         let mut now = String::new(alloc);
         let known = add_told(memory, ahead.as_slice(), &one.command, &mut now)?;

@@ -1,9 +1,8 @@
 -- A front: a session, and what is asked of it in order. (Own.)
-use Rattle.std.specs.Prelude.{◌≡◌, ℕ, ◌<◌, ◌≤◌, max, List, ◌++◌, length}
-use Rattle.im_groups.specs.Commands.{places}
+use Rattle.std.specs.Prelude.{◌≡◌, ◌<◌, ◌≤◌, max, List, ◌++◌, length}
+use Rattle.{im_groups.specs.Commands.places, im_engine.specs.Commands.CommandsAnswered}
 use Rattle.im_asks.specs.declared.{AskedCommand.AskedCommand, ToldAnswer.ToldAnswer}
 use Rattle.im_asks.specs.Lists.{answers_told, asks_told, commands_told}
-use Rattle.im_engine.specs.Commands.{CommandsAnswered}
 use Rattle.im_session.specs.{Kept.SessionState, Serving.Rests, Serving.served_together}
 
 -- a session, and what is asked of it and not told yet, the oldest command first

@@ -1,7 +1,7 @@
 //! A session with its queue: who asks, and what is looked at.
 ghost use Rattle.std.specs.Prelude.{◌≡◌, ◌<◌, ◌≤◌, [], ◌∷◌, ◌++◌, length, ◌==◌};
-ghost use Rattle.im_session.specs.Kept.{Kept};
 ghost use Rattle.im_asks.specs.{declared.asks.TheConstants.MOST_ASKED, Lists.with_ticket};
+ghost use Rattle.im_session.specs.Kept.{Kept};
 ghost use Rattle.im_front.specs.State.{front_of};
 
 use im_asks::{AskedCommand, Asks};

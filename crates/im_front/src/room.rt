@@ -1,7 +1,7 @@
 //! Makes room in the journal for a group.
 ghost use Rattle.std.specs.Prelude.{◌≡◌, min, true, length, IfErr, OnOk};
-ghost use Rattle.{im_types.specs.Types.MAX_GROUP, im_turning.specs.Turning.HasMadeRoom};
-ghost use Rattle.{im_turning.specs.Turning.point_of, im_session.specs.Serving.IsBroken};
+ghost use Rattle.{im_types.specs.Types.MAX_GROUP, im_session.specs.Serving.IsBroken};
+ghost use Rattle.im_turning.specs.Turning.{HasMadeRoom, point_of};
 ghost use Rattle.im_front.specs.State.{FrontRests};
 
 use crate::front::Front;

@@ -1,5 +1,6 @@
 //! Turns of a checkpoint, whatever is asked. They put nothing, and tell nothing.
-ghost use Rattle.{im_engine.specs.Answered.TurnAnswered, im_front.specs.State.FrontRests};
+ghost use Rattle.im_engine.specs.Answered.{TurnAnswered};
+ghost use Rattle.im_front.specs.State.{FrontRests};
 
 use crate::front::Front;
 use im_checkpoint::TurnDone;

@@ -1,6 +1,6 @@
-use Rattle.std.proofs.Common.{◌≡◌, length, List, [], ◌++◌, string_bytes, sym, ap, ◌∙◌, subst, rules}
+use Rattle.std.proofs.Common.{◌≡◌, List, [], ◌++◌, length, string_bytes, sym, ap, ◌∙◌, subst, rules}
 use Rattle.im_types.specs.Types.{Command, Contents}
-use Rattle.im_dialogue.{proofs.WatchedLemmas.told_alone, proofs.WatchedLemmas.no_command}
+use Rattle.im_dialogue.proofs.WatchedLemmas.{no_command, told_alone}
 use Rattle.im_dialogue.specs.{Together.TellsWatchers, Watching.nows_text, Watching.resumed_by}
 use Rattle.im_dialogue.proofs.watching.add_told.Goals as goal
 

@@ -1,7 +1,6 @@
-use Rattle.std.proofs.Common.{take, subst}
-use Rattle.im_asks.specs.Lists.{commands_asked}
+use Rattle.std.proofs.Common.{map, take, string_bytes, subst}
+use Rattle.{im_types.specs.Types.MAX_GROUP, im_asks.specs.Lists.commands_asked}
 use Rattle.im_dialogue.proofs.WatchedLemmas.{tell_nobody}
-use Rattle.im_dialogue.proofs.watching.make_nows.Goals as goal
 
-pub returns-else-watch-clause-known : goal.returns-else-watch-clause-known
+pub returns-else-watch-clause-known : Rattle.im_dialogue.proofs.watching.make_nows.Goals.returns-else-watch-clause-known
 returns-else-watch-clause-known c = ?
