@@ -273,10 +273,10 @@ asked_line (Some bytes) b line (rest, there, is) =
     ∙ ap (λ (l : List (Option Question)). Some (until_quit l)) (sym is)
 
 pub asked_nothing : (a b : Option (List ℕ)) (line : List ℕ) → ReadsLine false a b line
-    → IfSome (questions_left a) (λ l. asked_after 0 b ≡ Some l)
+    → IfSome (questions_left a) (λ l. left_behind false (option_map questions_in b) ≡ Some l)
 asked_nothing None b line it = tt
 asked_nothing (Some bytes) b line (rest, there, is) =
-    ap (λ (o : Option (List ℕ)). asked_after 0 o) there
+    ap (λ (o : Option (List ℕ)). left_behind false (option_map questions_in o)) there
     ∙ ap (λ (l : List (Option Question)). Some (until_quit l)) (sym is)
 
 -- what is left, by whether the dialogue continues

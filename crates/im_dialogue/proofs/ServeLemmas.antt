@@ -1,7 +1,8 @@
 -- What the calls of a dialogue come to.
 use Rattle.std.proofs.Common.{◌≡◌, ℕ, zero, suc, ◌+◌, ◌<◌, ◌≤◌, min, Bool, true, false, List, [], ◌∷◌, ◌++◌, length}
-use Rattle.std.proofs.Common.{take, OnOk, Some, None, Ok, Err, Option, Result, MatchResult, sym, refl, ap, ◌∙◌, subst}
-use Rattle.std.proofs.Common.{append_assoc, append-nil, arith, take-take, take_at}
+use Rattle.std.proofs.Common.{take, IfSome, OnOk, Some, None, Ok, Err, string_bytes, Option, Result, option_map}
+use Rattle.std.proofs.Common.{MatchResult, sym, refl, ap, ◌∙◌, subst, append_assoc, append-nil, arith, take-take}
+use Rattle.std.proofs.Common.{take_at}
 use Rattle.std.proofs.{KnownBytes.Appends-trans, lemmas.List.length-map, lemmas.List.map-append}
 use Rattle.std.specs.Io.KnownBytes.{append_known, Appends}
 use Rattle.im_types.specs.Types.{Command, MAX_GROUP, LAST}
@@ -12,11 +13,15 @@ use Rattle.{im_session.specs.Kept.SessionState, im_text.specs.Printing.Begins}
 use Rattle.im_front.specs.State.{Advanced, FrontRests, FrontState}
 use Rattle.im_dialogue.proofs.GroupTalk.{done_by, group_cut, group_halts, group_on, worked}
 use Rattle.im_dialogue.proofs.HearingLemmas.{heard_some, hears_as, same_left}
-use Rattle.im_dialogue.proofs.TalkLemmas.{end_here, ends_after, halts_talk, Left, nothing_said, nothing_talked}
-use Rattle.im_dialogue.proofs.TalkLemmas.{on_after, rests_halts, take-past, taken_said}
-use Rattle.im_dialogue.proofs.ToldLemmas.{asked_split, fits_told, hears_told, lines_exist, same_alone, says_told}
-use Rattle.im_dialogue.{proofs.WatchedLemmas.tell_first, specs.Backups.Backup, specs.Hearing.Hears}
-use Rattle.im_dialogue.specs.Serving.{behind_asked, PutsOut, told_onto, told_so}
+use Rattle.im_dialogue.proofs.TalkLemmas.{end_here, ends_after, halts_talk, Left, left_as, nothing_said, nothing_talked}
+use Rattle.im_dialogue.proofs.TalkLemmas.{on_after, rests_halts, take-past, taken_said, then_talks, to_left}
+use Rattle.im_dialogue.proofs.ToldLemmas.{asked_split, fits_told, hears_told, lines_exist, same_alone, same_behind}
+use Rattle.im_dialogue.proofs.ToldLemmas.{says_told}
+use Rattle.im_dialogue.{proofs.WatchedLemmas.tell_first, specs.Backups.Backup}
+use Rattle.im_dialogue.specs.declared.{asking.Question.Question, serving.Dialogue.Dialogue, serving.Setting.Setting}
+use Rattle.im_dialogue.specs.Hearing.{asking, Hears, left_behind, questions_in, questions_left}
+use Rattle.im_dialogue.specs.Serving.{behind_asked, PutsOut, TalksLine, TalksNext, TalksWithin, told_by_it, told_onto}
+use Rattle.im_dialogue.specs.Serving.{told_so}
 use Rattle.im_dialogue.specs.Talk.{OnlyTurned, Outputs, outputs, TalkEnds, TalksOn, with_left}
 use Rattle.im_dialogue.specs.Together.{AreAsked, AreLinesOf, group_start, questions_asked, TellWatchers, WasTold}
 
@@ -315,3 +320,115 @@ pub lines_as : (told other : List ToldAnswer) (nows others : List (List ℕ)) (t
 lines_as told other nows others text same alike lines =
     subst (λ (l : List ToldAnswer). AreLinesOf l others text) same
     (subst (λ (l : List (List ℕ)). AreLinesOf told l text) alike lines)
+
+-- ---- one call behind another
+
+module _ {D E : Type 0} (old mid new : Dialogue D) (was is : List Backup) (same : mid.setting ≡ old.setting) where
+  -- the watch of the first holds of both
+  by_watch : {T : Type 0} (r : Result T E) (been : Outputs) (later : T → Outputs) (end : Outputs)
+      → MatchResult r (λ t. TalksOn mid.setting.watch mid.front.session been new.front.session (later t))
+      (λ e. TalkEnds mid.setting.watch mid.front.session been new.front.session end)
+      → MatchResult r (λ t. TalksOn old.setting.watch mid.front.session been new.front.session (later t))
+      (λ e. TalkEnds old.setting.watch mid.front.session been new.front.session end)
+  by_watch r been later end it =
+      subst (λ (s : Setting). MatchResult r (λ t. TalksOn s.watch mid.front.session been new.front.session (later t))
+      (λ e. TalkEnds s.watch mid.front.session been new.front.session end)) same it
+
+  -- a line behind all that was asked
+  pub then_line : (asked : Option Question) (r : Result Bool E)
+      → ((kept : List Backup) (left : Left) → TalksOn old.setting.watch old.front.session (told_by_it old kept left)
+      mid.front.session (told_by_it mid kept left))
+      → TalksLine asked mid was new is r → TalksLine asked old was new is r
+  then_line asked r first line = λ rest.
+      then_talks old.setting.watch old.front.session mid.front.session new.front.session
+      (told_by_it old was (asking asked rest)) (told_by_it mid was (asking asked rest))
+      (λ goes_on. told_by_it new is (left_behind goes_on rest)) (told_by_it new is None) r
+      (first was (asking asked rest))
+      (by_watch r (told_by_it mid was (asking asked rest)) (λ goes_on. told_by_it new is (left_behind goes_on rest))
+      (told_by_it new is None) (line rest))
+
+  -- the next line behind a rest
+  pub then_next : (known mid_known later : Option (List ℕ)) (r : Result Bool E) → mid_known ≡ known
+      → ((kept : List Backup) (left : Left) → TalksOn old.setting.watch old.front.session (told_by_it old kept left)
+      mid.front.session (told_by_it mid kept left))
+      → TalksNext mid was mid_known new is later r → TalksNext old was known new is later r
+  then_next known mid_known later r alike first next =
+      then_talks old.setting.watch old.front.session mid.front.session new.front.session
+      (told_by_it old was (questions_left known)) (told_by_it mid was (questions_left known))
+      (λ goes_on. told_by_it new is (left_behind goes_on (option_map questions_in later))) (told_by_it new is None) r
+      (first was (questions_left known))
+      (by_watch r (told_by_it mid was (questions_left known))
+      (λ goes_on. told_by_it new is (left_behind goes_on (option_map questions_in later))) (told_by_it new is None)
+      (subst (λ (k : Option (List ℕ)). TalksNext mid was k new is later r) alike next))
+
+-- the next line is the line that was read
+pub line_next : {D E : Type 0} (old new : Dialogue D) (was is : List Backup) (known later : Option (List ℕ))
+    (asked : Option Question) (r : Result Bool E)
+    → IfSome (questions_left known) (λ l. asking asked (option_map questions_in later) ≡ Some l)
+    → TalksLine asked old was new is r → TalksNext old was known new is later r
+line_next old new was is known later asked r read line =
+    let rest = option_map questions_in later in
+    let text = outputs (Some (string_bytes old.drafts.draft.text)) was in
+    then_talks old.setting.watch old.front.session old.front.session new.front.session
+    (told_by_it old was (questions_left known)) (told_by_it old was (asking asked rest))
+    (λ goes_on. told_by_it new is (left_behind goes_on rest)) (told_by_it new is None) r
+    (left_as old.setting.watch old.front.session text (behind_asked old.front.asked (questions_left known))
+    (behind_asked old.front.asked (asking asked rest))
+    (same_behind old.front.asked (questions_left known) (asking asked rest) read)) (line rest)
+
+-- all that was asked was served, at the end of the input
+pub end_next : {D : Type 0} (old new : Dialogue D) (kept : List Backup) (known later : Option (List ℕ))
+    → IfSome (questions_left known) (λ l. left_behind false (option_map questions_in later) ≡ Some l)
+    → ((left : Left) → TalksOn old.setting.watch old.front.session (told_by_it old kept left) new.front.session
+    (told_by_it new kept left))
+    → TalksOn old.setting.watch old.front.session (told_by_it old kept (questions_left known)) new.front.session
+    (told_by_it new kept (left_behind false (option_map questions_in later)))
+end_next old new kept known later read on =
+    to_left old.setting.watch old.front.session new.front.session (told_by_it old kept (questions_left known))
+    (outputs (Some (string_bytes new.drafts.draft.text)) kept) (behind_asked new.front.asked (questions_left known))
+    (behind_asked new.front.asked (left_behind false (option_map questions_in later)))
+    (same_behind new.front.asked (questions_left known) (left_behind false (option_map questions_in later)) read)
+    (on (questions_left known))
+
+module _ {D E : Type 0} (old new : Dialogue D) (was is : List Backup) (known later : Option (List ℕ)) (r : Result Bool E)
+    (next : TalksNext old was known new is later r) where
+  -- a line was served, or there was none
+  pub next_ok : (goes_on test : Bool) → r ≡ Ok goes_on → goes_on ≡ test
+      → TalksOn old.setting.watch old.front.session (told_by_it old was (questions_left known)) new.front.session
+      (told_by_it new is (left_behind test (option_map questions_in later)))
+  next_ok goes_on test at same =
+      subst (λ (b : Bool). TalksOn old.setting.watch old.front.session (told_by_it old was (questions_left known))
+      new.front.session (told_by_it new is (left_behind b (option_map questions_in later)))) same
+      (subst (λ (x : Result Bool E). TalksNext old was known new is later x) at next)
+
+  pub next_err : (e : E) → r ≡ Err e
+      → TalkEnds old.setting.watch old.front.session (told_by_it old was (questions_left known)) new.front.session
+      (told_by_it new is None)
+  next_err e at = subst (λ (x : Result Bool E). TalksNext old was known new is later x) at next
+
+-- all that is asked was served behind a line
+module _ {D E T : Type 0} (old mid new : Dialogue D) (was is : List Backup) (known : Left) (left : Left)
+    (same : mid.setting ≡ old.setting)
+    (on : TalksOn old.setting.watch old.front.session (told_by_it old was known) mid.front.session
+    (told_by_it mid is left)) (r : Result T E) (within : TalksWithin mid new r) where
+  pub settled_ok : (x : T) → r ≡ Ok x
+      → TalksOn old.setting.watch old.front.session (told_by_it old was known) new.front.session (told_by_it new is left)
+  settled_ok x at = on_after old.setting.watch old.front.session mid.front.session new.front.session
+      (told_by_it old was known) (told_by_it mid is left) (told_by_it new is left) on
+      (subst (λ (s : Setting). TalksOn s.watch mid.front.session (told_by_it mid is left) new.front.session
+      (told_by_it new is left)) same (subst (λ (y : Result T E). TalksWithin mid new y) at within is left))
+
+  pub settled_err : (e : E) → r ≡ Err e
+      → TalkEnds old.setting.watch old.front.session (told_by_it old was known) new.front.session
+      (told_by_it new is None)
+  settled_err e at = ends_after old.setting.watch old.front.session mid.front.session new.front.session
+      (told_by_it old was known) (told_by_it mid is left) (told_by_it new is None) on
+      (subst (λ (s : Setting). TalkEnds s.watch mid.front.session (told_by_it mid is left) new.front.session
+      (told_by_it new is None)) same (subst (λ (y : Result T E). TalksWithin mid new y) at within is left))
+
+-- all of it was put out
+pub put_whole : {T E : Type 0} (r : Result T E) (was is : List ℕ) (held now : Option (List ℕ))
+    → OnOk r (Appends held now was) → is ≡ [] → OnOk r (PutsOut was is held now)
+put_whole (Ok x) was is held now whole none =
+    (was, (whole, sym (append-nil was) ∙ ap (λ (l : List ℕ). was ++ l) (sym none)))
+put_whole (Err e) was is held now whole none = tt

@@ -1,7 +1,6 @@
 use Rattle.std.proofs.Common.{None, subst}
 use Rattle.im_turning.proofs.TurningLemmas.{spent_behind}
-use Rattle.im_dialogue.proofs.ServeLemmas.{turns_failed, turns_told}
-use Rattle.im_dialogue.proofs.TalkLemmas.{then_talks}
+use Rattle.im_dialogue.proofs.{ServeLemmas.turns_failed, ServeLemmas.turns_told, TalkLemmas.then_talks}
 use Rattle.im_dialogue.specs.Serving.{told_by_it, told_so}
 use Rattle.im_dialogue.proofs.serving.Dialogue.advance.Goals as goal
 

@@ -2,8 +2,8 @@ use Rattle.std.proofs.Common.{true, List, [], ◌∷◌, ◌++◌, Some, string_
 use Rattle.im_asks.specs.{declared.AskedCommand.AskedCommand, Lists.with_ticket}
 use Rattle.im_front.specs.State.{front_of, FrontState}
 use Rattle.im_dialogue.proofs.{TalkLemmas.to_left, ToldLemmas.asked_more, ToldLemmas.asks_more}
-use Rattle.im_dialogue.specs.{Hearing.asking, Hearing.left_behind, Serving.behind_asked, Serving.told_by_it}
-use Rattle.im_dialogue.specs.{Serving.told_so, Talk.outputs, Talk.TalksOn, Together.AreAsked}
+use Rattle.im_dialogue.specs.{Hearing.asking, Hearing.left_behind, Talk.outputs, Talk.TalksOn, Together.AreAsked}
+use Rattle.im_dialogue.specs.Serving.{behind_asked, told_by_it, told_so}
 use Rattle.im_dialogue.specs.declared.asking.Question.TheVariants as asks
 use Rattle.im_dialogue.proofs.serving.Dialogue.ask.Goals as goal
 

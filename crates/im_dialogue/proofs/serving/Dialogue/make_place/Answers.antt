@@ -1,5 +1,4 @@
-use Rattle.im_dialogue.proofs.TalkLemmas.{goes_talk, nothing_said}
-use Rattle.im_dialogue.specs.Serving.{told_by_it}
+use Rattle.im_dialogue.{proofs.TalkLemmas.goes_talk, proofs.TalkLemmas.nothing_said, specs.Serving.told_by_it}
 use Rattle.im_dialogue.proofs.serving.Dialogue.make_place.Goals as goal
 
 pub returns-then-branch-clause-talks : goal.returns-then-branch-clause-talks

@@ -1,6 +1,5 @@
-use Rattle.im_dialogue.proofs.{HearingLemmas.on_default, ServeLemmas.turns_failed, ServeLemmas.turns_told}
-use Rattle.im_dialogue.proofs.TalkLemmas.{goes_talk, nothing_said}
-use Rattle.im_dialogue.specs.Serving.{told_by_it}
+use Rattle.im_dialogue.proofs.{HearingLemmas.on_default, TalkLemmas.goes_talk, TalkLemmas.nothing_said}
+use Rattle.im_dialogue.{proofs.ServeLemmas.turns_failed, proofs.ServeLemmas.turns_told, specs.Serving.told_by_it}
 use Rattle.im_dialogue.proofs.serving.Dialogue.rest.Goals as goal
 
 pub returns-then-more-clause-talks : goal.returns-then-more-clause-talks

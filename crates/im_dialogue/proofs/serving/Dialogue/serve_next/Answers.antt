@@ -1,14 +1,30 @@
-use Rattle.std.proofs.Common.{true, false, None, option_map, string_bytes}
-use Rattle.im_dialogue.proofs.HearingLemmas.{asked_line, asked_nothing, left_zero, same_left}
-use Rattle.im_dialogue.proofs.TalkLemmas.{ends_after, from_left, left_as, on_after, talk_ends_here, to_left}
-use Rattle.im_dialogue.proofs.ToldLemmas.{same_behind}
-use Rattle.im_dialogue.specs.{Asking.asked_of, Serving.behind_asked, Serving.told_by_it}
-use Rattle.im_dialogue.specs.Hearing.{asked_after, asking, left_behind, questions_in, questions_left}
-use Rattle.im_dialogue.specs.Talk.{outputs}
+use Rattle.std.proofs.Common.{true, false, None}
+use Rattle.im_dialogue.proofs.HearingLemmas.{asked_line, asked_nothing}
+use Rattle.im_dialogue.proofs.{ServeLemmas.end_next, ServeLemmas.line_next, TalkLemmas.talk_ends_here}
+use Rattle.im_dialogue.specs.{Asking.asked_of, Hearing.questions_left, Serving.told_by_it}
 use Rattle.im_dialogue.proofs.serving.Dialogue.serve_next.Goals as goal
 
-pub returns-in-Ok-true-serve_line-clause-talks : goal.returns-in-Ok-true-serve_line-clause-talks
-returns-in-Ok-true-serve_line-clause-talks g c = ?
+pub returns-in-Ok-true-clause-talks : goal.returns-in-Ok-true-clause-talks
+returns-in-Ok-true-clause-talks g c =
+    let known = g.R.Read.remaining c.args.input.now in
+    let later = g.R.Read.remaining c.next_line.new.input in
+    let line = c.next_line.new.line.items in
+    line_next _ c.serve_line.new.self (g.B.Backups.kept c.args.backups.now) (g.B.Backups.kept c.serve_line.new.backups)
+    known later (asked_of line) c.serve_line.result
+    (asked_line known later line (rw c.in-Ok-true.field-0-test at c.in-Ok-true.ensures.read)) c.serve_line.ensures.talks
+
+pub returns-in-Ok-drain-clause-talks : goal.returns-in-Ok-drain-clause-talks
+returns-in-Ok-drain-clause-talks g c =
+    let known = g.R.Read.remaining c.args.input.now in
+    let later = g.R.Read.remaining c.next_line.new.input in
+    let kept = g.B.Backups.kept c.args.backups.now in
+    end_next _ c.drain.new.self kept known later
+    (asked_nothing known later c.next_line.new.line.items
+    (rw c.in-Ok-false.field-0-test at c.in-Ok-false.ensures.read)) (c.in-Ok-drain.ensures.talks kept)
+
+pub returns-in-Err-drain-clause-talks : goal.returns-in-Err-drain-clause-talks
+returns-in-Err-drain-clause-talks g c = c.in-Err-drain.ensures.talks (g.B.Backups.kept c.args.backups.now)
+    (questions_left (g.R.Read.remaining c.args.input.now))
 
 pub returns-in-Err-clause-talks : goal.returns-in-Err-clause-talks
 returns-in-Err-clause-talks g c =

@@ -1,11 +1,10 @@
 use Rattle.std.proofs.Common.{◌≡◌, true, false, List, [], Some, None, string_bytes, sym, ap, ◌∙◌, subst, append-nil}
-use Rattle.im_asks.specs.declared.AskedCommand.{AskedCommand}
-use Rattle.im_front.specs.State.{FrontState}
-use Rattle.im_dialogue.proofs.{HearingLemmas.hears_line, HearingLemmas.hears_quit, ToldLemmas.hears_alone}
-use Rattle.im_dialogue.proofs.{ToldLemmas.same_behind, WatchLemmas.alone_line}
+use Rattle.{im_asks.specs.declared.AskedCommand.AskedCommand, im_front.specs.State.FrontState}
+use Rattle.im_dialogue.proofs.{HearingLemmas.hears_line, HearingLemmas.hears_quit, WatchLemmas.alone_line}
 use Rattle.im_dialogue.proofs.TalkLemmas.{halts_talk, not_quit, quit_talk, talk_ends, talks_on}
-use Rattle.im_dialogue.specs.{Backups.Backup, declared.asking.Question.Question, Hearing.asking, Hearing.is_quit}
-use Rattle.im_dialogue.specs.{Hearing.left_behind, Serving.behind_asked, Serving.told_so}
+use Rattle.im_dialogue.proofs.ToldLemmas.{hears_alone, same_behind}
+use Rattle.im_dialogue.specs.{Backups.Backup, declared.asking.Question.Question, Serving.behind_asked, Serving.told_so}
+use Rattle.im_dialogue.specs.Hearing.{asking, is_quit, left_behind}
 use Rattle.im_dialogue.specs.Talk.{outputs, TalkEnds, TalksOn}
 use Rattle.im_dialogue.specs.declared.asking.Question.TheVariants as asks
 use Rattle.im_dialogue.proofs.serving.Dialogue.tell.Goals as goal
