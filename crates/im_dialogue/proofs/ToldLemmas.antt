@@ -1,7 +1,7 @@
 -- What was said by a group that was told.
 use Rattle.std.proofs.Common.{◌≡◌, ℕ, zero, suc, ◌+◌, ◌<◌, ◌≤◌, max, Bool, true, false, List, [], ◌∷◌, ◌++◌, map}
-use Rattle.std.proofs.Common.{length, get_or, drop, IfSome, ◌==◌, Some, None, Ok, Err, Option, Result, sym, refl, ap}
-use Rattle.std.proofs.Common.{◌∙◌, subst, inl, inr, append_assoc, append-nil, arith, length-append}
+use Rattle.std.proofs.Common.{length, get_or, drop, IfSome, IfOk, OnOk, ◌==◌, Some, None, Ok, Err, Option, Result, sym}
+use Rattle.std.proofs.Common.{refl, ap, ◌∙◌, subst, inl, inr, append_assoc, append-nil, arith, length-append}
 use Rattle.std.proofs.lemmas.{Bool.Decides.nat_tests, List.map-append}
 use Rattle.im_types.specs.Types.{Command, Outcome, Served, Refusal, LAST, as_served}
 use Rattle.im_groups.proofs.{CommandLemmas.left_behind, EnoughLemmas.at_most_members}
@@ -225,3 +225,29 @@ lines_end [] zero nows past = refl
 lines_end [] (suc i) nows past = refl
 lines_end (t ∷ told) zero nows past = absurd (omega (arith, past))
 lines_end (t ∷ told) (suc i) nows past = lines_end told i nows (omega (arith, past))
+
+-- ---- where nothing is asked
+
+pub none_asked : (asked : List AskedCommand) → asked ≡ [] → AreAsked asked
+none_asked asked none = subst AreAsked (sym none) tt
+
+pub asked_if : {T E : Type 0} (r : Result T E) (asked : List AskedCommand) → OnOk r (asked ≡ [])
+    → OnOk r (AreAsked asked)
+asked_if (Ok x) asked none = none_asked asked none
+asked_if (Err e) asked none = tt
+
+pub few_if : {T E : Type 0} (r : Result T E) (asked : List AskedCommand) (most : ℕ) → 0 < most → OnOk r (asked ≡ [])
+    → OnOk r (length asked < most)
+few_if (Ok x) asked most some none =
+    let same = ap (λ (l : List AskedCommand). length l) none in omega (arith, same, some)
+few_if (Err e) asked most some none = tt
+
+pub none_if : {E : Type 0} (r : Result Bool E) (asked : List AskedCommand) → OnOk r (asked ≡ [])
+    → IfOk r (λ goes_on. goes_on ≡ false → asked ≡ [])
+none_if (Ok x) asked none = λ ends. none
+none_if (Err e) asked none = tt
+
+pub never_if : {E : Type 0} (r : Result Bool E) (asked : List AskedCommand) → IfOk r (λ goes_on. goes_on ≡ true)
+    → IfOk r (λ goes_on. goes_on ≡ false → asked ≡ [])
+never_if (Ok x) asked goes = λ ends. let both : true ≡ false = sym goes ∙ ends in absurd (cc)
+never_if (Err e) asked goes = tt

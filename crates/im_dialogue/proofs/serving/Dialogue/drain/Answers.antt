@@ -1,4 +1,5 @@
 use Rattle.std.proofs.Common.{ℕ, List, length, None, Option, refl, ◌∙◌, subst, arith}
+use Rattle.im_asks.specs.declared.TheConstants.{MOST_ASKED}
 use Rattle.im_dialogue.proofs.ServeLemmas.{none_left}
 use Rattle.im_dialogue.proofs.TalkLemmas.{ends_after, goes_talk, nothing_said, on_after}
 use Rattle.im_dialogue.specs.{declared.serving.Setting.Setting, Serving.told_by_it, Talk.TalkEnds, Talk.TalksOn}
@@ -41,3 +42,7 @@ returns-in-Err-clause-talks g c = λ kept left.
     (told_by_it mid kept left) (told_by_it new kept None) (inv.talks kept left)
     (subst (λ (s : Setting). TalkEnds s.watch mid.front.session (told_by_it mid kept left) new.front.session
     (told_by_it new kept None)) inv.same (c.in-Err.ensures.talks kept left))
+
+pub returns-clause-none : goal.returns-clause-none
+returns-clause-none g c =
+    none_left c.loop-group.self.front.asked c.loop-group._group MOST_ASKED c.loop-group.invariant.few ?

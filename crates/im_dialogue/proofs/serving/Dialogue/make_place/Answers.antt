@@ -1,4 +1,6 @@
-use Rattle.im_dialogue.{proofs.TalkLemmas.goes_talk, proofs.TalkLemmas.nothing_said, specs.Serving.told_by_it}
+use Rattle.std.proofs.Common.{arith}
+use Rattle.im_dialogue.proofs.{TalkLemmas.goes_talk, TalkLemmas.nothing_said, ToldLemmas.asked_if, ToldLemmas.few_if}
+use Rattle.im_dialogue.specs.Serving.{told_by_it}
 use Rattle.im_dialogue.proofs.serving.Dialogue.make_place.Goals as goal
 
 pub returns-then-branch-clause-talks : goal.returns-then-branch-clause-talks
@@ -6,3 +8,9 @@ returns-then-branch-clause-talks g c = λ kept left.
     let old = c.args.self.now in
     goes_talk old.setting.watch old.front.session old.front.session (told_by_it old kept left)
     (nothing_said old.front.session)
+
+pub returns-clause-asked : goal.returns-clause-asked
+returns-clause-asked g c = asked_if c.drain.result c.drain.new.self.front.asked c.drain.ensures.none
+
+pub returns-clause-room : goal.returns-clause-room
+returns-clause-room g c = few_if c.drain.result c.drain.new.self.front.asked 64 (omega arith) c.drain.ensures.none

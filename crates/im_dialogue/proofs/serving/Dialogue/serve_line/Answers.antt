@@ -1,5 +1,6 @@
 use Rattle.std.proofs.Common.{◌≡◌, Some, None, Option, sym, ◌∙◌, subst, rules}
 use Rattle.im_dialogue.proofs.{TalkLemmas.talk_ends_here, WatchLemmas.command_some}
+use Rattle.im_dialogue.proofs.ToldLemmas.{asked_if, never_if, none_if}
 use Rattle.im_dialogue.specs.{Asking.asked_of, declared.asking.Question.Question, Hearing.asking}
 use Rattle.im_dialogue.specs.Serving.{TalksLine, told_by_it}
 use Rattle.im_dialogue.specs.declared.asking.Question.TheVariants as asks
@@ -31,3 +32,14 @@ returns-in-None-clause-talks g c =
     subst (λ (o : Option Question). TalksLine o c.args.self.now (g.B.Backups.kept c.args.backups.now)
     c.serve_alone.new.self (g.B.Backups.kept c.serve_alone.new.backups) c.serve_alone.result) (sym read)
     c.serve_alone.ensures.talks
+
+pub returns-in-None-clause-asked : goal.returns-in-None-clause-asked
+returns-in-None-clause-asked g c =
+    asked_if c.serve_alone.result c.serve_alone.new.self.front.asked c.serve_alone.ensures.none
+
+pub returns-in-None-clause-none : goal.returns-in-None-clause-none
+returns-in-None-clause-none g c =
+    none_if c.serve_alone.result c.serve_alone.new.self.front.asked c.serve_alone.ensures.none
+
+pub returns-in-Some-clause-none : goal.returns-in-Some-clause-none
+returns-in-Some-clause-none g c = never_if c.ask.result c.ask.new.self.front.asked c.ask.ensures.goes

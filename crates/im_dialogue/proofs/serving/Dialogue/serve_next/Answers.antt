@@ -1,6 +1,6 @@
 use Rattle.std.proofs.Common.{true, false, None}
-use Rattle.im_dialogue.proofs.HearingLemmas.{asked_line, asked_nothing}
-use Rattle.im_dialogue.proofs.{ServeLemmas.end_next, ServeLemmas.line_next, TalkLemmas.talk_ends_here}
+use Rattle.im_dialogue.proofs.{HearingLemmas.asked_line, HearingLemmas.asked_nothing, ServeLemmas.end_next}
+use Rattle.im_dialogue.proofs.{ServeLemmas.line_next, TalkLemmas.talk_ends_here, ToldLemmas.none_asked}
 use Rattle.im_dialogue.specs.{Asking.asked_of, Hearing.questions_left, Serving.told_by_it}
 use Rattle.im_dialogue.proofs.serving.Dialogue.serve_next.Goals as goal
 
@@ -31,3 +31,6 @@ returns-in-Err-clause-talks g c =
     let old = c.args.self.now in
     talk_ends_here old.setting.watch old.front.session
     (told_by_it old (g.B.Backups.kept c.args.backups.now) (questions_left (g.R.Read.remaining c.args.input.now))) None
+
+pub returns-in-Ok-drain-clause-asked : goal.returns-in-Ok-drain-clause-asked
+returns-in-Ok-drain-clause-asked g c = none_asked c.drain.new.self.front.asked c.in-Ok-drain.ensures.none
