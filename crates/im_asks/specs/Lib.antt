@@ -1,2 +1,1 @@
 pub mod Windows
-pub mod Lists

@@ -6,10 +6,10 @@ use Rattle.std.proofs.Common.{take_at}
 use Rattle.std.proofs.{KnownBytes.Appends-trans, lemmas.List.length-map, lemmas.List.map-append}
 use Rattle.std.specs.Io.KnownBytes.{append_known, Appends}
 use Rattle.im_types.specs.Types.{Command, MAX_GROUP, LAST}
-use Rattle.im_asks.specs.declared.{AskedCommand.AskedCommand, ToldAnswer.ToldAnswer}
-use Rattle.im_asks.specs.Lists.{answers_told, asks_told, commands_asked, commands_told}
 use Rattle.im_turning.specs.Turning.{IsSpent, point_of}
 use Rattle.{im_session.specs.Kept.SessionState, im_text.specs.Printing.Begins}
+use Rattle.im_front.specs.declared.{AskedCommand.AskedCommand, ToldAnswer.ToldAnswer}
+use Rattle.im_front.specs.Lists.{answers_told, asks_told, commands_asked, commands_told}
 use Rattle.im_front.specs.State.{Advanced, FrontRests, FrontState}
 use Rattle.im_dialogue.proofs.GroupTalk.{done_by, group_cut, group_halts, group_on, worked}
 use Rattle.im_dialogue.proofs.HearingLemmas.{heard_some, hears_as, same_left}

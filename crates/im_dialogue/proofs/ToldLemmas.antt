@@ -6,9 +6,9 @@ use Rattle.std.proofs.lemmas.{Bool.Decides.nat_tests, List.map-append}
 use Rattle.im_types.specs.Types.{Command, Outcome, Served, Refusal, LAST, as_served}
 use Rattle.im_groups.proofs.{CommandLemmas.left_behind, EnoughLemmas.at_most_members}
 use Rattle.im_groups.specs.Commands.{answer_with, answers_with, contents_with, places, places_behind}
-use Rattle.im_asks.specs.declared.{AskedCommand.AskedCommand, ToldAnswer.ToldAnswer}
-use Rattle.im_asks.specs.Lists.{answers_told, asks_told, commands_told}
 use Rattle.{im_turning.specs.Turning.IsSpent, im_session.specs.Serving.served_answer}
+use Rattle.im_front.specs.declared.{AskedCommand.AskedCommand, ToldAnswer.ToldAnswer}
+use Rattle.im_front.specs.Lists.{answers_told, asks_told, commands_told}
 use Rattle.im_dialogue.proofs.GroupTalk.{left_and_put, told_member, told_none}
 use Rattle.im_dialogue.proofs.{ReachLemmas.contents_behind, TalkLemmas.Left}
 use Rattle.im_dialogue.specs.{Answers.served_line, Serving.behind_asked, Telling.SaysAll, Watching.told_with}

@@ -7,7 +7,7 @@ use Rattle.im_types.specs.Types.{Op, Kept as KeptEntry, I, M, Alloc, Release, Re
 use Rattle.im_types.specs.Types.{Command, Outcome, Asks, Confirm, Refusal, Contents, kept_for, IsMemory, address_of}
 use Rattle.im_types.specs.Types.{store, put, act, asker, is_accepted}
 use Rattle.{im_laws.proofs.Tests.and_both, im_laws.proofs.Tests.true_false, im_groups.specs.Commands.answer_with}
-use Rattle.im_asks.specs.{declared.AskedCommand.AskedCommand, Lists.commands_asked}
+use Rattle.im_front.specs.{declared.AskedCommand.AskedCommand, Lists.commands_asked}
 use Rattle.im_dialogue.proofs.ReachLemmas.{cell_after, none_after, resumed_here, told_accepted}
 use Rattle.im_dialogue.{proofs.WatchLemmas.quiet_resumes, specs.declared.answers.LineAnswer.LineAnswer}
 use Rattle.im_dialogue.specs.Firsts.{asks_for, is_first, may_reach}

@@ -2,7 +2,7 @@
 use Rattle.std.specs.Prelude.{◌≡◌, ℕ, Bool, List, ◌++◌, MatchResult, Some, None, string_bytes, Option, Result}
 use Rattle.std.specs.Prelude.{option_map}
 use Rattle.std.specs.Io.KnownBytes.{append_known, Appends}
-use Rattle.{im_disk.specs.declared.Disk.Ghosts, im_asks.specs.declared.AskedCommand.AskedCommand}
+use Rattle.{im_disk.specs.declared.Disk.Ghosts, im_front.specs.declared.AskedCommand.AskedCommand}
 use Rattle.im_dialogue.specs.{Backups.Backup, Dialogue.TalkClosed, Together.questions_asked}
 use Rattle.im_dialogue.specs.declared.{asking.Question.Question, serving.Dialogue.Dialogue}
 use Rattle.im_dialogue.specs.Hearing.{asked_after, asking, left_behind, questions_in, questions_left}

@@ -2,10 +2,10 @@
 use Rattle.std.specs.Prelude.{◌≡◌, ℕ, ◌+◌, ◌≤◌, Bool, ◌⊎◌, List, [], ◌∷◌, ◌++◌, map, length, Some, Option, Result}
 use Rattle.im_types.specs.Types.{Command, Outcome, Served, Refusal, Contents, as_served}
 use Rattle.im_groups.specs.Commands.{answer_with, answers_with, commands_at, contents_after_all, left_after, places}
-use Rattle.im_asks.specs.declared.{AskedCommand.AskedCommand, ToldAnswer.ToldAnswer}
-use Rattle.im_asks.specs.Lists.{answers_told, asks_told, commands_told}
 use Rattle.{im_engine.specs.State.EngineState, im_session.specs.Serving.served_answer}
 use Rattle.im_turning.specs.Turning.{IsSpent, Point, point_of}
+use Rattle.im_front.specs.declared.{AskedCommand.AskedCommand, ToldAnswer.ToldAnswer}
+use Rattle.im_front.specs.Lists.{answers_told, asks_told, commands_told}
 use Rattle.im_dialogue.specs.{Answers.served_line, Asking.asked_of, Talk.point_behind}
 use Rattle.im_dialogue.specs.declared.{answers.LineAnswer.LineAnswer, asking.Question.Question}
 use Rattle.im_dialogue.specs.Watching.{told_with, watch_text}

@@ -7,7 +7,7 @@ ghost use Rattle.im_dialogue.specs.Together.{answer_told, AreLinesOf, first_text
 
 use crate::answers::{LineAnswer, add_answer};
 use crate::watching::told_with;
-use im_asks::ToldAnswer;
+use im_front::ToldAnswer;
 use im_memory::Memory;
 use im_session::served_answer;
 use im_text::{Reason, put_through};

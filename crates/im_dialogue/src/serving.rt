@@ -4,8 +4,8 @@
 //! line is answered behind all that is asked. Answers are told as a text, which is put out once no whole line is left in
 //! the reader's buffer.
 ghost use Rattle.std.specs.Prelude.{◌≡◌, ◌<◌, true, false, List, [], length, IfOk, OnOk, Some, None};
-ghost use Rattle.{im_asks.specs.declared.TheConstants.MOST_ASKED, im_session.specs.Kept.Kept};
 ghost use Rattle.im_turning.specs.Turning.{IsSpent, point_of};
+ghost use Rattle.{im_session.specs.Kept.Kept, im_front.specs.declared.TheConstants.MOST_ASKED};
 ghost use Rattle.im_dialogue.specs.{Asking.asked_of, Asking.command_in, declared.asking.Question.TheVariants.Serve};
 ghost use Rattle.im_dialogue.specs.{Talk.outputs, Together.AreAsked, Together.LineAsksFor};
 
@@ -18,7 +18,7 @@ use crate::resting::half_of;
 use crate::talk::{answer, turn_while_quiet, wrong};
 use crate::watching::make_nows;
 use arrayvec::ArrayVec;
-use im_asks::MOST_ASKED;
+use im_front::MOST_ASKED;
 use im_damage::Damage;
 use im_disk::Disk;
 use im_front::Front;

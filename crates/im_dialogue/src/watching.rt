@@ -1,7 +1,7 @@
 //! The lines for those that watch. They follow an answer, and tell which waiting requests the line answered.
 ghost use Rattle.std.specs.Prelude.{◌≡◌, ◌<◌, true, [], ◌∷◌, ◌++◌, map, length, take, IfOk, OnOk, string_bytes};
 ghost use Rattle.im_types.specs.Types.{I, M, Value, MAX_GROUP, held_at, store, put, at_cell, act, asker, is_accepted};
-ghost use Rattle.im_asks.specs.Lists.{commands_asked};
+ghost use Rattle.im_front.specs.Lists.{commands_asked};
 ghost use Rattle.im_dialogue.specs.Together.{GroupStart, TellsWatchers, TellWatchers};
 ghost use Rattle.im_dialogue.specs.Watching.{answers_nobody, is_of_kind, is_quiet, nows_text, resumed_by, told_now};
 ghost use Rattle.im_dialogue.specs.Watching.{told_with};
@@ -9,7 +9,7 @@ ghost use Rattle.im_dialogue.specs.Watching.{told_with};
 use crate::answers::LineAnswer;
 use crate::firsts::is_first;
 use arrayvec::ArrayVec;
-use im_asks::AskedCommand;
+use im_front::AskedCommand;
 use im_memory::Memory;
 use im_text::add_entry;
 use im_types::{Command, Entry, Kind, MAX_GROUP, Op, Reply, Request, Waiter};

@@ -1,9 +1,9 @@
 -- A front: a session, and what is asked of it in order. (Own.)
 use Rattle.std.specs.Prelude.{◌≡◌, ◌<◌, ◌≤◌, max, List, ◌++◌, length}
 use Rattle.{im_groups.specs.Commands.places, im_engine.specs.Commands.CommandsAnswered}
-use Rattle.im_asks.specs.declared.{AskedCommand.AskedCommand, ToldAnswer.ToldAnswer}
-use Rattle.im_asks.specs.Lists.{answers_told, asks_told, commands_told}
 use Rattle.im_session.specs.{Kept.SessionState, Serving.Rests, Serving.served_together}
+use Rattle.im_front.specs.declared.asked.{AskedCommand.AskedCommand, ToldAnswer.ToldAnswer}
+use Rattle.im_front.specs.Lists.{answers_told, asks_told, commands_told}
 
 -- a session, and what is asked of it and not told yet, the oldest command first
 pub record FrontState (D : Type 0) : Type 0 where

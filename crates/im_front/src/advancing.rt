@@ -1,15 +1,13 @@
-//! What is asked is served: as a group, from the front of the queue. A command by itself is served ahead of it.
-ghost use Rattle.std.specs.Prelude.{◌≡◌, ◌<◌, ◌≤◌, min, [], length, IfOk, OnErr};
+//! What is asked is served, as a group, from the front of the queue.
+ghost use Rattle.std.specs.Prelude.{◌≡◌, ◌<◌, ◌≤◌, min, [], length};
 ghost use Rattle.im_types.specs.Types.{MAX_GROUP};
-ghost use Rattle.im_session.specs.Serving.{CommandRefused, CommandServed};
 ghost use Rattle.im_front.specs.State.{Advanced};
 
+use crate::asked::ToldAnswer;
 use crate::front::Front;
 use arrayvec::ArrayVec;
-use im_asks::ToldAnswer;
-use im_checkpoint::TurnDone;
 use im_disk::Disk;
-use im_types::{Command, MAX_GROUP, Observer, Outcome, Refusal};
+use im_types::MAX_GROUP;
 use std::cmp::{max, min};
 
 impl<D: Disk> Front<D> {
@@ -34,26 +32,5 @@ impl<D: Disk> Front<D> {
         // A crash in this call leaves all of the group on the disk, or nothing of it. No answer is told before.
         self.session.serve_commands(&members, &mut served);
         self.asks.tell(served.as_slice(), told);
-    }
-
-    /// Makes room for a command by turns of a checkpoint, and serves it by itself, ahead of all that is asked. The
-    /// observer is told what each turn did.
-    ///
-    /// What is asked stays asked. A driver with one command at a time needs no queue, and none of its answers waits.
-    pub fn one<O: Observer<TurnDone>>(
-        &mut self,
-        command: &Command,
-        observer: &mut O,
-    ) -> Result<Outcome, Refusal>
-        ensures served { IfOk result
-            (λ outcome. CommandServed self.old.session command.now outcome self.new.session) }
-        ensures refused { OnErr result (CommandRefused self.old.session command.now self.new.session) }
-        ensures asked { self.new.asked ≡ self.old.asked }
-    {
-        match self.session.make_room(1, observer) {
-            // A crash in this call leaves the command on the disk, whole, or not at all. It isn't answered before.
-            Ok(()) => self.session.serve_kept(command),
-            Err(refusal) => Err(refusal),
-        }
     }
 }

@@ -1,10 +1,10 @@
 //! A session with its queue: who asks, and what is looked at.
 ghost use Rattle.std.specs.Prelude.{◌≡◌, ◌<◌, ◌≤◌, [], ◌∷◌, ◌++◌, length, ◌==◌};
-ghost use Rattle.im_asks.specs.{declared.asks.TheConstants.MOST_ASKED, Lists.with_ticket};
 ghost use Rattle.im_session.specs.Kept.{Kept};
-ghost use Rattle.im_front.specs.State.{front_of};
+ghost use Rattle.im_front.specs.{declared.asks.TheConstants.MOST_ASKED, Lists.with_ticket, State.front_of};
 
-use im_asks::{AskedCommand, Asks};
+use crate::asked::AskedCommand;
+use crate::asks::Asks;
 use im_disk::Disk;
 use im_engine::Engine;
 use im_memory::Memory;

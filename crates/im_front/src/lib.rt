@@ -8,8 +8,12 @@
 #![tactic(auto)]
 
 mod advancing;
+mod asked;
+mod asks;
 mod front;
 mod room;
 mod turning;
 
+pub use asked::{AskedCommand, ToldAnswer};
+pub use asks::MOST_ASKED;
 pub use front::Front;

@@ -27,8 +27,8 @@ fn refuse_rest<D: Disk, W: Write, N: Observer<News>>(
     observer: &mut N,
 ) -> (u8, D)
     ensures status { result.0 ≡ 1 }
-    ensures disk { result.1 ≡ server.front.session.engine.disk }
-    ensures kept { Kept D.Disk server.front.session }
+    ensures disk { result.1 ≡ server.session.engine.disk }
+    ensures kept { Kept D.Disk server.session }
     ensures last { (start : Option (List ℕ)) (text : List ℕ) → Prints start (W.contents out.old) server.lines text
         → (last : List ℕ) × (IsLast last × Begins start (W.contents out.new) (text ++ last)) }
 {
@@ -62,7 +62,7 @@ pub(crate) fn run_rest<
 ) -> (u8, D, Trace)
     requires ready { HasServedNothing (seen_by server (W.contents out.old)) server.bases.items }
     ensures status { (result.0 ≤ 1) ⊎ (result.0 ≡ STALLED) }
-    ensures ends { EndsOnce D.Disk asked.entry.planned asked.entry.script.now server.front.session.start result.1
+    ensures ends { EndsOnce D.Disk asked.entry.planned asked.entry.script.now server.session.start result.1
         (W.contents out.old) (W.contents out.new) result.2 result.0 }
     ensures recorded { context.now.recorded ≡ true → result.2.recorded ≡ true }
 {

@@ -20,7 +20,7 @@ pub(crate) fn open_server<D: Disk, W: Write, N: Observer<News>>(
 ) -> Result<Server<D>, (u8, D)>
     ensures nothing { IfOk result (λ server. HasServedNothing (seen_by server (W.contents out.new))
         server.bases.items) }
-    ensures opened { IfOk result (λ server. server.front.session.start.disk ≡ disk) }
+    ensures opened { IfOk result (λ server. server.session.start.disk ≡ disk) }
     ensures same { OnOk result (W.contents out.new ≡ W.contents out.old) }
     ensures status { IfErr result (λ r. r.0 ≡ 1) }
     ensures refused { IfErr result (λ r. D.honest r.1

@@ -96,9 +96,9 @@ fn make_block<D: Disk, W: Write, N: Observer<News>>(
     if sheet.setup.reserve(2).is_err() {
         return Err(Reason::Memory);
     }
-    let window = server.front.memory().window(0);
+    let window = server.session.memory().window(0);
     let made = server.make_block(block, out, observer);
-    note_block(&mut sheet.setup, server.front.memory(), window);
+    note_block(&mut sheet.setup, server.session.memory(), window);
     made
 }
 
@@ -149,9 +149,9 @@ fn take_heard<D: Disk, W: Write, N: Observer<News>>(
 
 // Returns how many elements the memory of a server has.
 fn count_elements<D: Disk>(server: &Server<D>) -> u16
-    ensures { result ≡ length server.now.front.session.engine.memory.windows }
+    ensures { result ≡ length server.now.session.engine.memory.windows }
 {
-    server.front.memory().elements()
+    server.session.memory().elements()
 }
 
 // Does what each line says, in order. It notes the least element that is missing and whose part begins.
@@ -167,7 +167,7 @@ fn take_lines<D: Disk, W: Write, N: Observer<News>>(
     ensures read { OnOk result (HasReadTo (settled_by sheet.old.past) (script_heard script.now) sheet.old.orders.items
         (settled_by sheet.new.past) [] server.new.bases.items sheet.new.orders.items) }
     ensures there { OnOk result (sheet.new.missing ≡ None
-        → ArePartsThere (length server.old.front.session.engine.memory.windows) (script_heard script.now)) }
+        → ArePartsThere (length server.old.session.engine.memory.windows) (script_heard script.now)) }
 {
     let elements = count_elements(server);
     let mut missing: Option<u16> = None;
@@ -209,7 +209,7 @@ fn set_up<D: Disk, W: Write, N: Observer<News>>(
     ensures read { OnOk result (HasReadTo (settled_by sheet.old.past) (script_heard script.now) sheet.old.orders.items
         (settled_by sheet.new.past) [] server.new.bases.items sheet.new.orders.items) }
     ensures there { OnOk result (sheet.new.missing ≡ None
-        → ArePartsThere (length server.old.front.session.engine.memory.windows) (script_heard script.now)) }
+        → ArePartsThere (length server.old.session.engine.memory.windows) (script_heard script.now)) }
 {
     match take_lines(server, sheet, script, out, observer) {
         Ok(()) => server.lines.flush(out),
@@ -237,17 +237,17 @@ pub fn read_orders<D: Disk, W: Write, N: Observer<News>>(
     observer: &mut N,
 ) -> (Result<Workload, Reason>, Vec<Line>)
     ensures served { ServedBy
-        (blocks_asked (scope_when asked.entry.once server.old.front.session.engine.memory asked.entry.script.now))
-        result.0 server.old (W.contents out.old) server.new (W.contents out.new) }
-    ensures orders { IfOk result.0 (λ work. HasOrders asked.entry.once server.old.front.session.engine.memory
-        server.new.front.session.engine.memory server.new.bases.items asked.entry.script.now work.orders.items) }
+        (blocks_asked (scope_when asked.entry.once server.old.session.engine.memory asked.entry.script.now)) result.0
+        server.old (W.contents out.old) server.new (W.contents out.new) }
+    ensures orders { IfOk result.0 (λ work. HasOrders asked.entry.once server.old.session.engine.memory
+        server.new.session.engine.memory server.new.bases.items asked.entry.script.now work.orders.items) }
     ensures whole { IfOk result.0 (λ work. IsOfAll asked.entry.once server.new.bases.items
         (script_heard asked.entry.script.now) (asks_in work.whole)) }
     ensures planned { IfOk result.0 (λ work. work.planned ≡ asked.entry.planned) }
-    ensures there { OnOk result.0 (ArePartsThere (length server.old.front.session.engine.memory.windows)
+    ensures there { OnOk result.0 (ArePartsThere (length server.old.session.engine.memory.windows)
         (script_heard asked.entry.script.now)) }
 {
-    let Ok(mut sheet) = Sheet::new(alloc, server.front.memory(), asked.once) else {
+    let Ok(mut sheet) = Sheet::new(alloc, server.session.memory(), asked.once) else {
         return (Err(Reason::Memory), Vec::new(alloc));
     };
     match set_up(server, &mut sheet, asked.script, out, observer) {
@@ -258,7 +258,7 @@ pub fn read_orders<D: Disk, W: Write, N: Observer<News>>(
                 missing,
                 ..
             } = sheet;
-            let memory = server.front.memory();
+            let memory = server.session.memory();
             let bases = server.bases.as_slice();
             let work = make_workload(alloc, memory, bases, orders, asked);
             (with_parts(work, missing), setup)

@@ -110,7 +110,7 @@ fn serve_on<
 ) -> (u8, D, Calls)
     ensures status { (result.0 ≤ 1) ⊎ (result.0 ≡ STALLED) }
     ensures ended { EndedOn D.Disk work.planned (asks_in work.whole) (map ask_of work.orders.items)
-        server.front.session result.1 (W.contents out.old) server.lines (W.contents out.new) result.2.items result.0 }
+        server.session result.1 (W.contents out.old) server.lines (W.contents out.new) result.2.items result.0 }
     ensures recorded { context.now.recorded ≡ true → result.2.recorded ≡ true }
 {
     let alloc = context.alloc;
@@ -148,9 +148,9 @@ pub(crate) fn run_server<
 ) -> (u8, D, Trace)
     // It may know bases already: the next clause says which.
     requires ready { HasServedNothing (seen_by server (W.contents out.old)) [] }
-    requires bases { server.bases.items ≡ bases_first asked.once server.front.session.engine.memory asked.script.now }
+    requires bases { server.bases.items ≡ bases_first asked.once server.session.engine.memory asked.script.now }
     ensures status { (result.0 ≤ 1) ⊎ (result.0 ≡ STALLED) }
-    ensures run { RunWhen D.Disk asked.entry.once asked.entry.planned asked.entry.script.now server.front.session.start
+    ensures run { RunWhen D.Disk asked.entry.once asked.entry.planned asked.entry.script.now server.session.start
         result.1 (W.contents out.old) (W.contents out.new) result.2 result.0 }
     ensures recorded { context.now.recorded ≡ true → result.2.recorded ≡ true }
 {

@@ -35,8 +35,8 @@ fn run_opened<
 ) -> (u8, D, Trace)
     requires ready { HasServedNothing (seen_by server (W.contents out.old)) server.bases.items }
     ensures status { (result.0 ≤ 1) ⊎ (result.0 ≡ STALLED) }
-    ensures ends { EndsWhen D.Disk asked.entry.once asked.entry.planned asked.entry.script.now
-        server.front.session.start result.1 (W.contents out.old) (W.contents out.new) result.2 result.0 }
+    ensures ends { EndsWhen D.Disk asked.entry.once asked.entry.planned asked.entry.script.now server.session.start
+        result.1 (W.contents out.old) (W.contents out.new) result.2 result.0 }
     ensures recorded { context.now.recorded ≡ true → result.2.recorded ≡ true }
 {
     if asked.once {

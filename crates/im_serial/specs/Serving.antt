@@ -85,7 +85,7 @@ server_of session held lines waited marks =
 
 -- a server of the program, and what the writer holds
 abbrev pub seen_by : {D : Type 0} → Whole D → Option (List ℕ) → ScriptServer D
-seen_by t held = server_of t.front.session held t.lines t.waited.items t.places.marks.items
+seen_by t held = server_of t.session held t.lines t.waited.items t.places.marks.items
 
 module _ {D : Type 0} where
   -- the script stands there, and the lines of what was put were printed

@@ -6,7 +6,7 @@ ghost use Rattle.im_serial.specs.Asked.{wanted_by, wanted_of};
 ghost use Rattle.im_serial.specs.Serving.{HasAsked, MakesPlace, seen_by, ServedBy};
 
 use crate::hearing::hear;
-use crate::room::{next_number, reason_of};
+use crate::room::{next_number, reason_of, serve_one};
 use crate::server::Server;
 use crate::waits::learn;
 use im_asks::{WindowPlace, next_place};
@@ -25,9 +25,9 @@ impl<D: Disk> Server<D> {
         numbers: (u64, u64),
         observer: &mut N,
     ) -> Result<Outcome, Refusal>
-        requires due { IsWindowPlace self.old.front.session.engine.memory element (DueTo numbers.0 numbers.1) }
-        ensures goes { MakesPlace result self.old.front.session self.old.waited.items self.old.places.marks.items
-            self.new.front.session self.new.waited.items self.new.places.marks.items }
+        requires due { IsWindowPlace self.old.session.engine.memory element (DueTo numbers.0 numbers.1) }
+        ensures goes { MakesPlace result self.old.session self.old.waited.items self.old.places.marks.items
+            self.new.session self.new.waited.items self.new.places.marks.items }
         ensures lines { self.new.lines ≡ self.old.lines }
         ensures bases { self.new.bases.items ≡ self.old.bases.items }
     {
@@ -35,29 +35,32 @@ impl<D: Disk> Server<D> {
         learn(
             self.waited.as_mut_slice(),
             &mut self.places,
-            self.front.memory(),
+            self.session.memory(),
             (element, base, upto),
             observer,
         );
-        self.front
-            .one(&Command::Confirm { element, upto }, &mut self.progress)
+        serve_one(
+            &mut self.session,
+            &mut self.progress,
+            &Command::Confirm { element, upto },
+        )
     }
 
     // Returns the number of an element's next request. If its window is full, and only then, confirms its entries
     // before the first that isn't answered yet.
     fn number<N: Observer<News>>(&mut self, element: u16, observer: &mut N) -> Result<u64, Refusal>
-        ensures goes { MakesPlace result self.old.front.session self.old.waited.items self.old.places.marks.items
-            self.new.front.session self.new.waited.items self.new.places.marks.items }
+        ensures goes { MakesPlace result self.old.session self.old.waited.items self.old.places.marks.items
+            self.new.session self.new.waited.items self.new.places.marks.items }
         ensures next { IfOk result (λ next. (base : ℕ)
-            × (bounds self.new.front.session.engine.memory.windows element ≡ Ok (base, next))) }
+            × (bounds self.new.session.engine.memory.windows element ≡ Ok (base, next))) }
         ensures lines { self.new.lines ≡ self.old.lines }
         ensures bases { self.new.bases.items ≡ self.old.bases.items }
     {
-        match next_place(self.front.memory(), element) {
+        match next_place(self.session.memory(), element) {
             Ok(WindowPlace::Next(number)) => Ok(number),
             Ok(WindowPlace::Confirm { base, upto }) => {
                 match self.make_place(element, (base, upto), observer) {
-                    Ok(_outcome) => next_number(self.front.engine(), element),
+                    Ok(_outcome) => next_number(self.session.engine(), element),
                     Err(refusal) => Err(refusal),
                 }
             }
@@ -69,13 +72,17 @@ impl<D: Disk> Server<D> {
     // Serves an element's request, which has its next number, and prints what is kept for it.
     fn ask<W: Write>(&mut self, request: Request, out: &mut W) -> Result<Entry, Reason>
         requires next { (base : ℕ)
-            × (bounds self.old.front.session.engine.memory.windows request.element ≡ Ok (base, request.number)) }
+            × (bounds self.old.session.engine.memory.windows request.element ≡ Ok (base, request.number)) }
         ensures serves { HasAsked request.element request.op result
             (seen_by self.old (W.contents out.old)) (seen_by self.new (W.contents out.new)) }
         ensures bases { self.new.bases.items ≡ self.old.bases.items }
     {
         let who = (request.element, request.number);
-        match self.front.one(&Command::Request(request), &mut self.progress) {
+        match serve_one(
+            &mut self.session,
+            &mut self.progress,
+            &Command::Request(request),
+        ) {
             Ok(Outcome::Entry(entry)) => match self.print(who, entry, out) {
                 Ok(()) => match self.note(who, entry) {
                     Ok(()) => Ok(entry),
@@ -84,7 +91,7 @@ impl<D: Disk> Server<D> {
                 Err(reason) => Err(reason),
             },
             Ok(Outcome::Confirmed) => Err(Reason::Request(who.0, Refusal::Failed)), // No request is answered so.
-            Err(refusal) => Err(reason_of(self.front.engine(), who.0, refusal)),
+            Err(refusal) => Err(reason_of(self.session.engine(), who.0, refusal)),
         }
     }
 
@@ -104,7 +111,7 @@ impl<D: Disk> Server<D> {
             Ok(number) => {
                 follow(
                     &mut self.progress.told,
-                    self.front.engine().room(),
+                    self.session.engine().room(),
                     observer,
                 );
                 let request = Request {
@@ -114,7 +121,7 @@ impl<D: Disk> Server<D> {
                 };
                 self.ask(request, out)
             }
-            Err(refusal) => Err(reason_of(self.front.engine(), element, refusal)),
+            Err(refusal) => Err(reason_of(self.session.engine(), element, refusal)),
         }
     }
 

@@ -82,26 +82,25 @@ fn name_past(
 impl<D: Disk> Server<D> {
     // Prints what the image has of a request, and notes the request if it waits.
     fn tell_past<W: Write>(&mut self, who: (u16, u64), out: &mut W) -> Result<Met, Reason>
-        ensures session { self.new.front.session ≡ self.old.front.session }
+        ensures session { self.new.session ≡ self.old.session }
         ensures bases { self.new.bases.items ≡ self.old.bases.items }
         ensures found { let who : Waiter = record { element = who.0; number = who.1 } in
-            IfOk result (λ it. it ≡ met_of self.old.front.session.engine.memory who) }
+            IfOk result (λ it. it ≡ met_of self.old.session.engine.memory who) }
         ensures pushed { let who : Waiter = record { element = who.0; number = who.1 } in
-            NotesMore result self.old.waited.items self.new.waited.items
-            (noted_of self.old.front.session.engine.memory who) }
+            NotesMore result self.old.waited.items self.new.waited.items (noted_of self.old.session.engine.memory who) }
         ensures mark { let who : Waiter = record { element = who.0; number = who.1 } in OnOk result
-            (MarksWaiting self.old.front.session.engine.memory who self.new.places.marks.items
+            (MarksWaiting self.old.session.engine.memory who self.new.places.marks.items
             (length self.old.waited.items)) }
         ensures others { let at = mark_place (record { element = who.0; number = who.1 }) in (i : ℕ) → (i ≡ at → ⊥)
             → slice_get self.new.places.marks.items i ≡ slice_get self.old.places.marks.items i }
-        ensures unmarked { kept_for self.old.front.session.engine.memory.windows
+        ensures unmarked { kept_for self.old.session.engine.memory.windows
             (record { element = who.0; number = who.1 }) ≡ None
             → self.new.places.marks.items ≡ self.old.places.marks.items }
-        ensures more { let line = past_line self.old.front.session.engine.memory
+        ensures more { let line = past_line self.old.session.engine.memory
             (record { element = who.0; number = who.1 }) in
             TellsPast result (W.contents out.old) self.old.lines (W.contents out.new) self.new.lines line }
     {
-        match self.front.memory().kept(who.0, who.1) {
+        match self.session.memory().kept(who.0, who.1) {
             Some(kept) => match self.print(who, kept.entry, out) {
                 Ok(()) => match self.note(who, kept.entry) {
                     Ok(()) => Ok(Met::Kept(kept.entry)),
@@ -118,13 +117,13 @@ impl<D: Disk> Server<D> {
 
     // Meets an element's next request.
     fn meet<W: Write>(&mut self, element: u16, past: &mut Past, out: &mut W) -> Result<Met, Reason>
-        ensures session { self.new.front.session ≡ self.old.front.session }
+        ensures session { self.new.session ≡ self.old.session }
         ensures bases { self.new.bases.items ≡ self.old.bases.items }
         ensures end { past.new.end ≡ past.old.end }
         ensures many { past.new.many.items ≡ met past.old.many.items element }
         ensures had { IfOk result (λ it. is_had it ≡ has_next past.old.many.items element) }
-        ensures found { let who = who_next self.old.front.session.engine.memory past.old.many.items element in
-            IfOk result (λ it. is_had it ≡ true → it ≡ met_of self.old.front.session.engine.memory who) }
+        ensures found { let who = who_next self.old.session.engine.memory past.old.many.items element in
+            IfOk result (λ it. is_had it ≡ true → it ≡ met_of self.old.session.engine.memory who) }
         ensures passed { (w : Wanted) → w.element ≡ element
             → HasPassed past.old.many.items (w ∷ []) past.new.many.items result
             (seen_by self.old (W.contents out.old)) (seen_by self.new (W.contents out.new)) }
@@ -133,7 +132,7 @@ impl<D: Disk> Server<D> {
         if left == 0 {
             return Ok(Met::New);
         }
-        match self.front.memory().window(element) {
+        match self.session.memory().window(element) {
             Ok((_base, next)) => {
                 let number = next.saturating_sub(left);
                 self.tell_past((element, number), out)
@@ -149,10 +148,10 @@ impl<D: Disk> Server<D> {
         past: &mut Past,
         out: &mut W,
     ) -> Result<(), Reason>
-        ensures session { self.new.front.session ≡ self.old.front.session }
+        ensures session { self.new.session ≡ self.old.session }
         ensures names { OnOk result (Names past.old.many.items past.old.end (wanted_by (Said.Block block))
             past.new.many.items past.new.end [] self.old.bases.items self.new.bases.items) }
-        ensures made { OnOk result (MakesBlocks self.old.front.session.engine.memory past.old.many.items
+        ensures made { OnOk result (MakesBlocks self.old.session.engine.memory past.old.many.items
             (wanted_by (Said.Block block)) past.new.many.items []) }
         ensures passed { HasPassed past.old.many.items (wanted_by (Said.Block block)) past.new.many.items result
             (seen_by self.old (W.contents out.old)) (seen_by self.new (W.contents out.new)) }
@@ -171,10 +170,10 @@ impl<D: Disk> Server<D> {
         past: &mut Past,
         out: &mut W,
     ) -> Result<(), Reason>
-        ensures session { self.new.front.session ≡ self.old.front.session }
+        ensures session { self.new.session ≡ self.old.session }
         ensures names { OnOk result (Names past.old.many.items past.old.end (wanted_by (Said.Asks line))
             past.new.many.items past.new.end [] self.old.bases.items self.new.bases.items) }
-        ensures made { OnOk result (MakesBlocks self.old.front.session.engine.memory past.old.many.items
+        ensures made { OnOk result (MakesBlocks self.old.session.engine.memory past.old.many.items
             (wanted_by (Said.Asks line))
             past.new.many.items []) }
         ensures passed { HasPassed past.old.many.items (wanted_by (Said.Asks line)) past.new.many.items result
@@ -193,11 +192,11 @@ impl<D: Disk> Server<D> {
         past: &mut Past,
         out: &mut W,
     ) -> Result<(), Reason>
-        ensures session { self.new.front.session ≡ self.old.front.session }
+        ensures session { self.new.session ≡ self.old.session }
         ensures names { OnOk result (Names past.old.many.items past.old.end (wanted_by said)
             past.new.many.items past.new.end [] self.old.bases.items self.new.bases.items) }
-        ensures made { OnOk result (MakesBlocks self.old.front.session.engine.memory past.old.many.items
-            (wanted_by said) past.new.many.items []) }
+        ensures made { OnOk result (MakesBlocks self.old.session.engine.memory past.old.many.items (wanted_by said)
+            past.new.many.items []) }
         ensures passed { HasPassed past.old.many.items (wanted_by said) past.new.many.items result
             (seen_by self.old (W.contents out.old)) (seen_by self.new (W.contents out.new)) }
     {
@@ -217,10 +216,10 @@ impl<D: Disk> Server<D> {
         past: &mut Past,
         out: &mut W,
     ) -> Result<(), Reason>
-        ensures session { self.new.front.session ≡ self.old.front.session }
+        ensures session { self.new.session ≡ self.old.session }
         ensures names { OnOk result (Names past.old.many.items past.old.end (wanted_of script.now)
             past.new.many.items past.new.end [] self.old.bases.items self.new.bases.items) }
-        ensures made { OnOk result (MakesBlocks self.old.front.session.engine.memory past.old.many.items
+        ensures made { OnOk result (MakesBlocks self.old.session.engine.memory past.old.many.items
             (wanted_of script.now)
             past.new.many.items []) }
         ensures passed { HasPassed past.old.many.items (wanted_of script.now) past.new.many.items result

@@ -80,15 +80,15 @@ impl<D: Disk> Server<D> {
     ) -> Result<(), Reason>
         ensures shown { ShowsOrBreaks result (wanted_of script.now) self.old.bases.items self.new.bases.items
             (seen_by self.old (W.contents out.old)) (seen_by self.new (W.contents out.new)) }
-        ensures session { self.new.front.session ≡ self.old.front.session }
+        ensures session { self.new.session ≡ self.old.session }
         ensures fit { FitsOrStays result (wanted_of script.now)
             (seen_by self.old (W.contents out.old)) (seen_by self.new (W.contents out.new)) }
     {
-        match compare_script(alloc, self.front.memory(), script) {
+        match compare_script(alloc, self.session.memory(), script) {
             Ok(()) => {}
             Err(reason) => return Err(reason),
         }
-        let mut past = match Past::new(alloc, self.front.memory()) {
+        let mut past = match Past::new(alloc, self.session.memory()) {
             Ok(past) => past,
             Err(_) => return Err(Reason::Memory),
         };
@@ -113,7 +113,7 @@ impl<D: Disk> Server<D> {
             Ok(()) => {}
             Err(reason) => return Err(reason),
         }
-        let mut past = match Past::new(alloc, self.front.memory()) {
+        let mut past = match Past::new(alloc, self.session.memory()) {
             Ok(past) => past,
             Err(_) => return Err(Reason::Memory),
         };

@@ -1,12 +1,14 @@
-//! How far a server has come; the number of a request, and why one is refused.
-ghost use Rattle.std.specs.Prelude.{◌≡◌, ℕ, IfOk, Ok};
+//! One command by itself: room is made for it in the journal, and it is served. Why a request is refused.
+ghost use Rattle.std.specs.Prelude.{◌≡◌, ℕ, IfOk, OnErr, Ok};
 ghost use Rattle.im_types.specs.Types.{bounds};
+ghost use Rattle.im_session.specs.Serving.{CommandRefused, CommandServed};
 
 use im_checkpoint::TurnDone;
 use im_disk::Disk;
 use im_engine::Engine;
+use im_session::Session;
 use im_text::{Progress, Reason};
-use im_types::{Entry, Observer, Refusal};
+use im_types::{Command, Entry, Observer, Outcome, Refusal};
 
 /// How far a server has come. It counts the checkpoints that come into force.
 #[derive(Drop)]
@@ -19,6 +21,22 @@ impl Observer<TurnDone> for ServerProgress {
         if let TurnDone::InForce = done {
             self.told.checkpoints = self.told.checkpoints.saturating_add(1);
         }
+    }
+}
+
+/// Makes room for a command by turns of a checkpoint, and serves it.
+pub fn serve_one<D: Disk>(
+    session: &mut Session<D>,
+    progress: &mut ServerProgress,
+    command: &Command,
+) -> Result<Outcome, Refusal>
+    ensures served { IfOk result (λ outcome. CommandServed session.old command.now outcome session.new) }
+    ensures refused { OnErr result (CommandRefused session.old command.now session.new) }
+{
+    match session.make_room(1, progress) {
+        // A crash in this call leaves the command on the disk, whole, or not at all. It isn't answered before.
+        Ok(()) => session.serve_kept(command),
+        Err(refusal) => Err(refusal),
     }
 }
 

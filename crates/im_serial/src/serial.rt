@@ -186,7 +186,7 @@ fn serve_once_on<D: Disk, W: Write, N: Observer<News>>(
 ) -> (u8, D)
     requires nothing { HasServedNothing (seen_by server (W.contents out.old)) server.bases.items }
     ensures status { result.0 ≤ 1 }
-    ensures served { ServedOnce D.Disk script.now server.front.session.start.disk result.1 (W.contents out.old)
+    ensures served { ServedOnce D.Disk script.now server.session.start.disk result.1 (W.contents out.old)
         (W.contents out.new) result.0 }
 {
     let served = server.serve_once(alloc, script, out, observer);

@@ -10,7 +10,6 @@ use crate::past::make_done;
 use crate::room::ServerProgress;
 use crate::waits::{Places, learn_all, note, tell_earlier, waited_at};
 use im_disk::Disk;
-use im_front::Front;
 use im_session::Session;
 use im_text::{Lines, News, Progress, Reason, Waited, make_line, make_now};
 use im_types::{Entry, Observer};
@@ -54,8 +53,8 @@ pub struct Paper {
 /// A session that serves requests, and what is printed and noted of them.
 #[derive(Drop)]
 pub struct Server<D: Disk> {
-    /// The session, and what is asked of it: nothing, since a script asks for one command at a time.
-    pub front: Front<D>,
+    /// The session.
+    pub session: Session<D>,
     /// The base of each block of the setup.
     pub bases: Vec<u32>,
     /// The requests that had to wait, in order.
@@ -72,7 +71,7 @@ pub struct Server<D: Disk> {
 impl<D: Disk> Server<D> {
     /// Makes a server over a session. It has served nothing yet, and marks the requests that already wait.
     pub fn new(alloc: Global, session: Session<D>, desk: Desk) -> Server<D>
-        ensures session { result.front.session ≡ session }
+        ensures session { result.session ≡ session }
         ensures lines { result.lines ≡ desk.lines }
         ensures waited { result.waited.items ≡ [] }
         ensures bases { result.bases.items ≡ [] }
@@ -85,7 +84,7 @@ impl<D: Disk> Server<D> {
         } = desk;
         places.mark_earlier(session.memory());
         Server {
-            front: Front::of(session),
+            session,
             bases: Vec::new(alloc),
             waited: Vec::new(alloc),
             lines,
@@ -103,11 +102,11 @@ impl<D: Disk> Server<D> {
 
     /// Returns the session, and where lines are printed.
     pub fn leave(self) -> (Session<D>, Paper)
-        ensures session { result.0 ≡ self.front.session }
+        ensures session { result.0 ≡ self.session }
         ensures lines { result.1.lines ≡ self.lines }
     {
         let Server {
-            front,
+            session,
             bases: _,
             waited: _,
             lines,
@@ -115,7 +114,7 @@ impl<D: Disk> Server<D> {
             line,
             progress: _,
         } = self;
-        (front.into_session(), Paper { lines, line })
+        (session, Paper { lines, line })
     }
 
     // Prints a request's entry.
@@ -125,7 +124,7 @@ impl<D: Disk> Server<D> {
         entry: Entry,
         out: &mut W,
     ) -> Result<(), Reason>
-        ensures session { self.new.front.session ≡ self.old.front.session }
+        ensures session { self.new.session ≡ self.old.session }
         ensures names { self.new.waited.items ≡ self.old.waited.items }
         ensures marks { self.new.places.marks.items ≡ self.old.places.marks.items }
         ensures bases { self.new.bases.items ≡ self.old.bases.items }
@@ -141,7 +140,7 @@ impl<D: Disk> Server<D> {
 
     // Notes a request that has to wait.
     pub(crate) fn note(&mut self, who: (u16, u64), entry: Entry) -> Result<(), Reason>
-        ensures session { self.new.front.session ≡ self.old.front.session }
+        ensures session { self.new.session ≡ self.old.session }
         ensures lines { self.new.lines ≡ self.old.lines }
         ensures bases { self.new.bases.items ≡ self.old.bases.items }
         ensures pushed { let who : Waiter = record { element = who.0; number = who.1 } in
@@ -163,7 +162,7 @@ impl<D: Disk> Server<D> {
         who: (u16, u64),
         out: &mut W,
     ) -> Result<(), Reason>
-        ensures session { self.new.front.session ≡ self.old.front.session }
+        ensures session { self.new.session ≡ self.old.session }
         ensures names { self.new.waited.items ≡ self.old.waited.items }
         ensures marks { self.new.places.marks.items ≡ self.old.places.marks.items }
         ensures bases { self.new.bases.items ≡ self.old.bases.items }
@@ -194,19 +193,19 @@ impl<D: Disk> Server<D> {
     // Learns what is kept at the end for the requests that had to wait, and tells the observer about those that waited
     // before.
     pub(crate) fn learn_all<N: Observer<News>>(&mut self, observer: &mut N)
-        ensures session { self.new.front.session ≡ self.old.front.session }
+        ensures session { self.new.session ≡ self.old.session }
         ensures lines { self.new.lines ≡ self.old.lines }
         ensures names { map who_of self.new.waited.items ≡ map who_of self.old.waited.items }
-        ensures last { (m : Contents) (put : List Command) → self.old.front.session.engine.memory ≡ after m put
+        ensures last { (m : Contents) (put : List Command) → self.old.session.engine.memory ≡ after m put
             → AreKnown m put self.old.waited.items → AreLast m put self.new.waited.items }
     {
-        learn_all(self.waited.as_mut_slice(), self.front.memory());
-        tell_earlier(&mut self.places, self.front.memory(), observer);
+        learn_all(self.waited.as_mut_slice(), self.session.memory());
+        tell_earlier(&mut self.places, self.session.memory(), observer);
     }
 
     // Prints what became of the requests that had to wait.
     pub(crate) fn tell<W: Write>(&mut self, out: &mut W) -> Result<(), Reason>
-        ensures session { self.new.front.session ≡ self.old.front.session }
+        ensures session { self.new.session ≡ self.old.session }
         ensures waited { self.new.waited ≡ self.old.waited }
         ensures all { OnOk result (PrintsMore (W.contents out.old) self.old.lines (W.contents out.new) self.new.lines
             (nows self.old.waited.items (length self.old.waited.items))) }

@@ -1,5 +1,5 @@
 use Rattle.std.proofs.Common.{◌≡◌, ℕ, true, [], ◌++◌, map, length, drop, string_bytes}
-use Rattle.im_asks.specs.Lists.{commands_asked}
+use Rattle.im_front.specs.Lists.{commands_asked}
 use Rattle.im_dialogue.specs.Together.{GroupStart, TellWatchers}
 
 abbrev pub invariant-loop-one : Rattle.im_dialogue.proofs.watching.add_nows.Given.invariant-loop-one

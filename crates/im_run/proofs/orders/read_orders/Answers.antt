@@ -14,7 +14,7 @@ pub returns-in-Ok-set_up-clause-served : goal.returns-in-Ok-set_up-clause-served
 returns-in-Ok-set_up-clause-served g c =
     let once = c.args.asked.once in
     has_served c.with_parts.result _ _ _ _ _
-    (passes_as (settled_by c.in-Ok.sheet.past) (settled_when once c.args.server.now.front.session.engine.memory)
+    (passes_as (settled_by c.in-Ok.sheet.past) (settled_when once c.args.server.now.session.engine.memory)
     (script_heard c.args.asked.script.now) _ _ _ _
     (c.in-Ok.ensures.settled ∙ ap (settled_when once) c.memory.ensures) c.in-Ok-set_up.ensures.served.serves)
 
@@ -28,7 +28,7 @@ returns-in-Err-clause-served g c =
     let new = seen_by n (g.W.Write.contents c.set_up.new.out) in
     record {
       serves = tt;
-      ends = ends_as (settled_by c.in-Ok.sheet.past) (settled_when once was.front.session.engine.memory)
+      ends = ends_as (settled_by c.in-Ok.sheet.past) (settled_when once was.session.engine.memory)
           (script_heard c.args.asked.script.now) was.bases.items old new
           (c.in-Ok.ensures.settled ∙ ap (settled_when once) c.memory.ensures) c.in-Err.ensures.served.ends;
     }
@@ -40,12 +40,12 @@ returns-in-Ok-set_up-clause-orders g c =
     let bases = c.set_up.new.server.bases.items in
     let first = c.in-Ok.sheet in
     let script = script_heard c.args.asked.script.now in
-    let was : settled_by first.past ≡ settled_when once c.args.server.now.front.session.engine.memory =
+    let was : settled_by first.past ≡ settled_when once c.args.server.now.session.engine.memory =
     c.in-Ok.ensures.settled ∙ ap (settled_when once) c.memory.ensures in
     if_ok_of _ c.with_parts.result c.make_workload-work.result c.with_parts.ensures.work
     (if_ok_map _ _ c.make_workload-work.result c.make_workload-work.ensures.asked (λ work asked.
-    orders_read (first_asked once c.set_up.new.server.front.session.engine.memory)
-    (settled_when once c.args.server.now.front.session.engine.memory)
+    orders_read (first_asked once c.set_up.new.server.session.engine.memory)
+    (settled_when once c.args.server.now.session.engine.memory)
     (settled_by s.past) bases script first.orders.items s.orders.items work.orders.items c.in-Ok.ensures.places
     c.in-Ok.ensures.none
     (subst (λ (h : List ℕ). HasReadTo h script first.orders.items (settled_by s.past) [] bases s.orders.items) was

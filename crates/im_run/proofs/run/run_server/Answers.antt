@@ -13,8 +13,8 @@ pub returns-in-Ok-clause-run : goal.returns-in-Ok-clause-run
 returns-in-Ok-clause-run g c =
     let d = g.D.Disk in
     let server = c.args.server in
-    let m = server.front.session.engine.memory in
-    let start = start_at server.front.session.start.disk server.front.session.engine in
+    let m = server.session.engine.memory in
+    let start = start_at server.session.start.disk server.session.engine in
     let at = ap (λ (x : SessionState g.row.D.Denot). x.start) c.requires.ready.fresh in
     let held = g.W.Write.contents c.args.out.now in
     let once = c.args.asked.once in
@@ -26,12 +26,12 @@ returns-in-Ok-clause-run g c =
     let r = c.read_orders-read in
     let from = g.W.Write.contents r.new.out in
     let after = r.new.server in
-    let t = after.front.session in
+    let t = after.session in
     let bases = after.bases.items in
     let there = standing (Some course) bases [] in
     let going = subst (λ (x : SessionStart g.row.D.Denot). GoingAt x held there (seen_by after from)) at
-    (match_ok _ r.result.0 c.in-Ok.work c.in-Ok.is r.ensures.served.serves server.front.session.start held
-    (Some course) [] (begun course (seen_by server held) [] c.requires.ready refl)) in
+    (match_ok _ r.result.0 c.in-Ok.work c.in-Ok.is r.ensures.served.serves server.session.start held (Some course) []
+    (begun course (seen_by server held) [] c.requires.ready refl)) in
     let it = going.serving in
     let orders = map ask_of c.in-Ok.work.orders.items in
     let whole = asks_in c.in-Ok.work.whole in
@@ -56,8 +56,8 @@ pub returns-in-Err-clause-run : goal.returns-in-Err-clause-run
 returns-in-Err-clause-run g c =
     let d = g.D.Disk in
     let server = c.args.server in
-    let m = server.front.session.engine.memory in
-    let start = start_at server.front.session.start.disk server.front.session.engine in
+    let m = server.session.engine.memory in
+    let start = start_at server.session.start.disk server.session.engine in
     let at = ap (λ (x : SessionState g.row.D.Denot). x.start) c.requires.ready.fresh in
     let held = g.W.Write.contents c.args.out.now in
     let once = c.args.asked.once in
@@ -80,10 +80,10 @@ returns-in-Err-clause-run g c =
     let calls : TraceState = record { setup = r.result.1.items; served = served.items; recorded = served.recorded } in
     let ended = subst (λ (x : SessionStart g.row.D.Denot). EndedAt x held (Some course)
     (server_of t from lines w marks)) at
-    (as_of (λ (x : SessionState g.row.D.Denot) (l : Lines). EndedAt server.front.session.start held (Some course)
-    (server_of x from l w marks)) r.new.server.front.session t r.new.server.lines lines
+    (as_of (λ (x : SessionState g.row.D.Denot) (l : Lines). EndedAt server.session.start held (Some course)
+    (server_of x from l w marks)) r.new.server.session t r.new.server.lines lines
     (n.ensures.session ∙ v.ensures.session) v.ensures.lines
-    (r.ensures.served.ends server.front.session.start held (Some course) []
+    (r.ensures.served.ends server.session.start held (Some course) []
     (begun course (seen_by server held) [] c.requires.ready refl))) in
     let over = ended.over in
     subst (λ (x : SessionStart g.row.D.Denot). RunWhen d once planned script x k.result.1 held is calls k.result.0) (sym

@@ -37,7 +37,7 @@ returns-in-Ok-clause-ended g c =
       closed = k.ensures.disk;
       works = k.ensures.works;
       did = did;
-      ended = ended_weaker d planned whole orders c.args.server.front.session engine trace did (IsOk s.result.0.done)
+      ended = ended_weaker d planned whole orders c.args.server.session engine trace did (IsOk s.result.0.done)
           (k.result.0 ≡ 0) k.ensures.done
           (subst (λ (x : SessionState g.row.D.Denot). ServersEnded d planned whole orders x engine trace did
           (IsOk s.result.0.done)) (c.in-Ok.ensures.found ∙ v.ensures.session) s.ensures.ended);

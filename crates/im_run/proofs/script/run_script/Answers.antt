@@ -5,7 +5,7 @@ use Rattle.im_run.proofs.script.run_script.Goals as goal
 pub returns-in-Ok-clause-run : goal.returns-in-Ok-clause-run
 returns-in-Ok-clause-run g c =
     let r = c.run_opened in
-    let start = c.in-Ok.server.front.session.start in
+    let start = c.in-Ok.server.session.start in
     let is = g.W.Write.contents r.new.out in
     let asked = c.args.asked in record {
       honest = λ honest. subst g.D.Disk.honest c.in-Ok.ensures.opened (ends_honest g.D.Disk asked.once asked.planned

@@ -8,7 +8,7 @@ serve_once_on-requires g c =
     let n = c.new-server in
     let e = c.in-Ok-open.ensures in
     record {
-      nothing = ready_of c.in-Ok-open.session n.result.front.session (g.W.Write.contents c.args.out.now)
+      nothing = ready_of c.in-Ok-open.session n.result.session (g.W.Write.contents c.args.out.now)
           c.in-Ok.desk.lines n.result.lines n.result.waited.items n.result.places.marks.items n.result.bases.items
           e.fresh e.works n.ensures.memory c.in-Ok.ensures.pending n.ensures.waited n.ensures.bases n.ensures.session
           n.ensures.lines;

@@ -13,7 +13,7 @@ returns-clause-served g c =
     let script = wanted_of c.args.script.now in
     let course = whole_course script in
     let n = c.new-server in
-    let first = going_first script was n.result.front.session held c.args.desk.lines n.result.lines n.result.waited.items
+    let first = going_first script was n.result.session held c.args.desk.lines n.result.lines n.result.waited.items
     n.result.places.marks.items n.result.bases.items c.requires.fresh c.requires.works n.ensures.memory
     c.requires.pending n.ensures.waited n.ensures.bases n.ensures.session n.ensures.lines in
     let s = c.serve-served in
@@ -28,7 +28,7 @@ returns-clause-served g c =
     let bases = s.new.self.bases.items in
     let marks = s.new.self.places.marks.items in
     let ended = as_of (λ (x : SessionState g.row.D.Denot) (y : Lines). EndedAt was.start held (Some course) (server_of
-    x from y w marks)) s.new.self.front.session t s.new.self.lines l.new.self.lines sessions l.ensures.lines
+    x from y w marks)) s.new.self.session t s.new.self.lines l.new.self.lines sessions l.ensures.lines
     (s.ensures.served.ends was.start held (Some course) [] first) in
     let begun = ended.over.start_is in
     let failed = ap (λ (e : EngineState g.row.D.Denot). e.failed) (sym c.engine.ensures.state)
@@ -43,7 +43,7 @@ returns-clause-served g c =
     (λ zero. subst (λ (x : SessionStart g.row.D.Denot). GoingAt x held (standing (Some course) bases [])
     (server_of t from l.new.self.lines w marks)) (sym begun)
     (as_of (λ (x : SessionState g.row.D.Denot) (y : Lines). GoingAt was.start held (standing (Some course) bases [])
-    (server_of x from y w marks)) s.new.self.front.session t s.new.self.lines l.new.self.lines sessions l.ensures.lines
+    (server_of x from y w marks)) s.new.self.session t s.new.self.lines l.new.self.lines sessions l.ensures.lines
     (ends_served s.result script _ _ _ _ s.ensures.served (c.both.ensures.served
     (c.finish-status.ensures.whole (c.status_at.ensures.status zero)).0) was.start held (Some course) [] first)))
     l.ensures.names (λ m put same known. l.ensures.last m put

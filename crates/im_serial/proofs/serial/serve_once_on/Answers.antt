@@ -9,7 +9,7 @@ pub returns-clause-served : Rattle.im_serial.proofs.serial.serve_once_on.Goals.r
 returns-clause-served g c =
     let held = g.W.Write.contents c.args.out.now in
     let script = wanted_of c.args.script.now in
-    let start = c.args.server.front.session.start in
+    let start = c.args.server.session.start in
     let s = c.serve_once-served in
     let served = s.ensures.served c.requires.nothing in
     let l = c.learn_all in
@@ -22,7 +22,7 @@ returns-clause-served g c =
     let w = s.new.self.waited.items in
     let marks = s.new.self.places.marks.items in
     let ended = as_of (λ (x : SessionState g.row.D.Denot) (y : Lines). EndedOnce start script held (server_of x from y w
-    marks)) s.new.self.front.session t s.new.self.lines l.new.self.lines sessions l.ensures.lines served.0 in
+    marks)) s.new.self.session t s.new.self.lines l.new.self.lines sessions l.ensures.lines served.0 in
     let begun = ended.over.start_is in
     let failed = ap (λ (e : EngineState g.row.D.Denot). e.failed) (sym c.engine.ensures.state)
     ∙ sym c.failed-failed.ensures.failed in
@@ -36,7 +36,7 @@ returns-clause-served g c =
     (λ zero. subst (λ (x : SessionStart g.row.D.Denot). DoneOnce x script held (server_of t from l.new.self.lines w
     marks)) (sym begun)
     (as_of (λ (x : SessionState g.row.D.Denot) (y : Lines). DoneOnce start script held (server_of x from y w marks))
-    s.new.self.front.session t s.new.self.lines l.new.self.lines sessions l.ensures.lines
+    s.new.self.session t s.new.self.lines l.new.self.lines sessions l.ensures.lines
     (on_ok_by s.result _ served.1 (c.both.ensures.served
     (c.finish-status.ensures.whole (c.status_at.ensures.status zero)).0))))
     l.ensures.names (λ m put same known. l.ensures.last m put

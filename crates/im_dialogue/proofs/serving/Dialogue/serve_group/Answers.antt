@@ -1,6 +1,6 @@
 use Rattle.std.proofs.Common.{◌≡◌, true, false, List, [], map, take, None, string_bytes, sym, ap, subst, rules}
 use Rattle.{im_laws.specs.Groups.IsCounted, im_engine.specs.State.EngineState, im_engine.specs.State.reached_in}
-use Rattle.im_asks.specs.{declared.AskedCommand.AskedCommand, Lists.commands_asked}
+use Rattle.im_front.specs.{declared.AskedCommand.AskedCommand, Lists.commands_asked}
 use Rattle.im_dialogue.proofs.ServeLemmas.{asked_less, group_failed, group_told, group_untold, lines_as, still_asked}
 use Rattle.im_dialogue.proofs.ServeLemmas.{was_told}
 use Rattle.im_dialogue.proofs.TalkLemmas.{talk_ends_here}

@@ -1,5 +1,5 @@
 use Rattle.std.proofs.Common.{◌≡◌, true, false, List, [], Some, None, string_bytes, sym, ap, ◌∙◌, subst, append-nil}
-use Rattle.{im_asks.specs.declared.AskedCommand.AskedCommand, im_front.specs.State.FrontState}
+use Rattle.im_front.specs.{declared.AskedCommand.AskedCommand, State.FrontState}
 use Rattle.im_dialogue.proofs.{HearingLemmas.hears_line, HearingLemmas.hears_quit, WatchLemmas.alone_line}
 use Rattle.im_dialogue.proofs.TalkLemmas.{halts_talk, not_quit, quit_talk, talk_ends, talks_on}
 use Rattle.im_dialogue.proofs.ToldLemmas.{hears_alone, same_behind}

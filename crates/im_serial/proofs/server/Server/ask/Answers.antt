@@ -12,7 +12,7 @@ returns-in-Ok-note-clause-serves g c =
     let r = c.args.request in
     let entry = c.in-Ok-Entry.entry in
     let was = c.args.self.now in
-    let mid = c.one.new.self.session in
+    let mid = c.serve_one.new.session in
     let held = g.W.Write.contents c.args.out.now in
     let later = g.W.Write.contents c.print.new.out in
     let n = c.note.new.self in
@@ -32,14 +32,14 @@ returns-in-Ok-note-clause-serves g c =
     record {
       serves = λ w before added element op made. as_of (λ (t : SessionState g.row.D.Denot) (l : Lines). Passes
           (w ∷ []) before [] (before ++ added) (seen_by was held) (server_of t later l noted marked)) mid
-          n.front.session c.print.new.self.lines n.lines sessions c.note.ensures.lines
-          (asked_passes was.front.session mid r c.requires.next.0 c.requires.next.1 w before element op
+          n.session c.print.new.self.lines n.lines sessions c.note.ensures.lines
+          (asked_passes was.session mid r c.requires.next.0 c.requires.next.1 w before element op
           was.waited.items was.places.marks.items held later was.lines c.print.new.self.lines entry it
           c.in-Ok.ensures.more noted marked pushed others mark names added made);
       ends = λ w before element op. as_of (λ (t : SessionState g.row.D.Denot) (l : Lines). EndsAt (w ∷ []) before
-          (seen_by was held) (server_of t later l noted marked)) mid n.front.session c.print.new.self.lines
+          (seen_by was held) (server_of t later l noted marked)) mid n.session c.print.new.self.lines
           n.lines sessions c.note.ensures.lines
-          (told_ends was.front.session mid r c.requires.next.0 c.requires.next.1 w before element op
+          (told_ends was.session mid r c.requires.next.0 c.requires.next.1 w before element op
           was.waited.items was.places.marks.items held later was.lines c.print.new.self.lines entry it
           c.in-Ok.ensures.more noted marked pushed others mark names);
     }
@@ -49,7 +49,7 @@ returns-in-Err-note-clause-serves g c =
     let r = c.args.request in
     let entry = c.in-Ok-Entry.entry in
     let was = c.args.self.now in
-    let mid = c.one.new.self.session in
+    let mid = c.serve_one.new.session in
     let held = g.W.Write.contents c.args.out.now in
     let later = g.W.Write.contents c.print.new.out in
     let n = c.note.new.self in
@@ -58,11 +58,11 @@ returns-in-Err-note-clause-serves g c =
     record {
       serves = tt;
       ends = λ w before element op. as_of (λ (t : SessionState g.row.D.Denot) (l : Lines). EndsAt (w ∷ []) before
-          (seen_by was held) (server_of t later l n.waited.items marked)) mid n.front.session
+          (seen_by was held) (server_of t later l n.waited.items marked)) mid n.session
           c.print.new.self.lines n.lines (c.note.ensures.session ∙ c.print.ensures.session) c.note.ensures.lines
           (subst (λ (l : List Waited). EndsAt (w ∷ []) before (seen_by was held) (server_of mid later
           c.print.new.self.lines l marked)) (sym (c.in-Err-note.ensures.pushed ∙ c.print.ensures.names))
-          (unnoted_ends was.front.session mid r c.requires.next.0 c.requires.next.1 w before element op
+          (unnoted_ends was.session mid r c.requires.next.0 c.requires.next.1 w before element op
           was.waited.items was.places.marks.items held later was.lines c.print.new.self.lines entry it
           c.in-Ok.ensures.more marked));
     }
@@ -72,7 +72,7 @@ returns-in-Err-print-clause-serves g c =
     let r = c.args.request in
     let entry = c.in-Ok-Entry.entry in
     let was = c.args.self.now in
-    let mid = c.one.new.self.session in
+    let mid = c.serve_one.new.session in
     let held = g.W.Write.contents c.args.out.now in
     let later = g.W.Write.contents c.print.new.out in
     let n = c.print.new.self in
@@ -81,9 +81,9 @@ returns-in-Err-print-clause-serves g c =
     record {
       serves = tt;
       ends = λ w before element op. as_of (λ (t : SessionState g.row.D.Denot) (l : List Waited). EndsAt (w ∷ []) before
-          (seen_by was held) (server_of t later n.lines l marked)) mid n.front.session was.waited.items
+          (seen_by was held) (server_of t later n.lines l marked)) mid n.session was.waited.items
           n.waited.items c.print.ensures.session c.print.ensures.names
-          (unprinted_ends was.front.session mid r c.requires.next.0 c.requires.next.1 w before element op
+          (unprinted_ends was.session mid r c.requires.next.0 c.requires.next.1 w before element op
           was.waited.items was.places.marks.items held later was.lines n.lines entry it marked
           c.in-Err-print.ensures.more);
     }
@@ -91,11 +91,11 @@ returns-in-Err-print-clause-serves g c =
 pub returns-in-Err-clause-serves : goal.returns-in-Err-clause-serves
 returns-in-Err-clause-serves g c =
     let was = c.args.self.now in
-    let mid = c.one.new.self.session in
+    let mid = c.serve_one.new.session in
     let held = g.W.Write.contents c.args.out.now in
     record {
       serves = tt;
-      ends = λ w before element op. refused_ends was.front.session mid c.args.request c.requires.next.0
+      ends = λ w before element op. refused_ends was.session mid c.args.request c.requires.next.0
           c.requires.next.1 w before element op was.waited.items was.places.marks.items held held was.lines was.lines
           c.in-Err.ensures.refused;
     }

@@ -15,12 +15,12 @@ returns-clause-goes g c =
     let same_names = c.learn.ensures.names ∙ ap (map who_of) value in
     let back = written_back was.waited.len c.learn.new.waited was.waited.items same_names (ap length (sym value)
     ∙ c.as_mut_slice.ensures.len) in
-    let found = due_bounds was.front.session.engine.memory element base upto c.requires.due in
-    drops_then c.one.result element upto was.front.session c.one.new.self.session was.waited.items _ marks later
+    let found = due_bounds was.session.engine.memory element base upto c.requires.due in
+    drops_then c.serve_one.result element upto was.session c.serve_one.new.session was.waited.items _ marks later
     (base, c.requires.due)
-    (λ start s text serving. learns start was.front.session element upto base found.next was.waited.items _ marks later
+    (λ start s text serving. learns start was.session element upto base found.next was.waited.items _ marks later
     (ap (map who_of) back ∙ same_names) found.are
     (λ m put same memory there noted. subst (AreNoted m put element upto later) (sym back) (c.learn.ensures.learnt
     found.from m put (c.memory.ensures ∙ same) memory
     (subst (AreNoted m put element base marks) (sym value) (noted_from m put element base found.next marks
-    was.waited.items there noted)))) s text serving) c.one.ensures.served c.one.ensures.refused
+    was.waited.items there noted)))) s text serving) c.serve_one.ensures.served c.serve_one.ensures.refused

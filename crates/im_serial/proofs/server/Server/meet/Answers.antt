@@ -15,20 +15,20 @@ returns-in-Ok-clause-passed g c = λ w element.
     let left = c.meet-left.result in
     subst (λ (l : List ℕ). HasPassed many (w ∷ []) l t.result (seen_by was held) (seen_by t.new.self later))
     (ap (met many) element ∙ sym c.meet-left.ensures.many)
-    (passed_had was.front.session t.new.self.front.session held later was.lines t.new.self.lines was.waited.items
+    (passed_had was.session t.new.self.session held later was.lines t.new.self.lines was.waited.items
     t.new.self.waited.items was.places.marks.items t.new.self.places.marks.items many w (record {
       element = c.args.element;
       number = c.saturating_sub-number.result;
     }) t.ensures.session (has_some many c.args.element w.element left element c.meet-left.ensures.left
     c.if-left-eq0.false)
-    (who_is_next was.front.session.engine.memory many c.args.element w.element _ c.in-Ok.next left
+    (who_is_next was.session.engine.memory many c.args.element w.element _ c.in-Ok.next left
     c.saturating_sub-number.result
     element (ap (λ (x : Contents). bounds x.windows c.args.element) (sym c.memory.ensures) ∙ sym c.window.ensures
     ∙ c.in-Ok.is) c.meet-left.ensures.left (omega (arith, c.saturating_sub-number.ensures)))
     t.ensures.others t.ensures.unmarked t.result t.ensures.pushed t.ensures.mark t.ensures.more)
 
 pub returns-in-Ok-clause-had : goal.returns-in-Ok-clause-had
-returns-in-Ok-clause-had g c = had_of c.tell_past.result c.args.self.now.front.session.engine.memory
+returns-in-Ok-clause-had g c = had_of c.tell_past.result c.args.self.now.session.engine.memory
     c.args.past.now.many.items
     (record {
       element = c.args.element;
@@ -38,11 +38,11 @@ returns-in-Ok-clause-had g c = had_of c.tell_past.result c.args.self.now.front.s
 pub returns-in-Ok-clause-found : goal.returns-in-Ok-clause-found
 returns-in-Ok-clause-found g c =
     let was = c.args.self.now in
-    found_of c.tell_past.result was.front.session.engine.memory (record {
+    found_of c.tell_past.result was.session.engine.memory (record {
       element = c.args.element;
       number = c.saturating_sub-number.result;
-    }) (who_next was.front.session.engine.memory c.args.past.now.many.items c.args.element)
-    (who_is_next was.front.session.engine.memory c.args.past.now.many.items c.args.element c.args.element _ c.in-Ok.next
+    }) (who_next was.session.engine.memory c.args.past.now.many.items c.args.element)
+    (who_is_next was.session.engine.memory c.args.past.now.many.items c.args.element c.args.element _ c.in-Ok.next
     c.meet-left.result c.saturating_sub-number.result
     refl (ap (λ (x : Contents). bounds x.windows c.args.element) (sym c.memory.ensures) ∙ sym c.window.ensures
     ∙ c.in-Ok.is) c.meet-left.ensures.left (omega (arith, c.saturating_sub-number.ensures)))

@@ -21,7 +21,7 @@ returns-in-None g c =
           past.many.items first.end past.end all was.bases.items now.bases.items c.loop-number.rest c.in-None.is
           c.loop-number.invariant.1.0;
       made = makes_none (λ text. wanted_in (draft_of c.loop-number.reader) (lines_of text.now))
-          was.front.session.engine.memory
+          was.session.engine.memory
           first.many.items past.many.items all c.loop-number.rest c.in-None.is c.loop-number.invariant.1.1.0;
       passed = meets_none (λ text. wanted_in (draft_of c.loop-number.reader) (lines_of text.now)) first.many.items
           past.many.items all old mid c.loop-number.rest c.in-None.is c.loop-number.invariant.1.1.1;
@@ -89,9 +89,9 @@ loop-number-preserved g c =
             c.in-Some.is c.loop-number.invariant.1.0) c.meet_said.new.past.many.items c.meet_said.new.past.end
             s.bases.items c.in-Ok-meet_said.ensures.names,
         (
-          line_makes was.front.session.engine.memory all first.many.items past.many.items d (draft_of c.hear.new.reader)
+          line_makes was.session.engine.memory all first.many.items past.many.items d (draft_of c.hear.new.reader)
               c.in-Ok.said c.in-Some.text.now c.split_line.result.0.now c.split_line.result.1 c.split_line.ensures
-              c.in-Ok.ensures.ok (makes_some (λ text. wanted_in d (lines_of text.now)) was.front.session.engine.memory
+              c.in-Ok.ensures.ok (makes_some (λ text. wanted_in d (lines_of text.now)) was.session.engine.memory
               first.many.items past.many.items all c.loop-number.rest c.in-Some.text c.in-Some.is
               c.loop-number.invariant.1.1.0) c.meet_said.new.past.many.items
               (subst (λ (e : SessionState g.row.D.Denot). MakesBlocks e.engine.memory past.many.items

@@ -20,7 +20,7 @@ returns-clause-names g c = names_kept c.name_past.result c.args.past.now.many.it
     c.in-Ok.ensures.end (is_had c.in-Ok.met) c.in-Ok.ensures.had c.name_past.ensures.new c.name_past.ensures.had
 
 pub returns-clause-made : goal.returns-clause-made
-returns-clause-made g c = makes_block c.name_past.result c.args.self.now.front.session.engine.memory
+returns-clause-made g c = makes_block c.name_past.result c.args.self.now.session.engine.memory
     c.args.past.now.many.items _
     (record {
       element = 0;

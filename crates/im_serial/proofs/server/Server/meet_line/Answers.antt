@@ -10,12 +10,11 @@ returns-in-Ok-clause-passed g c = c.in-Ok.ensures.passed (record {
 }) refl
 
 pub returns-in-Ok-clause-made : goal.returns-in-Ok-clause-made
-returns-in-Ok-clause-made g c = let memory = c.args.self.now.front.session.engine.memory in
-    makes_plain memory c.args.past.now.many.items _ (record {
-      element = c.args.line.element;
-      action = c.args.line.action;
-      named = false;
-    }) refl c.in-Ok.ensures.many
+returns-in-Ok-clause-made g c = makes_plain c.args.self.now.session.engine.memory c.args.past.now.many.items _ (record {
+  element = c.args.line.element;
+  action = c.args.line.action;
+  named = false;
+}) refl c.in-Ok.ensures.many
 
 pub returns-in-Err-clause-passed : goal.returns-in-Err-clause-passed
 returns-in-Err-clause-passed g c = c.in-Err.ensures.passed (record {

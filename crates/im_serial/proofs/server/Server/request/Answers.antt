@@ -8,7 +8,7 @@ returns-in-Ok-clause-serves g c =
     let old = c.args.self.now in
     let mid = c.number.new.self in
     asked_then c.ask.result c.args.element c.args.op _ _ _
-    (prepared_goes old.front.session mid.front.session old.waited.items mid.waited.items old.places.marks.items
+    (prepared_goes old.session mid.session old.waited.items mid.waited.items old.places.marks.items
     mid.places.marks.items (g.W.Write.contents c.args.out.now) old.lines mid.lines c.in-Ok.ensures.goes
     c.number.ensures.lines)
     c.ask.ensures.serves

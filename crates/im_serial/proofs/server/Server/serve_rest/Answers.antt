@@ -16,7 +16,7 @@ returns-in-Err g c = record {
   served = record {
     serves = tt;
     ends = ends_here _ _ _ _ (seen_by c.args.self.now (g.W.Write.contents c.args.out.now)) (server_of
-        c.loop-number.self.front.session (g.W.Write.contents c.loop-number.out) c.loop-number.self.lines
+        c.loop-number.self.session (g.W.Write.contents c.loop-number.out) c.loop-number.self.lines
         c.loop-number.self.waited.items c.loop-number.self.places.marks.items) c.loop-number.invariant;
   };
 }
@@ -65,7 +65,7 @@ returns g c = record {
   served = record {
     serves = tt;
     ends = ends_here _ _ _ _ (seen_by c.args.self.now (g.W.Write.contents c.args.out.now)) (server_of
-        c.loop-number.self.front.session (g.W.Write.contents c.loop-number.out) c.loop-number.self.lines
+        c.loop-number.self.session (g.W.Write.contents c.loop-number.out) c.loop-number.self.lines
         c.loop-number.self.waited.items c.loop-number.self.places.marks.items) c.loop-number.invariant;
   };
 }

@@ -10,7 +10,7 @@ returns-in-Err-clause-shown g c =
     let was = c.args.self.now in
     let old = seen_by was (g.W.Write.contents c.args.out.now)
     in
-    let many = numbers_had was.front.session.engine.memory in
+    let many = numbers_had was.session.engine.memory in
     let all = wanted_of c.args.script.now in
     breaks_here many many all all old old (meets_refl many all old)
 
@@ -19,7 +19,7 @@ returns-in-Err-new-clause-shown g c =
     let was = c.args.self.now in
     let old = seen_by was (g.W.Write.contents c.args.out.now)
     in
-    let many = numbers_had was.front.session.engine.memory in
+    let many = numbers_had was.session.engine.memory in
     let all = wanted_of c.args.script.now in
     breaks_here many many all all old old (meets_refl many all old)
 
@@ -33,14 +33,14 @@ returns-in-Ok-meet_all-clause-shown g c =
     let past = c.meet_all.new.past in
     let all = wanted_of c.args.script.now in
     let many = c.in-Ok-new.ensures.many ∙ ap numbers_had c.memory-2.ensures in
-    shown_by c.flush.result all was.bases.items s.bases.items past.many.items past.end old s.front.session
+    shown_by c.flush.result all was.bases.items s.bases.items past.many.items past.end old s.session
     (g.W.Write.contents c.meet_all.new.out) (g.W.Write.contents c.flush.new.out) s.lines c.flush.new.self s.waited.items
     s.places.marks.items c.meet_all.ensures.session
     (subst (λ (l : List ℕ). Meets l all past.many.items [] old mid) many c.in-Ok-meet_all.ensures.passed)
     (subst (λ (l : List ℕ). Names l 0 all past.many.items past.end [] was.bases.items s.bases.items) many (subst (λ (n :
     ℕ). Names c.in-Ok-new.past.many.items n all past.many.items past.end [] was.bases.items s.bases.items)
     c.in-Ok-new.ensures.end c.in-Ok-meet_all.ensures.names))
-    (subst (λ (l : List ℕ). MakesBlocks was.front.session.engine.memory l all past.many.items []) many
+    (subst (λ (l : List ℕ). MakesBlocks was.session.engine.memory l all past.many.items []) many
     c.in-Ok-meet_all.ensures.made)
     c.flush.ensures.on c.flush.ensures.pending c.flush.ensures.works
 

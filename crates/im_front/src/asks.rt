@@ -1,8 +1,8 @@
 //! The queue of what is asked. It goes out in groups, from the front, and each answer goes with its ticket.
 ghost use Rattle.std.specs.Prelude.{◌≡◌, ◌<◌, ◌≤◌, min, [], ◌∷◌, ◌++◌, length, take, drop, ◌==◌};
 ghost use Rattle.im_types.specs.Types.{MAX_GROUP};
-ghost use Rattle.im_asks.specs.declared.asks.TheConstants.{MOST_ASKED};
-ghost use Rattle.im_asks.specs.Lists.{answers_told, asks_told, commands_asked, with_ticket};
+ghost use Rattle.im_front.specs.declared.asks.TheConstants.{MOST_ASKED};
+ghost use Rattle.im_front.specs.Lists.{answers_told, asks_told, commands_asked, with_ticket};
 
 use crate::asked::{AskedCommand, ToldAnswer};
 use arrayvec::ArrayVec;
@@ -21,7 +21,7 @@ pub struct Asks {
 
 impl Model for Asks {
     ghost use Rattle.std.specs.Prelude.{List};
-    ghost use Rattle.im_asks.specs.declared.asked.AskedCommand.{AskedCommand};
+    ghost use Rattle.im_front.specs.declared.asked.AskedCommand.{AskedCommand};
 
     ghost Value = { List AskedCommand };
 

@@ -1,7 +1,7 @@
 -- What is asked and told, as lists. (Own.)
 use Rattle.std.specs.Prelude.{ℕ, List, map}
 use Rattle.im_types.specs.Types.{Command, Served}
-use Rattle.im_asks.specs.declared.asked.{AskedCommand.AskedCommand, ToldAnswer.ToldAnswer}
+use Rattle.im_front.specs.declared.asked.{AskedCommand.AskedCommand, ToldAnswer.ToldAnswer}
 
 -- a command with its ticket
 abbrev pub with_ticket : ℕ → Command → AskedCommand
