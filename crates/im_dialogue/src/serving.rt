@@ -5,7 +5,7 @@
 //! the reader's buffer.
 ghost use Rattle.std.specs.Prelude.{◌≡◌, ◌<◌, true, false, List, [], length, IfOk, OnOk, Some, None};
 ghost use Rattle.im_turning.specs.Turning.{IsSpent, point_of};
-ghost use Rattle.{im_session.specs.Kept.Kept, im_front.specs.declared.TheConstants.MOST_ASKED};
+ghost use Rattle.{im_session.specs.Kept.Kept, im_front.specs.declared.asks.TheConstants.MOST_ASKED};
 ghost use Rattle.im_dialogue.specs.{Asking.asked_of, Asking.command_in, declared.asking.Question.TheVariants.Serve};
 ghost use Rattle.im_dialogue.specs.{Talk.outputs, Together.AreAsked, Together.LineAsksFor};
 

@@ -1,5 +1,5 @@
 use Rattle.std.proofs.Common.{◌≡◌, ◌+◌, ◌≤◌, List, length, Option}
-use Rattle.im_front.specs.declared.TheConstants.{MOST_ASKED}
+use Rattle.im_front.specs.declared.asks.TheConstants.{MOST_ASKED}
 use Rattle.im_dialogue.specs.{Backups.Backup, declared.asking.Question.Question, Talk.TalksOn, Together.AreAsked}
 use Rattle.im_dialogue.specs.Serving.{told_by_it}
 
