@@ -16,11 +16,7 @@ use std::io::Write;
 
 // Returns the name of the refusal that an answer is, or the words for where a line goes wrong or why a backup isn't
 // kept. It is empty for any other answer.
-fn name_of(
-    alloc: Global,
-    memory: &Memory,
-    answer: LineAnswer,
-) -> Result<String, AllocError> {
+fn name_of(alloc: Global, memory: &Memory, answer: LineAnswer) -> Result<String, AllocError> {
     let mut name = String::new(alloc);
     if let LineAnswer::Wrong(_, fault) = answer {
         write!(name, "{fault}")?;

@@ -18,10 +18,9 @@ use crate::resting::half_of;
 use crate::talk::{answer, turn_while_quiet, wrong};
 use crate::watching::make_nows;
 use arrayvec::ArrayVec;
-use im_front::MOST_ASKED;
 use im_damage::Damage;
 use im_disk::Disk;
-use im_front::Front;
+use im_front::{Front, MOST_ASKED};
 use im_listening::Ear;
 use im_session::Session;
 use im_text::Reason;
@@ -138,7 +137,11 @@ impl<D: Disk> Dialogue<D> {
             return Err(Reason::Image(Refusal::Device, Damage::Unknown));
         }
         let nows = self.drafts.nows.as_slice();
-        match self.drafts.draft.say_all(self.front.memory(), told.as_slice(), nows) {
+        match self
+            .drafts
+            .draft
+            .say_all(self.front.memory(), told.as_slice(), nows)
+        {
             Ok(()) => Ok(()),
             Err(_) => Err(Reason::Memory),
         }

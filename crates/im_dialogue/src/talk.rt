@@ -19,8 +19,8 @@ use im_front::Front;
 use im_listening::Ear;
 use im_script::LineFault;
 use im_turning::MOST_TURNS;
-use im_types::layout::Version;
 use im_types::Refusal;
+use im_types::layout::Version;
 
 /// Takes turns of a checkpoint while nothing is heard, there is room for fewer than `least` commands, and something is
 /// left to do. It does nothing if there is room for `least` commands, or if a read never waits. Returns `Device` if a

@@ -82,11 +82,7 @@ fn add_taker(out: &mut String, memory: &Memory, a: u32, value: u64) -> Result<()
 }
 
 // Adds the lines of the requests that a new request resumes.
-fn add_resumed(
-    out: &mut String,
-    memory: &Memory,
-    request: &Request,
-) -> Result<(), AllocError>
+fn add_resumed(out: &mut String, memory: &Memory, request: &Request) -> Result<(), AllocError>
     ensures { OnOk result (string_bytes out.new ≡ string_bytes out.old
         ++ nows_text (act memory.now.contents.cells (asker request.now) request.now.op).resumed) }
 {
