@@ -2,7 +2,7 @@
 use Rattle.std.proofs.Common.{◌≡◌, ℕ, zero, suc, ◌+◌, ◌<◌, ◌≤◌, max, Bool, true, false, List, [], ◌∷◌, ◌++◌, map}
 use Rattle.std.proofs.Common.{length, get_or, drop, IfSome, IfOk, OnOk, ◌==◌, Some, None, Ok, Err, Option, Result, sym}
 use Rattle.std.proofs.Common.{refl, ap, ◌∙◌, subst, inl, inr, append_assoc, append-nil, arith, length-append}
-use Rattle.std.proofs.lemmas.{Bool.Decides.nat_tests, List.map-append}
+use Rattle.std.proofs.{Math.Seq.drop-cons, lemmas.Bool.Decides.nat_tests, lemmas.List.map-append}
 use Rattle.im_types.specs.Types.{Command, Outcome, Served, Refusal, LAST, as_served}
 use Rattle.im_groups.proofs.{CommandLemmas.left_behind, EnoughLemmas.at_most_members}
 use Rattle.im_groups.specs.Commands.{answer_with, answers_with, contents_with, places, places_behind}

@@ -10,7 +10,7 @@ use Rattle.im_types.specs.Types.{allocate_at, block_with_base, is_waiting_cell, 
 use Rattle.{im_checkpoint.specs.declared.TurnDone.TurnDone, im_turning.specs.Turning.Point}
 use Rattle.im_dialogue.specs.Answers.{answer_text, look_text}
 use Rattle.im_dialogue.specs.{Asking.command_in, Talk.AnswersQuestion, Watching.is_quiet, Watching.watch_text}
-use Rattle.im_dialogue.specs.declared.answers.LineAnswer.{LineAnswer, TheVariants.Looked}
+use Rattle.im_dialogue.specs.declared.answers.LineAnswer.{LineAnswer, TheVariants.Backup as BackedUp, TheVariants.Looked}
 use Rattle.im_dialogue.specs.declared.{asking.Question.Question, look.Look.Look}
 use Rattle.im_dialogue.specs.declared.asking.Question.TheVariants as asks
 
@@ -103,7 +103,7 @@ alone_line watch name m now n turns here asked answer none same = by_asked asked
     by_asked (Some asks.Turn) none same (done, (is, last)) = subst is_it (sym is) (plain _ refl refl)
     by_asked (Some asks.Count) none same is = subst is_it (sym is) (plain _ refl refl)
     by_asked (Some asks.About) none same (slots, is) = subst is_it (sym is) (plain _ refl refl)
-    by_asked (Some (asks.Backup backup)) none same (kept, is, of) = subst is_it (sym is) (plain _ refl refl)
+    by_asked (Some (asks.Backup backup)) none same (kept, is, of) = subst is_it (sym is) (plain (BackedUp backup kept) refl refl)
     by_asked (Some asks.Quit) none same it = absurd it
     by_asked None none same (number, (fault, is)) = subst is_it (sym is) (plain _ refl refl)
 

@@ -1,7 +1,7 @@
 -- What those that watch are told of commands, before these act.
 use Rattle.std.proofs.Common.{◌≡◌, ℕ, zero, suc, ◌+◌, ◌<◌, Bool, true, false, not, ◌&&◌, List, [], ◌∷◌, ◌++◌, length}
 use Rattle.std.proofs.Common.{get_or, take, drop, is_none, if◌then◌else◌, Some, None, Ok, Err, Option, Result, sym}
-use Rattle.std.proofs.Common.{refl, ap, ◌∙◌, subst, append_assoc, append-nil, arith}
+use Rattle.std.proofs.Common.{refl, ap, ◌∙◌, subst, append_assoc, append-nil, arith, length-append}
 use Rattle.std.{proofs.Math.Seq.drop-cons, specs.List.list_any}
 use Rattle.im_types.specs.Types.{Op, Kept as KeptEntry, I, M, Alloc, Release, Reset, Fetch, Store, Take, Put, Request}
 use Rattle.im_types.specs.Types.{Command, Outcome, Asks, Confirm, Refusal, Contents, kept_for, IsMemory, address_of}
@@ -150,6 +150,19 @@ module _ (watch : Bool) (b : GroupStart) where
   tell_first (suc n) ahead [] texts are = tt
   tell_first (suc n) ahead (c ∷ cs) texts are =
       (are.0, tell_first n (ahead ++ c ∷ []) cs (later_texts texts) are.1)
+
+pub told_next : (b : GroupStart) (ahead held now : List Command) (texts is : List (List ℕ)) (c : Command)
+    (text : List ℕ) → held ≡ ahead → now ≡ ahead ++ c ∷ [] → is ≡ texts ++ text ∷ [] → length texts ≡ length ahead
+    → TellWatchers true b [] ahead texts → TellsWatchers true b held c text → TellWatchers true b [] now is
+told_next b ahead held now texts is c text same next more many told known =
+    subst (λ (l : List Command). TellWatchers true b [] l is) (sym next)
+    (subst (λ (l : List (List ℕ)). TellWatchers true b [] (ahead ++ c ∷ []) l) (sym more)
+    (tell_more true b [] ahead texts c text many told
+    (subst (λ (l : List Command). TellsWatchers true b l c text) same known)))
+
+pub one_longer : {T : Type 0} (xs now : List T) (x : T) → now ≡ xs ++ x ∷ [] → length now ≡ suc (length xs)
+one_longer xs now x is = let same = ap (λ (l : List _). length l) is in let long = length-append xs (x ∷ []) in
+    omega (arith, same, long)
 
 -- no command is ahead
 pub no_command : (ahead : List Command) → length ahead ≡ 0 → ahead ≡ []

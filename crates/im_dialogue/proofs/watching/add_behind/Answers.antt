@@ -1,4 +1,4 @@
-use Rattle.std.proofs.Common.{string_bytes, sym, ◌∙◌, subst}
+use Rattle.std.proofs.Common.{true, string_bytes, sym, ◌∙◌, subst}
 use Rattle.im_types.specs.Types.{Command}
 use Rattle.im_dialogue.{proofs.WatchedLemmas.told_quiet, specs.Together.TellsWatchers}
 

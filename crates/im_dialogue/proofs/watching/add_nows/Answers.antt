@@ -1,8 +1,8 @@
-use Rattle.std.proofs.Common.{◌≡◌, ◌<◌, true, false, List, [], ◌∷◌, ◌++◌, map, length, take, string_bytes, sym, ap, ◌∙◌}
-use Rattle.std.proofs.Common.{subst, arith, length-append, rules}
+use Rattle.std.proofs.Common.{◌≡◌, ℕ, true, List, [], ◌++◌, map, length, take, string_bytes, sym, ap, ◌∙◌, subst, arith}
+use Rattle.std.proofs.Common.{rules}
 use Rattle.{im_types.specs.Types.Command, im_front.specs.Lists.commands_asked}
-use Rattle.im_dialogue.proofs.WatchedLemmas.{ahead_next, first_asked, some_ahead, tell_more}
-use Rattle.im_dialogue.specs.Together.{TellsWatchers, TellWatchers}
+use Rattle.im_dialogue.proofs.WatchedLemmas.{ahead_next, first_asked, one_longer, told_next}
+use Rattle.im_dialogue.specs.Together.{TellWatchers}
 use Rattle.im_dialogue.proofs.watching.add_nows.Goals as goal
 
 pub loop-one-init : goal.loop-one-init
@@ -20,27 +20,23 @@ loop-one-preserved c =
     let add = c.in_ok-add_now_of.ensures in
     let ahead = c.loop-one.ahead.items in
     let texts = map string_bytes c.loop-one.nows.items in
-    let command = c.loop-one.one.now.command in
-    let text = string_bytes c.add_told.new.now in
     let known : c.in_ok-known.known ≡ true = search rules in
-    let longer = ap length c.add_now_of.ensures.ahead ∙ length-append ahead (command ∷ []) in
-    let more = ap length add.nows ∙ length-append texts (text ∷ []) in
+    let longer = one_longer ahead _ _ c.add_now_of.ensures.ahead in
+    let more = one_longer texts _ _ add.nows in
     record {
       ahead = ahead_next c.args.asked.now c.loop-one.one-index _ ahead _ c.loop-one-test.true inv.ahead
           c.add_now_of.ensures.ahead;
       many = let many = inv.many in omega (arith, longer, many);
       texts = let same = inv.texts in omega (arith, longer, more, same);
-      told = λ b same.
-          subst (λ (l : List Command). TellWatchers true b [] l (map string_bytes c.add_now_of.new.nows.items))
-          (sym c.add_now_of.ensures.ahead)
-          (subst (λ l. TellWatchers true b [] (ahead ++ command ∷ []) l) (sym add.nows)
-          (tell_more true b [] ahead texts command text inv.texts (inv.told b same)
-          (subst (λ (l : List Command). TellsWatchers true b l command text) c.as_slice.ensures.value
-          (c.in_ok-known.ensures.known known b same))));
+      told = λ b same. told_next b ahead _ _ texts _ _ _ c.as_slice.ensures.value c.add_now_of.ensures.ahead add.nows
+          inv.texts (inv.told b same) (c.in_ok-known.ensures.known known b same);
     }
 
 pub returns-then-not-known-clause-known : goal.returns-then-not-known-clause-known
 returns-then-not-known-clause-known c = λ b same.
     let inv = c.loop-one.invariant in
-    subst (λ (l : List Command). TellWatchers true b [] l (map string_bytes c.loop-one.nows.items))
-    (sym (first_asked c.loop-one.ahead.items (commands_asked c.args.asked.now) _ inv.ahead)) (inv.told b same)
+    let many : c.len-then-not-known.result ≡ length c.loop-one.ahead.items = search rules in
+    subst (λ (n : ℕ). TellWatchers true b [] (take n (commands_asked c.args.asked.now))
+    (map string_bytes c.loop-one.nows.items)) (sym many)
+    (subst (λ (l : List Command). TellWatchers true b [] l (map string_bytes c.loop-one.nows.items))
+    (sym (first_asked c.loop-one.ahead.items (commands_asked c.args.asked.now) _ inv.ahead)) (inv.told b same))

@@ -45,4 +45,5 @@ returns-in-Err-clause-talks g c = λ kept left.
 
 pub returns-clause-none : goal.returns-clause-none
 returns-clause-none g c =
-    none_left c.loop-group.self.front.asked c.loop-group._group MOST_ASKED c.loop-group.invariant.few ?
+    none_left c.loop-group.self.front.asked c.loop-group._group MOST_ASKED c.loop-group.invariant.few
+    (λ less. let past = c.loop-group-test.false in omega (arith, less, past))
