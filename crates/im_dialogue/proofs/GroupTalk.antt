@@ -1,7 +1,7 @@
 -- What was said by a group of lines.
 use Rattle.std.proofs.Common.{◌≡◌, ℕ, zero, suc, ◌+◌, ◌-◌, ◌<◌, ◌≤◌, Bool, true, false, ◌&&◌, List, [], ◌∷◌, ◌++◌}
 use Rattle.std.proofs.Common.{length, if◌then◌else◌, nat_lt, ◌==◌, Some, Err, Option, Result, sym, refl, ap, ◌∙◌, subst}
-use Rattle.std.proofs.Common.{ap₂, inl, ⊎_elim, append-nil, arith, length-append}
+use Rattle.std.proofs.Common.{ap₂, inl, inr, ⊎_elim, append-nil, arith, length-append}
 use Rattle.std.{proofs.KnownBytes.Appends-nil, proofs.lemmas.Bool.Decides.nat_tests, specs.Io.KnownBytes.Appends}
 use Rattle.im_types.specs.Types.{Command, Outcome, Served, Refusal, JournalFull, MAX_GROUP, LAST, Contents, step}
 use Rattle.im_types.specs.Types.{is_accepted, after}
@@ -11,7 +11,7 @@ use Rattle.{im_groups.proofs.EnoughLemmas.at_most_members, im_engine.specs.State
 use Rattle.im_groups.specs.Commands.{answer_with, command_at, commands_at, contents_after_all, contents_with}
 use Rattle.im_groups.specs.Commands.{left_after, places, places_behind, takes_place}
 use Rattle.im_engine.specs.Commands.{after_commands, answers_in_turn, commands_put, CommandsAnswered}
-use Rattle.im_turning.specs.Turning.{Point, point_of, TurnsLead, with_one}
+use Rattle.im_turning.specs.Turning.{IsSpent, Point, point_of, TurnsLead, with_one}
 use Rattle.im_session.{proofs.GroupLemmas.one_command, specs.Put.doubted_of, specs.Put.sure_by, specs.Put.sure_of}
 use Rattle.im_session.specs.{Kept.session_of, Kept.SessionState, Serving.served_together}
 use Rattle.im_text.{proofs.PrintingLemmas.true_false, specs.Printing.Begins}

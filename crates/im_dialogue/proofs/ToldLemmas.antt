@@ -3,16 +3,16 @@ use Rattle.std.proofs.Common.{◌≡◌, ℕ, zero, suc, ◌+◌, ◌<◌, ◌�
 use Rattle.std.proofs.Common.{length, get_or, drop, IfSome, IfOk, OnOk, ◌==◌, Some, None, Ok, Err, Option, Result, sym}
 use Rattle.std.proofs.Common.{refl, ap, ◌∙◌, subst, inl, inr, append_assoc, append-nil, arith, length-append}
 use Rattle.std.proofs.{Math.Seq.drop-cons, lemmas.Bool.Decides.nat_tests, lemmas.List.map-append}
-use Rattle.im_types.specs.Types.{Command, Outcome, Served, Refusal, LAST, as_served}
-use Rattle.im_groups.proofs.{CommandLemmas.left_behind, EnoughLemmas.at_most_members}
+use Rattle.im_types.specs.Types.{Command, Outcome, Served, Refusal, LAST, Contents, as_served}
+use Rattle.im_groups.proofs.{CommandLemmas.left_behind as places_left, EnoughLemmas.at_most_members}
 use Rattle.im_groups.specs.Commands.{answer_with, answers_with, contents_with, places, places_behind}
 use Rattle.{im_turning.specs.Turning.IsSpent, im_session.specs.Serving.served_answer}
 use Rattle.im_front.specs.declared.{AskedCommand.AskedCommand, ToldAnswer.ToldAnswer}
 use Rattle.im_front.specs.Lists.{answers_told, asks_told, commands_told}
 use Rattle.im_dialogue.proofs.GroupTalk.{left_and_put, told_member, told_none}
 use Rattle.im_dialogue.proofs.{ReachLemmas.contents_behind, TalkLemmas.Left}
-use Rattle.im_dialogue.specs.{Answers.served_line, Serving.behind_asked, Telling.SaysAll, Watching.told_with}
-use Rattle.im_dialogue.specs.declared.{answers.LineAnswer.TheVariants.Served as ServedAs, asking.Question.Question}
+use Rattle.im_dialogue.specs.{Answers.answer_text, Answers.served_line, Serving.behind_asked, Telling.SaysAll, Watching.told_with}
+use Rattle.im_dialogue.specs.declared.{answers.LineAnswer.LineAnswer, answers.LineAnswer.TheVariants.Served as ServedAs, asking.Question.Question}
 use Rattle.im_dialogue.specs.Hearing.{asking, Hears, left_behind}
 use Rattle.im_dialogue.specs.Together.{answer_told, AreAsked, AreLinesOf, first_text, FitInto, GroupStart, later_texts}
 use Rattle.im_dialogue.specs.Together.{memory_between, places_between, point_between, questions_asked, TellWatchers}
@@ -99,7 +99,7 @@ module _ (watch : Bool) (b : GroupStart) where
           ∙ ap (λ m. map as_served (answers_with m (places_behind (memory_between b ahead) (places_between b ahead) c)
           (commands_told told))) (sym (contents_behind b.memory b.places ahead c))
           ∙ ap (λ (k : ℕ). map as_served (answers_with (memory_between b (ahead ++ c ∷ [])) k (commands_told told)))
-          (sym (left_behind b.memory b.places ahead c))
+          (sym (places_left b.memory b.places ahead c))
 
       next : length ahead + suc (length told) ≡ length (ahead ++ c ∷ []) + length told
       next = omega (arith, length-append ahead (c ∷ []))

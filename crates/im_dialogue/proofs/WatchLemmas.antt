@@ -4,13 +4,15 @@ use Rattle.std.proofs.Common.{Option, option_map, sym, refl, ap, ◌∙◌, subs
 use Rattle.std.specs.List.{list_any}
 use Rattle.im_types.specs.Types.{Kind, Op, Reply, Waiter, Block, Answered, I, M, Alloc, Release, Reset, Fetch, Store}
 use Rattle.im_types.specs.Types.{Take, Put, BadLength, WrongKind, Released, StillWaiting, Cleared, Command, CellState}
-use Rattle.im_types.specs.Types.{Empty, Full, Clashed, Held, Contents, held_at, place, fill, change_each}
+use Rattle.im_types.specs.Types.{Empty, Full, Clashed, Held, Contents, bounds, held_at, place, fill, change_each}
 use Rattle.im_types.specs.Types.{ServedCell as Served, fetch, take_from, only_tells, same_kind, serve_cell, at_cell}
 use Rattle.im_types.specs.Types.{allocate_at, block_with_base, is_waiting_cell, unless_waited_for, emptied, act}
 use Rattle.{im_checkpoint.specs.declared.TurnDone.TurnDone, im_turning.specs.Turning.Point}
 use Rattle.im_dialogue.specs.Answers.{answer_text, look_text}
-use Rattle.im_dialogue.specs.{Asking.command_in, Talk.AnswersQuestion, Watching.is_quiet, Watching.watch_text}
-use Rattle.im_dialogue.specs.declared.answers.LineAnswer.{LineAnswer, TheVariants.Backup as BackedUp, TheVariants.Looked}
+use Rattle.im_dialogue.specs.{Asking.command_in, Talk.about_of, Talk.AnswersQuestion, Watching.is_quiet, Watching.watch_text}
+use Rattle.im_dialogue.specs.declared.answers.LineAnswer.{LineAnswer}
+use Rattle.im_dialogue.specs.declared.answers.LineAnswer.TheVariants.{About as Facts, Backup as BackedUp, Count, Looked}
+use Rattle.im_dialogue.specs.declared.answers.LineAnswer.TheVariants.{Room, Turned, Window, Wrong}
 use Rattle.im_dialogue.specs.declared.{asking.Question.Question, look.Look.Look}
 use Rattle.im_dialogue.specs.declared.asking.Question.TheVariants as asks
 
@@ -98,14 +100,14 @@ alone_line watch name m now n turns here asked answer none same = by_asked asked
     by_asked (Some (asks.Serve command)) none same it = absurd (cc)
     by_asked (Some (asks.Look look)) none same is =
         subst is_it (sym is) (plain (Looked look) (ap (λ (k : Contents). look_text name k look) (same look refl)) refl)
-    by_asked (Some (asks.Window element)) none same is = subst is_it (sym is) (plain _ refl refl)
-    by_asked (Some asks.Room) none same is = subst is_it (sym is) (plain _ refl refl)
-    by_asked (Some asks.Turn) none same (done, (is, last)) = subst is_it (sym is) (plain _ refl refl)
-    by_asked (Some asks.Count) none same is = subst is_it (sym is) (plain _ refl refl)
-    by_asked (Some asks.About) none same (slots, is) = subst is_it (sym is) (plain _ refl refl)
+    by_asked (Some (asks.Window element)) none same is = subst is_it (sym is) (plain (Window element (bounds m.windows element)) refl refl)
+    by_asked (Some asks.Room) none same is = subst is_it (sym is) (plain (Room here.room) refl refl)
+    by_asked (Some asks.Turn) none same (done, (is, last)) = subst is_it (sym is) (plain (Turned done) refl refl)
+    by_asked (Some asks.Count) none same is = subst is_it (sym is) (plain (Count n) refl refl)
+    by_asked (Some asks.About) none same (slots, is) = subst is_it (sym is) (plain (Facts (about_of m slots n here.room)) refl refl)
     by_asked (Some (asks.Backup backup)) none same (kept, is, of) = subst is_it (sym is) (plain (BackedUp backup kept) refl refl)
     by_asked (Some asks.Quit) none same it = absurd it
-    by_asked None none same (number, (fault, is)) = subst is_it (sym is) (plain _ refl refl)
+    by_asked None none same (number, (fault, is)) = subst is_it (sym is) (plain (Wrong number fault) refl refl)
 
 -- the command that is asked for
 pub command_some : (asked : Option Question) (c : Command) → command_in asked ≡ Some c → asked ≡ Some (asks.Serve c)

@@ -150,7 +150,7 @@ fn add_behind(
     now: &mut String,
 ) -> Result<bool, AllocError>
     requires empty { string_bytes now.old ≡ [] }
-    ensures known { IfOk result (λ known. known ≡ true → (b : GroupStart) → b.memory ≡ memory.now.contents
+    ensures { IfOk result (λ known. known ≡ true → (b : GroupStart) → b.memory ≡ memory.now.contents
         → TellsWatchers true b ahead.now command.now (string_bytes now.new)) }
 {
     if answers_nobody(*command) {
