@@ -252,7 +252,7 @@ module _ {D : Type 0} (watch : Bool) (start mid : SessionState D) (was : Outputs
     said = a.said;
     done = a.done;
     printed = no_more was.text now _ (put_onto was.text held now text [] _ a.printed
-        (text, (puts, sym (append-nil text))));
+        (text, puts, sym (append-nil text)));
     backups = a.backups;
     heard = hears_as was.left (behind_asked asked left) left _ a.heard
         (same_alone asked left left none (same_left left left refl));
@@ -430,5 +430,5 @@ module _ {D E T : Type 0} (old mid new : Dialogue D) (was is : List Backup) (kno
 pub put_whole : {T E : Type 0} (r : Result T E) (was is : List ℕ) (held now : Option (List ℕ))
     → OnOk r (Appends held now was) → is ≡ [] → OnOk r (PutsOut was is held now)
 put_whole (Ok x) was is held now whole none =
-    (was, (whole, sym (append-nil was) ∙ ap (λ (l : List ℕ). was ++ l) (sym none)))
+    (was, whole, sym (append-nil was) ∙ ap (λ (l : List ℕ). was ++ l) (sym none))
 put_whole (Err e) was is held now whole none = tt

@@ -13,7 +13,7 @@ use Rattle.im_dialogue.proofs.GroupTalk.{left_and_put, told_member, told_none}
 use Rattle.im_dialogue.proofs.{ReachLemmas.contents_behind, TalkLemmas.Left}
 use Rattle.im_dialogue.specs.{Answers.answer_text, Answers.served_line, Serving.behind_asked, Telling.SaysAll, Watching.told_with}
 use Rattle.im_dialogue.specs.declared.{answers.LineAnswer.LineAnswer, answers.LineAnswer.TheVariants.Served as ServedAs, asking.Question.Question}
-use Rattle.im_dialogue.specs.Hearing.{asking, Hears, left_behind}
+use Rattle.im_dialogue.specs.Hearing.{asking, Hears, left_behind, until_quit}
 use Rattle.im_dialogue.specs.Together.{answer_told, AreAsked, AreLinesOf, first_text, FitInto, GroupStart, later_texts}
 use Rattle.im_dialogue.specs.Together.{memory_between, places_between, point_between, questions_asked, TellWatchers}
 use Rattle.im_dialogue.specs.Together.{WasTold}
@@ -22,6 +22,9 @@ use Rattle.im_dialogue.specs.declared.asking.Question.TheVariants as asks
 member_answered : (s : Served) (a : Result Outcome Refusal) → s ≡ as_served a → served_answer s ≡ a
 member_answered s (Ok outcome) is = ap served_answer is
 member_answered s (Err refusal) is = ap served_answer is
+
+none_more : (n : ℕ) → n ≡ 0 + n
+none_more n = omega arith
 
 module _ (watch : Bool) (b : GroupStart) where
   -- no place is left behind members only where no turn makes any
@@ -47,7 +50,7 @@ module _ (watch : Bool) (b : GroupStart) where
       (subst (λ (l : List (Option Question)). SaysAll watch b ahead (before ++ text) l) (sym (append-nil qs))
       (subst (λ (l : List ℕ). SaysAll watch b ahead l qs)
       (sym (ap (λ (l : List ℕ). before ++ l) none ∙ append-nil before)) says))
-  says_from (t ∷ told) ahead nows before text qs says asked are fit watched (name, (rest, (is, more))) =
+  says_from (t ∷ told) ahead nows before text qs says asked are fit watched (name, rest, is, more) =
       subst (λ (l : List Command). SaysAll watch b l (before ++ text) (qs ++ (Some (asks.Serve c) ∷ others)))
       (append_assoc ahead (c ∷ []) (commands_told told))
       (subst (λ (l : List (Option Question)). SaysAll watch b ((ahead ++ c ∷ []) ++ commands_told told)
@@ -108,13 +111,14 @@ module _ (watch : Bool) (b : GroupStart) where
   pub says_told : (told : List ToldAnswer) (nows : List (List ℕ)) (text : List ℕ) → WasTold watch b told nows
       → AreLinesOf told nows text → SaysAll watch b (commands_told told) text (questions_asked (asks_told told))
   says_told told nows text was lines =
-      says_from told [] nows [] text [] (told_none watch b) was.asked was.answers was.room was.watched lines
+      says_from told [] nows [] text [] (told_none watch b) was.asked was.answers
+      (subst (FitInto b) (none_more (length told)) was.room) was.watched lines
 
 -- there are such lines
 pub lines_exist : (told : List ToldAnswer) (nows : List (List ℕ)) → (text : List ℕ) × AreLinesOf told nows text
 lines_exist [] nows = ([], refl)
 lines_exist (t ∷ told) nows = let rest = lines_exist told (later_texts nows) in
-    (_, ([], (rest.0, (refl, rest.1))))
+    (_, ([], rest.0, refl, rest.1))
 
 -- ---- how many fit
 
@@ -165,9 +169,9 @@ pub asks_more : (asked : List AskedCommand) (a : AskedCommand) (rest : Left)
     (λ l. behind_asked (asked ++ a ∷ []) (left_behind true rest) ≡ Some l)
 asks_more asked a None = tt
 asks_more asked a (Some others) = ap (λ (l : List (Option Question)). Some l)
-    (ap (λ (l : List (Option Question)). l ++ _)
+    (ap (λ (l : List (Option Question)). l ++ until_quit others)
     (map-append (λ (x : AskedCommand). Some (asks.Serve x.command)) asked (a ∷ []))
-    ∙ append_assoc (questions_asked asked) (Some (asks.Serve a.command) ∷ []) _)
+    ∙ append_assoc (questions_asked asked) (Some (asks.Serve a.command) ∷ []) (until_quit others))
 
 -- nothing is asked
 pub hears_alone : (was is : List AskedCommand) (a b : Left) (xs : List (Option Question)) → was ≡ [] → is ≡ []
@@ -207,16 +211,12 @@ lines_next told i d m name given nows later now rest within later_is now_is give
     subst (λ (l : List ToldAnswer). AreLinesOf l nows ((answer_text name m given ++ told_with given now) ++ rest))
     (sym (drop-cons told i d within)) (
       name,
-      (
-        rest,
-        (
-          ap (λ (a : LineAnswer). (answer_text name m a ++ told_with a now) ++ rest) given_is
-              ∙ ap (λ (n : List ℕ). (answer_text name m (answer_told first) ++ told_with (answer_told first) n) ++ rest)
-              now_is,
-          subst (λ (n : ℕ). AreLinesOf (drop n told) (later_texts nows) rest) (sym next)
-              (subst (λ (l : List (List ℕ)). AreLinesOf (drop (i + 1) told) l rest) later_is it),
-        ),
-      ),
+      rest,
+      ap (λ (a : LineAnswer). (answer_text name m a ++ told_with a now) ++ rest) given_is
+          ∙ ap (λ (n : List ℕ). (answer_text name m (answer_told first) ++ told_with (answer_told first) n) ++ rest)
+          now_is,
+      subst (λ (n : ℕ). AreLinesOf (drop n told) (later_texts nows) rest) (sym next)
+          (subst (λ (l : List (List ℕ)). AreLinesOf (drop (i + 1) told) l rest) later_is it),
     )
 
 pub lines_end : (told : List ToldAnswer) (i : ℕ) (nows : List (List ℕ)) → length told ≤ i

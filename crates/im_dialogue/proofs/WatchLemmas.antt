@@ -109,6 +109,16 @@ alone_line watch name m now n turns here asked answer none same = by_asked asked
     by_asked (Some asks.Quit) none same it = absurd it
     by_asked None none same (number, (fault, is)) = subst is_it (sym is) (plain (Wrong number fault) refl refl)
 
+pub not_command : (asked : Question) (c : Command) → command_in (Some asked) ≡ None → asked ≡ asks.Serve c → ⊥
+not_command asked c none is =
+    no_command (subst (λ (q : Question). command_in (Some q) ≡ None) is none)
+  where
+    no_command : Some c ≡ None → ⊥
+    no_command same = absurd (cc)
+
+pub same_asked : (a b : Question) → Some a ≡ Some b → a ≡ b
+same_asked a b same = cc
+
 -- the command that is asked for
 pub command_some : (asked : Option Question) (c : Command) → command_in asked ≡ Some c → asked ≡ Some (asks.Serve c)
 command_some (Some (asks.Serve d)) c is = ap (λ (o : Option Command). option_map (λ (x : Command). asks.Serve x) o) is

@@ -1,4 +1,5 @@
 //! Room that is kept from line to line.
+ghost use Rattle.std.specs.Prelude.{◌≡◌, [], string_bytes};
 
 use crate::saying::Draft;
 use std::alloc::Global;
@@ -16,7 +17,9 @@ pub(crate) struct Drafts {
 
 impl Drafts {
     /// Makes room for lines, in which nothing is yet.
-    pub(crate) fn new(alloc: Global) -> Drafts {
+    pub(crate) fn new(alloc: Global) -> Drafts
+        ensures { string_bytes result.draft.text ≡ [] }
+    {
         Drafts {
             line: Vec::new(alloc),
             nows: Vec::new(alloc),

@@ -18,6 +18,6 @@ loop-one-preserved c = λ rest it.
     (map string_bytes c.loop-one.left.now) _ c.first_now.result.now rest c.loop-one-test.true c.later_nows-left.ensures
     c.first_now.ensures c.answer_of.ensures it))
 
-pub returns-clause : goal.returns-clause
-returns-clause c = subst (λ (l : List ℕ). AreLinesOf c.args.told.now (map string_bytes c.args.nows.now) l)
+pub returns : goal.returns
+returns c = subst (λ (l : List ℕ). AreLinesOf c.args.told.now (map string_bytes c.args.nows.now) l)
     (append-nil _) (c.loop-one.invariant _ (lines_end c.args.told.now c.loop-one.one-index _ (search (rules, arith))))

@@ -1,12 +1,12 @@
 use Rattle.std.proofs.Common.{List, ◌++◌, Some, sym, refl, ap}
-use Rattle.im_dialogue.proofs.TalkLemmas.{quiet, says_as}
+use Rattle.im_dialogue.proofs.{TalkLemmas.quiet, TalkLemmas.says_as, WatchLemmas.not_command}
 use Rattle.im_dialogue.specs.{Backups.Backup, declared.asking.Question.TheVariants.About}
 use Rattle.im_dialogue.specs.{declared.asking.Question.TheVariants.Look, Talk.backup_by, Talk.put_by}
 use Rattle.im_dialogue.specs.declared.answers.LineAnswer.{LineAnswer, TheVariants.Looked}
 use Rattle.im_dialogue.proofs.talk.answer.Goals as goal
 
 pub returns-in-Serve-clause-answered : goal.returns-in-Serve-clause-answered
-returns-in-Serve-clause-answered g c = let none = c.requires.other in let is = c.in-Serve.is in absurd (cc)
+returns-in-Serve-clause-answered g c = absurd (not_command _ _ c.requires.other c.in-Serve.is)
 
 pub returns-in-Ok-clause-answered : goal.returns-in-Ok-clause-answered
 returns-in-Ok-clause-answered g c = says_as c.args.front.now.session c.turn.new.front.session

@@ -1,5 +1,5 @@
-use Rattle.std.proofs.Common.{◌≡◌, true, false, List, [], map, take, None, string_bytes, sym, ap, subst, rules}
-use Rattle.{im_laws.specs.Groups.IsCounted, im_engine.specs.State.EngineState, im_engine.specs.State.reached_in}
+use Rattle.std.proofs.Common.{◌≡◌, ◌≤◌, true, false, List, [], map, take, None, string_bytes, sym, ap, subst, rules}
+use Rattle.{im_types.specs.Types.LAST, im_engine.specs.State.EngineState}
 use Rattle.im_front.specs.{declared.AskedCommand.AskedCommand, Lists.commands_asked}
 use Rattle.im_dialogue.proofs.ServeLemmas.{asked_less, group_failed, group_told, group_untold, lines_as, still_asked}
 use Rattle.im_dialogue.proofs.ServeLemmas.{was_told}
@@ -25,13 +25,14 @@ returns-in-Ok-say_all-clause-talks g c = λ kept left.
     let told = c.advance.new.told.items in
     let nows = map string_bytes c.make_nows.new.nows.items in
     let alive : new.session.engine.failed ≡ false = search rules in
-    let counted = subst (λ (e : EngineState _). IsCounted (reached_in e)) c.engine.ensures.state
-    c.places-_places.ensures.known in
+    let counted = c.places-_places.ensures.known in
+    let within = subst (λ (e : EngineState _). e.count ≤ LAST) c.engine.ensures.state counted.to_last in
+    let last = subst (λ (e : EngineState _). e.count ≡ LAST → e.room ≡ 0) c.engine.ensures.state counted.full_at_last in
     let watched = subst (λ (l : List AskedCommand). TellWatchers old.setting.watch
     (group_start old.front.session.engine) [] (take c.in-Ok.most (commands_asked l)) nows) c.asked.ensures
     (c.in-Ok.ensures.known (group_start old.front.session.engine) (sym c.memory.ensures)) in
     let was = was_told old.setting.watch old.front new told c.advance.ensures.advanced nows c.in-Ok.most c.requires.asked
-    c.advance.ensures.few watched counted.to_last counted.full_at_last c.requires.spent alive in
+    c.advance.ensures.few watched within last c.requires.spent alive in
     let said = c.in-Ok-say_all.ensures.said in
     group_told old.setting.watch old.front new told c.advance.ensures.advanced nows said.0 _ _ was
     (lines_as _ told _ nows said.0 c.as_slice.ensures.value
@@ -44,13 +45,14 @@ returns-in-Err-say_all-clause-talks g c = λ kept left.
     let told = c.advance.new.told.items in
     let nows = map string_bytes c.make_nows.new.nows.items in
     let alive : new.session.engine.failed ≡ false = search rules in
-    let counted = subst (λ (e : EngineState _). IsCounted (reached_in e)) c.engine.ensures.state
-    c.places-_places.ensures.known in
+    let counted = c.places-_places.ensures.known in
+    let within = subst (λ (e : EngineState _). e.count ≤ LAST) c.engine.ensures.state counted.to_last in
+    let last = subst (λ (e : EngineState _). e.count ≡ LAST → e.room ≡ 0) c.engine.ensures.state counted.full_at_last in
     let watched = subst (λ (l : List AskedCommand). TellWatchers old.setting.watch
     (group_start old.front.session.engine) [] (take c.in-Ok.most (commands_asked l)) nows) c.asked.ensures
     (c.in-Ok.ensures.known (group_start old.front.session.engine) (sym c.memory.ensures)) in
     let was = was_told old.setting.watch old.front new told c.advance.ensures.advanced nows c.in-Ok.most c.requires.asked
-    c.advance.ensures.few watched counted.to_last counted.full_at_last c.requires.spent alive in
+    c.advance.ensures.few watched within last c.requires.spent alive in
     group_untold old.setting.watch old.front new told c.advance.ensures.advanced nows _ _ was
     c.in-Err-say_all.ensures.same alive kept left
 

@@ -1,6 +1,7 @@
 use Rattle.std.proofs.Common.{◌≡◌, true, false, List, [], Some, None, string_bytes, sym, ap, ◌∙◌, subst, append-nil}
 use Rattle.im_front.specs.{declared.AskedCommand.AskedCommand, State.FrontState}
 use Rattle.im_dialogue.proofs.{HearingLemmas.hears_line, HearingLemmas.hears_quit, WatchLemmas.alone_line}
+use Rattle.im_dialogue.proofs.WatchLemmas.{same_asked}
 use Rattle.im_dialogue.proofs.TalkLemmas.{halts_talk, not_quit, quit_talk, talk_ends, talks_on}
 use Rattle.im_dialogue.proofs.ToldLemmas.{hears_alone, same_behind}
 use Rattle.im_dialogue.specs.{Backups.Backup, declared.asking.Question.Question, Serving.behind_asked, Serving.told_so}
@@ -25,7 +26,7 @@ returns-in-Ok-clause-talks g c = λ rest.
     asked answer c.args.self.now.drafts.line.items said.0 _ c.requires.line
     (rw c.in-Ok-Some.field-0-is at c.in-Ok-Some.ensures.answered)
     (λ n turns here a. alone_line watch said.0 old.session.engine.memory _ n turns here asked answer c.requires.other
-    (λ look is. let it : c.args.asked ≡ asks.Look look = cc in c.memory.ensures
+    (λ look is. let it = same_asked c.args.asked (asks.Look look) is in c.memory.ensures
     ∙ ap (λ (f : FrontState _). f.session.engine.memory) (c.answer.ensures.same look it)) a)
     (rw c.in-Ok-Some.field-0-is at c.in-Ok-Some.ensures.kept) said.1
     (λ n turns here a. hears_alone old.asked new.asked _ _ _ c.requires.none (c.answer.ensures.asked ∙ c.requires.none)
@@ -45,7 +46,7 @@ returns-in-Err-say-clause-talks g c = λ rest.
     asked answer c.args.self.now.drafts.line.items [] _ c.requires.line
     (rw c.in-Ok-Some.field-0-is at c.in-Ok-Some.ensures.answered)
     (λ n turns here a. alone_line watch [] old.session.engine.memory _ n turns here asked answer c.requires.other
-    (λ look is. let it : c.args.asked ≡ asks.Look look = cc in c.memory.ensures
+    (λ look is. let it = same_asked c.args.asked (asks.Look look) is in c.memory.ensures
     ∙ ap (λ (f : FrontState _). f.session.engine.memory) (c.answer.ensures.same look it)) a)
     (rw c.in-Ok-Some.field-0-is at c.in-Ok-Some.ensures.kept) (behind_asked new.asked (left_behind true rest))
     (0, c.in-Err-say.ensures.same ∙ sym (append-nil _))
