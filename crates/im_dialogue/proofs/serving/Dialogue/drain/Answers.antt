@@ -10,7 +10,7 @@ loop-group-init g c = record {
   talks = λ kept left. goes_talk c.args.self.now.setting.watch c.args.self.now.front.session
       c.args.self.now.front.session (told_by_it c.args.self.now kept left) (nothing_said c.args.self.now.front.session);
   asked = c.requires.asked;
-  few = let few = c.is_full-_full.ensures.few in omega (arith, few);
+  few = let few = c.is_full-full.ensures.few in omega (arith, few);
   same = refl;
   line = refl;
 }

@@ -3,8 +3,8 @@ use Rattle.im_dialogue.proofs.{TalkLemmas.goes_talk, TalkLemmas.nothing_said, To
 use Rattle.im_dialogue.specs.Serving.{told_by_it}
 use Rattle.im_dialogue.proofs.serving.Dialogue.make_place.Goals as goal
 
-pub returns-then-branch-clause-talks : goal.returns-then-branch-clause-talks
-returns-then-branch-clause-talks g c = λ kept left.
+pub returns-then-asked-lt-MAX_GROUP-clause-talks : goal.returns-then-asked-lt-MAX_GROUP-clause-talks
+returns-then-asked-lt-MAX_GROUP-clause-talks g c = λ kept left.
     let old = c.args.self.now in
     goes_talk old.setting.watch old.front.session old.front.session (told_by_it old kept left)
     (nothing_said old.front.session)

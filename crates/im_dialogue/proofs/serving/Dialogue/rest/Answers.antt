@@ -2,8 +2,8 @@ use Rattle.im_dialogue.proofs.{HearingLemmas.on_default, TalkLemmas.goes_talk, T
 use Rattle.im_dialogue.{proofs.ServeLemmas.turns_failed, proofs.ServeLemmas.turns_told, specs.Serving.told_by_it}
 use Rattle.im_dialogue.proofs.serving.Dialogue.rest.Goals as goal
 
-pub returns-then-more-clause-talks : goal.returns-then-more-clause-talks
-returns-then-more-clause-talks g c = λ kept left.
+pub returns-then-self-clause-talks : goal.returns-then-self-clause-talks
+returns-then-self-clause-talks g c = λ kept left.
     let old = c.args.self.now in
     goes_talk old.setting.watch old.front.session old.front.session (told_by_it old kept left)
     (nothing_said old.front.session)

@@ -108,8 +108,8 @@ returns-in-Err-clause-talks g c =
     let known = questions_left (g.R.Read.remaining c.loop-served.input) in
     let later = g.R.Read.remaining c.serve_rested.new.input in
     let rest = option_map questions_in later in
-    ended_put watch start.front.session new.front.session was held (g.W.Write.contents c.put_out-_put.new.out)
-    new.front.asked is inv.grown.0 kept None inv.grown.1 c.put_out-_put.ensures.begins
+    ended_put watch start.front.session new.front.session was held (g.W.Write.contents c.put_out-put.new.out)
+    new.front.asked is inv.grown.0 kept None inv.grown.1 c.put_out-put.ensures.begins
     (then_ended watch start.front.session mid.front.session was held mid.front.asked text been known inv.talks
     new.front.session new.front.asked is kept None
     (subst (λ (s : Setting). TalkEnds s.watch mid.front.session (told_by_it mid been known) new.front.session

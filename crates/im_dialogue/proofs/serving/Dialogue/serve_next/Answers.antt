@@ -9,18 +9,18 @@ returns-in-Ok-true-clause-talks g c =
     let known = g.R.Read.remaining c.args.input.now in
     let later = g.R.Read.remaining c.next_line.new.input in
     let line = c.next_line.new.line.items in
-    line_next _ c.serve_line.new.self (g.B.Backups.kept c.args.backups.now) (g.B.Backups.kept c.serve_line.new.backups)
+    line_next c.args.self.now c.serve_line.new.self (g.B.Backups.kept c.args.backups.now) (g.B.Backups.kept c.serve_line.new.backups)
     known later (asked_of line) c.serve_line.result
     (asked_line known later line (rw c.in-Ok-true.field-0-test at c.in-Ok-true.ensures.read)) c.serve_line.ensures.talks
 
-pub returns-in-Ok-drain-clause-talks : goal.returns-in-Ok-drain-clause-talks
-returns-in-Ok-drain-clause-talks g c =
+pub returns-in-Ok-clause-talks : goal.returns-in-Ok-clause-talks
+returns-in-Ok-clause-talks g c =
     let known = g.R.Read.remaining c.args.input.now in
     let later = g.R.Read.remaining c.next_line.new.input in
     let kept = g.B.Backups.kept c.args.backups.now in
-    end_next _ c.drain.new.self kept known later
+    end_next c.args.self.now c.drain.new.self kept known later
     (asked_nothing known later c.next_line.new.line.items
-    (rw c.in-Ok-false.field-0-test at c.in-Ok-false.ensures.read)) (c.in-Ok-drain.ensures.talks kept)
+    (rw c.in-Ok-false.field-0-test at c.in-Ok-false.ensures.read)) (c.in-Ok.ensures.talks kept)
 
 pub returns-in-Err-drain-clause-talks : goal.returns-in-Err-drain-clause-talks
 returns-in-Err-drain-clause-talks g c = c.in-Err-drain.ensures.talks (g.B.Backups.kept c.args.backups.now)
@@ -32,5 +32,5 @@ returns-in-Err-clause-talks g c =
     talk_ends_here old.setting.watch old.front.session
     (told_by_it old (g.B.Backups.kept c.args.backups.now) (questions_left (g.R.Read.remaining c.args.input.now))) None
 
-pub returns-in-Ok-drain-clause-asked : goal.returns-in-Ok-drain-clause-asked
-returns-in-Ok-drain-clause-asked g c = none_asked c.drain.new.self.front.asked c.in-Ok-drain.ensures.none
+pub returns-in-Ok-clause-asked : goal.returns-in-Ok-clause-asked
+returns-in-Ok-clause-asked g c = none_asked c.drain.new.self.front.asked c.in-Ok.ensures.none
