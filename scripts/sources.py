@@ -16,6 +16,7 @@ CLAUSE = re.compile(r"\s*(requires|ensures)\*? *(\w*) *\{")
 TYPE = re.compile(r"^(?:pub(?:\([a-z]+\))? )?(?:struct|enum|trait) (\w+)", re.M)
 DEFINITION = re.compile(r"^(?:abbrev pub|unfoldable pub|pub record|pub data|pub) (?!mod |use )([^\s:({]+)", re.M)
 IMPORT = re.compile(r"^[ \t]*(?:(?:pub|unfoldable|ghost) )*use ([\w.]+?)\.?\{([^{}]*)\}", re.M)
+ANY_IMPORT = re.compile(r"^[ \t]*(?:pub(?:\([^)]*\))? |ghost |unfoldable )*use [^{;\n]*(?:\{[^}]*\})?", re.M)
 WORDS = "im_types", "specs.Types"  # The page that passes on the words that all crates share.
 LEMMA = re.compile(r"(|  )(?:(?:pub|abbrev|unfoldable) )*([^\s:(){},|]+) : ")
 
@@ -175,6 +176,11 @@ def split(text):
         else:
             parts[-1] += sign
     return parts
+
+
+def import_lines(text):
+    """Returns how many lines of a text are imports, Rust's own with them."""
+    return sum(it.count("\n") + 1 for it in ANY_IMPORT.findall(text))
 
 
 def taken(text):
