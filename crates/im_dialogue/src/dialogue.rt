@@ -7,7 +7,7 @@ use crate::resting::open_with_slots;
 use crate::serving::{Dialogue, Setting};
 use im_disk::Disk;
 use im_listening::Ear;
-use im_text::{News, diagnose, end};
+use im_text::{News, Style, diagnose, end};
 use im_types::Observer;
 use std::alloc::Global;
 use std::io::{BufRead, Write};
@@ -62,7 +62,7 @@ pub fn dialogue_on<D: Disk, B: Backups, R: BufRead + Ear, W: Write, N: Observer<
         }
         Err((refusal, mut disk)) => {
             let reason = diagnose(alloc, &mut disk, refusal);
-            (end(alloc, Err(reason), out, observer), disk)
+            (end(alloc, Style::Text, Err(reason), out, observer), disk)
         }
     }
 }
@@ -85,6 +85,9 @@ fn talk_on<D: Disk, B: Backups, R: BufRead + Ear, W: Write, N: Observer<News>>(
     let alloc = dialogue.alloc;
     match dialogue.serve_lines(backups, input, out) {
         Ok(()) => (0, dialogue.close()),
-        Err(reason) => (end(alloc, Err(reason), out, observer), dialogue.close()),
+        Err(reason) => (
+            end(alloc, Style::Text, Err(reason), out, observer),
+            dialogue.close(),
+        ),
     }
 }

@@ -1,5 +1,5 @@
 use Rattle.std.proofs.Common.{map, length, sym, ap, ◌∙◌, subst}
-use Rattle.im_text.specs.Printing.{who_of}
+use Rattle.im_text.specs.Said.{who_of}
 use Rattle.im_serial.proofs.NotedLemmas.{bounds_rise, noted_from, written_back}
 use Rattle.im_serial.proofs.ScriptedLemmas.{drops_then, learns, unprepared, window_found}
 use Rattle.im_serial.specs.Noted.{AreNoted}
