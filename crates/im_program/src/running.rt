@@ -52,7 +52,6 @@ fn run_task<
     ensures run { RunsWhen D.Disk task.entry.once task.entry.planned task.entry.script.now disk result.1
         (output task.entry.style (W.contents out.old)) (W.contents out.new) result.2 result.0 }
     ensures recorded { context.now.recorded ≡ true → result.2.recorded ≡ true }
-    ensures honest { D.honest result.1 → D.honest disk }
 {
     let RunTask {
         script,

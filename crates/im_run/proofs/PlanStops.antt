@@ -210,9 +210,9 @@ module _ (limits : Limits) (text : List ℕ) (earlier : List Command) (n : Conte
           }
 
       unbegun_stops : DidNotBegin trace doubt (status ≡ 0) → Stops
-      unbegun_stops none = setup_stops []
-          (subst (λ (l : List Command). SetsUp (rest_of n text) n l []) (sym (ap (λ (l : List Command). told ++ l) none.sure
-          ∙ append-nil told ∙ unserved_is none.unserved)) t.made) none.refused
+      unbegun_stops none =
+          let is = ap (λ (l : List Command). told ++ l) none.sure ∙ append-nil told ∙ unserved_is none.unserved in
+          setup_stops [] (subst (λ (l : List Command). SetsUp (rest_of n text) n l []) (sym is) t.made) none.refused
 
     pub plan_stops : planned ≡ true
         → HasToldScript (rest_of n text) (ServesRest planned n text trace (status ≡ 0) setup told doubt) n setup trace

@@ -108,9 +108,8 @@ module _ {D : Type 0} (disk : Ghosts D) (script : List Wanted) (old mid : Script
     }
 
 -- the disk was honest at the start, if it is at the end
-pub ends_honest : {D : Type 0} (disk : Ghosts D) (once planned : Bool) (text : List ℕ) (start : SessionStart D) (new
-    : D)
-    (was : Output) (is : Option (List ℕ)) (calls : TraceState) (status : ℕ)
+pub ends_honest : {D : Type 0} (disk : Ghosts D) (once planned : Bool) (text : List ℕ) (start : SessionStart D)
+    (new : D) (was : Output) (is : Option (List ℕ)) (calls : TraceState) (status : ℕ)
     → EndsWhen disk once planned text start new was is calls status → disk.honest new → disk.honest start.disk
 ends_honest disk false planned text start new was is calls status it honest =
     it.kept.honest (subst disk.honest it.closed honest)

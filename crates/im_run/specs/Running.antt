@@ -138,12 +138,13 @@ pub record RunOn {D : Type 0} (disk : Ghosts D) (s : Scope)
   pub tells : HasToldScript s (Also setup put doubt) start.memory setup calls.served (status ≡ 0) printed.did
       ⊎ HasEndedSetup s start.memory setup doubt calls.served status printed.did
 
--- the image was opened, and a session began of which this is so; or it was not opened; the disk is honest at the end
-abbrev pub Opened : {D : Type 0} → Ghosts D → (SessionStart D → Type 0) → D → D → Output → Option (List ℕ) → ℕ
-    → Type 0
-Opened {D} disk Came old new was is status = disk.honest new
-    → NotOpened disk.now disk.past old new was is status
-    ⊎ ((start : SessionStart D) × ((start.disk ≡ old) × Came start))
+-- The image was opened, and a session began of which this is so; or it was not opened. The disk was honest at the
+-- start, if it is at the end; what came of it holds of such a disk.
+pub record Opened {D : Type 0} (disk : Ghosts D) (Came : SessionStart D → Type 0) (old new : D) (was : Output)
+    (is : Option (List ℕ)) (status : ℕ) : Type 0 where
+  pub honest : disk.honest new → disk.honest old
+  pub came : disk.honest new → NotOpened disk.now disk.past old new was is status
+      ⊎ ((start : SessionStart D) × ((start.disk ≡ old) × Came start))
 
 -- all of a script was run
 abbrev pub RunsOn : {D : Type 0} → Ghosts D → List ℕ → D → D → Output → Option (List ℕ) → TraceState → ℕ

@@ -121,7 +121,6 @@ pub fn run_once_on<
     ensures run { RunsOnceOn D.Disk asked.entry.planned asked.entry.script.now disk result.1
         (output asked.entry.style (W.contents out.old)) (W.contents out.new) result.2 result.0 }
     ensures recorded { context.now.recorded ≡ true → result.2.recorded ≡ true }
-    ensures honest { D.honest result.1 → D.honest disk }
 {
     let asked = Commission {
         script: asked.script,

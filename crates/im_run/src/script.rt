@@ -69,7 +69,6 @@ pub(crate) fn run_script<
     ensures run { RunsWhen D.Disk asked.entry.once asked.entry.planned asked.entry.script.now disk result.1
         (output asked.entry.style (W.contents out.old)) (W.contents out.new) result.2 result.0 }
     ensures recorded { context.now.recorded ≡ true → result.2.recorded ≡ true }
-    ensures honest { D.honest result.1 → D.honest disk }
 {
     let alloc = context.alloc;
     match open_server(alloc, asked.style, disk, out, observer) {
@@ -130,7 +129,7 @@ pub(crate) fn run_script<
 /// - `run`, nobody else: with status 0 each line that the servers left in the trace is of a request of the script's
 ///   parts, under its number, or of a confirmation or a collect of an element that has a part.
 /// - `recorded`: the servers' calls are in the trace, if the context says so.
-/// - `honest`: the disk was honest at the start, if it is at the end. What `run` says holds of such a disk.
+/// - `run`, honesty: the disk was honest at the start, if it is at the end. All else holds of such a disk.
 pub fn run_on<
     D: Disk + Drop + Send,
     W: Write,
@@ -149,7 +148,6 @@ pub fn run_on<
     ensures run { RunsOn D.Disk styled.now.script.now disk result.1 (output styled.now.style (W.contents out.old))
         (W.contents out.new) result.2 result.0 }
     ensures recorded { context.now.recorded ≡ true → result.2.recorded ≡ true }
-    ensures honest { D.honest result.1 → D.honest disk }
 {
     let asked = Commission {
         script: styled.script,
@@ -186,7 +184,6 @@ pub fn run_on_plan<
     ensures run { RunsPlanOn D.Disk styled.now.script.now disk result.1 (output styled.now.style (W.contents out.old))
         (W.contents out.new) result.2 result.0 }
     ensures recorded { context.now.recorded ≡ true → result.2.recorded ≡ true }
-    ensures honest { D.honest result.1 → D.honest disk }
 {
     let asked = Commission {
         script: styled.script,

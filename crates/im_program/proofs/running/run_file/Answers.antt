@@ -21,6 +21,9 @@ returns-clause-ran g c = record {
   run = c.run_task.ensures.run;
 }
 
+pub returns-clause-named : goal.returns-clause-named
+returns-clause-named g c = λ honest. c.in_ok-disk.ensures.named (c.run_task.ensures.run.honest honest)
+
 pub returns-clause-recorded : goal.returns-clause-recorded
 returns-clause-recorded g c = λ asked.
     c.run_task.ensures.recorded (c.new-context.ensures.recorded ∙ c.is_some.ensures ∙ asked)

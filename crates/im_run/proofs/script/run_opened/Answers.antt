@@ -5,7 +5,8 @@ use Rattle.im_run.proofs.script.run_opened.Goals as goal
 pub run_server-requires-clause-ready : goal.run_server-requires-clause-ready
 run_server-requires-clause-ready g c κs within =
     let it = c.requires.ready in
-    subst (λ (b : List ℕ). HasServedNothing (seen_by c.args.server (g.W.Write.contents c.args.out.now)) b) it.bases_is it
+    let held = g.W.Write.contents c.args.out.now in
+    subst (λ (b : List ℕ). HasServedNothing (seen_by c.args.server held) b) it.bases_is it
 
 pub run_server-requires-clause-bases : goal.run_server-requires-clause-bases
 run_server-requires-clause-bases g c κs within = c.requires.ready.bases_is

@@ -4,28 +4,24 @@ use Rattle.im_run.{proofs.RestLemmas.ends_honest, specs.Once.EndsWhen}
 use Rattle.im_run.proofs.script.run_script.Goals as goal
 
 pub returns-in-Ok-clause-run : goal.returns-in-Ok-clause-run
-returns-in-Ok-clause-run g c = λ honest.
+returns-in-Ok-clause-run g c =
     let r = c.run_opened in
     let start = c.in-Ok.server.session.start in
     let is = g.W.Write.contents r.new.out in
-    let asked = c.args.asked in
-    inr (
-      start,
-      (
-        c.in-Ok.ensures.opened,
-        subst (λ (w : Output). EndsWhen g.D.Disk asked.once asked.planned asked.script.now start r.result.1 w is
-            r.result.2 r.result.0) (ap₂ output c.in-Ok.ensures.style c.in-Ok.ensures.same) r.ensures.ends,
-      ),
-    )
-
-pub returns-in-Ok-clause-honest : goal.returns-in-Ok-clause-honest
-returns-in-Ok-clause-honest g c = λ honest.
-    let r = c.run_opened in
-    let asked = c.args.asked in
-    subst g.D.Disk.honest c.in-Ok.ensures.opened
-    (ends_honest g.D.Disk asked.once asked.planned asked.script.now c.in-Ok.server.session.start r.result.1
-    (output c.in-Ok.server.lines.style (g.W.Write.contents c.open_server.new.out)) (g.W.Write.contents r.new.out) r.result.2 r.result.0 r.ensures.ends
-    honest)
+    let was = output c.in-Ok.server.lines.style (g.W.Write.contents c.open_server.new.out) in
+    let asked = c.args.asked in record {
+      honest = λ honest. subst g.D.Disk.honest c.in-Ok.ensures.opened (ends_honest g.D.Disk asked.once asked.planned
+          asked.script.now start r.result.1 was is r.result.2 r.result.0 r.ensures.ends honest);
+      came = λ honest. inr (
+        start,
+        (
+          c.in-Ok.ensures.opened,
+          subst (λ (w : Output). EndsWhen g.D.Disk asked.once asked.planned asked.script.now start r.result.1 w is
+              r.result.2 r.result.0) (ap₂ output c.in-Ok.ensures.style c.in-Ok.ensures.same) r.ensures.ends,
+        ),
+      );
+    }
 
 pub returns-in-Err-clause-run : goal.returns-in-Err-clause-run
-returns-in-Err-clause-run g c = λ honest. inl (c.in-Err.ensures.refused honest)
+returns-in-Err-clause-run g c =
+    record { honest = c.in-Err.ensures.honest; came = λ honest. inl (c.in-Err.ensures.refused honest) }
