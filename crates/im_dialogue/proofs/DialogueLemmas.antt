@@ -1,7 +1,7 @@
 -- A dialogue from its opening to its end.
-use Rattle.std.proofs.Common.{◌≡◌, ℕ, ◌≤◌, Bool, false, List, [], ◌++◌, length, Option, sym, refl, ap, ◌∙◌, subst, inl}
-use Rattle.std.proofs.Common.{⊎_elim, arith}
-use Rattle.std.{proofs.KnownBytes.Appends-nil, specs.Io.KnownBytes.Appends}
+use Rattle.std.proofs.Common.{◌≡◌, ℕ, ◌≤◌, Bool, false, List, [], ◌++◌, length, Option, sym, ap, ◌∙◌, subst, ⊎_elim}
+use Rattle.std.proofs.Common.{arith}
+use Rattle.std.specs.Io.KnownBytes.{Appends}
 use Rattle.im_types.specs.Types.{Command, MAX_GROUP, layout_in_use, image_length}
 use Rattle.im_disk.proofs.SinceLemmas.{leaves_now, left_now}
 use Rattle.im_disk.specs.{declared.Disk.Ghosts, Moment.Left, Moment.Moment}

@@ -1,5 +1,5 @@
 -- Work that was refused.
-use Rattle.std.proofs.Common.{◌≡◌, ℕ, ◌⊎◌, List, IfOk, None, Ok, Err, Option, Result, MatchResult, refl, inr}
+use Rattle.std.proofs.Common.{◌≡◌, ℕ, List, IfOk, None, Ok, Err, Option, Result, MatchResult, refl, inr}
 use Rattle.im_disk.specs.declared.{Disk.Ghosts as DiskGhosts, FileDisk.FileDisk, Start.Ghosts}
 use Rattle.im_words.specs.declared.Work.{Work}
 use Rattle.im_program.specs.Told.{HasDone, WorkDone}

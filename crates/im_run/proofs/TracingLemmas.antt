@@ -1,7 +1,7 @@
 -- The lines of a trace, as they are printed. (Own.)
 use Rattle.std.proofs.Common.{◌≡◌, ℕ, zero, suc, ◌+◌, ◌-◌, ◌≤◌, Bool, true, false, List, [], ◌∷◌, ◌++◌, length}
-use Rattle.std.proofs.Common.{if◌then◌else◌, OnOk, slice_get, Some, None, Ok, Err, Option, Result, sym, refl, ap, ◌∙◌}
-use Rattle.std.proofs.Common.{subst, ⊎_elim, append_assoc, append-nil, arith, take_all}
+use Rattle.std.proofs.Common.{if◌then◌else◌, OnOk, slice_get, Ok, Err, Option, Result, sym, refl, ap, ◌∙◌, subst}
+use Rattle.std.proofs.Common.{⊎_elim, append_assoc, append-nil, arith, take_all}
 use Rattle.std.proofs.{KnownBytes.Appends-nil, lemmas.Bool.cases_lt, lemmas.List.take-append-le}
 use Rattle.std.specs.Io.KnownBytes.{Appends}
 use Rattle.im_types.{specs.Types.Line, proofs.Tests.false_true}

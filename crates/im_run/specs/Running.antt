@@ -1,6 +1,6 @@
 -- What a run of element servers prints, and what its session puts on a disk. (Own.)
 use Rattle.std.specs.Prelude.{◌≡◌, ℕ, ◌<◌, ◌≤◌, Bool, true, false, ◌⊎◌, List, [], ◌∷◌, ◌++◌, length, slice_get, Some}
-use Rattle.std.specs.Prelude.{None, Ok, Err, codes, decimal, Option, Result}
+use Rattle.std.specs.Prelude.{None, Ok, Err, Option, Result}
 use Rattle.im_types.specs.Types.{Entry, Command, Line, Refusal, Device, Failed, Contents, ask, after, IsLegal}
 use Rattle.{im_disk.specs.declared.Disk.Ghosts, im_engine.specs.State.EngineState, im_controller.specs.Kept.accepted_in}
 use Rattle.{im_damage.specs.declared.Damage.TheVariants.Unknown, im_text.specs.Texts.texts_below}

@@ -1,6 +1,5 @@
 -- The calls of a trace as objects of JSON. (Own.)
-use Rattle.std.specs.Prelude.{ℕ, Bool, List, [], ◌++◌, if◌then◌else◌, Some, None, Ok, Err, codes, decimal, Option}
-use Rattle.std.specs.Prelude.{Result}
+use Rattle.std.specs.Prelude.{ℕ, List, [], ◌++◌, if◌then◌else◌, Some, None, Ok, Err, codes, decimal, Option, Result}
 use Rattle.im_types.specs.Types.{Request, Outcome, Call, Line, Asks, Confirm, Tells, Confirmed, Commands, Collect}
 use Rattle.im_types.specs.Types.{Refusal, number_of}
 use Rattle.im_trace.specs.declared.Since.{Since}

@@ -1,6 +1,6 @@
 -- Lines on their way to a writer, and the lines of commands. (Own.)
-use Rattle.std.proofs.Common.{◌≡◌, ℕ, false, ◌⊎◌, List, [], ◌∷◌, ◌++◌, Ok, Err, Option, Result, MatchResult, sym, refl}
-use Rattle.std.proofs.Common.{ap, ◌∙◌, subst, ap₂, inl, inr, append_assoc, append-nil}
+use Rattle.std.proofs.Common.{◌≡◌, ℕ, false, ◌⊎◌, List, [], ◌∷◌, ◌++◌, Ok, Err, Option, Result, sym, refl, ap, ◌∙◌}
+use Rattle.std.proofs.Common.{subst, ap₂, inl, inr, append_assoc, append-nil}
 use Rattle.std.proofs.KnownBytes.{Appends-nil}
 use Rattle.im_types.specs.Types.{Waiter, Command, Refusal, Contents, step, after}
 use Rattle.im_text.proofs.PrintingLemmas.{batches_after, batches_all, batches_begin, batches_none}

@@ -1,6 +1,6 @@
 -- What the words of the command line ask for. (Own.)
-use Rattle.std.specs.Prelude.{ℕ, Bool, true, false, ◌||◌, List, [], ◌∷◌, map, length, if◌then◌else◌, nat_lt, nat_le}
-use Rattle.std.specs.Prelude.{◌==◌, Some, None, codes, bytes_eq, Option, unwrap_or, option_map, option_and_then}
+use Rattle.std.specs.Prelude.{ℕ, Bool, true, false, List, [], ◌∷◌, map, length, if◌then◌else◌, nat_lt, nat_le, ◌==◌}
+use Rattle.std.specs.Prelude.{Some, None, codes, bytes_eq, Option, unwrap_or, option_map, option_and_then}
 use Rattle.clap.specs.declared.builder.action.ArgAction.TheVariants.{SetTrue}
 use Rattle.clap.specs.Words.{App, first_of, new_app, new_rule, Row, Rule, subcommand_of, Text, with_rule}
 use Rattle.clap.specs.Words.{with_subcommand}
