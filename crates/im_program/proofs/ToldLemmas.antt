@@ -2,12 +2,12 @@
 use Rattle.std.proofs.Common.{◌≡◌, ℕ, List, IfOk, None, Ok, Err, Option, Result, MatchResult, refl, inr}
 use Rattle.im_disk.specs.declared.{Disk.Ghosts as DiskGhosts, FileDisk.FileDisk, Start.Ghosts}
 use Rattle.im_words.specs.declared.Work.{Work}
-use Rattle.im_program.specs.Told.{HasDone, WorkDone}
+use Rattle.im_program.specs.Told.{HasWorked, WorkDone}
 
 -- whatever was asked was refused, and no file was opened
 pub nothing_done : {S T : Type 0} (start : Ghosts S) (other : Ghosts T) (d : DiskGhosts (FileDisk S start))
     (e : DiskGhosts (FileDisk T other)) (work : Work (List ℕ)) (done : FileDisk S start → Type 0) (status : ℕ)
-    → status ≡ 1 → HasDone start other d e work done status None None
+    → status ≡ 1 → HasWorked start other d e work done status None None
 nothing_done start other d e work done status one = record {
   result = tt;
   named = tt;

@@ -7,7 +7,7 @@ use Rattle.im_program.specs.{Places.file_of, Places.IsOldOf, Places.IsOpenAt, Wo
 
 -- What was done of a work holds of its disk, if one was given back. The disks are that of the image or the new file,
 -- and that of the old file. If no file was opened, the work needs none, or was refused.
-pub record HasDone {S T : Type 0} (start : Ghosts S) (other : Ghosts T) (d : DiskGhosts (FileDisk S start))
+pub record HasWorked {S T : Type 0} (start : Ghosts S) (other : Ghosts T) (d : DiskGhosts (FileDisk S start))
     (e : DiskGhosts (FileDisk T other)) (work : Work (List ℕ)) (done : FileDisk S start → Type 0) (status : ℕ)
     (disk : Option (FileDisk S start)) (old : Option (FileDisk T other)) : Type 0 where
   pub result : IfSome disk done
@@ -20,7 +20,7 @@ module _ {S T : Type 0} (start : Ghosts S) (other : Ghosts T) (d : DiskGhosts (F
   -- a work was done with this status, with a writer
   abbrev pub WorkDone : Option (List ℕ) → Option (List ℕ) → ℕ → Option (FileDisk S start) → Option (FileDisk T other)
       → Type 0
-  WorkDone was is status disk old = HasDone start other d e work
+  WorkDone was is status disk old = HasWorked start other d e work
       (λ it. DoneOn start other d input work was is status it old) status disk old
 
 -- the work of a command line was done with this status, with a writer

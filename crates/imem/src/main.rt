@@ -5,9 +5,11 @@ ghost use Rattle.std.specs.Prelude.{◌≡◌, ◌≤◌, ◌⊎◌, map, IfOk, 
 ghost use Rattle.std.specs.Process.{exit_status};
 ghost use Rattle.im_program.specs.Ending.{EndedBy};
 
+mod machine;
 mod openings;
 mod working;
 
+use crate::machine::Machine;
 use crate::openings::{Clocked, Openings};
 use crate::working::{Surroundings, work_on};
 use im_disk::{Disk, FileDisk, Start};
@@ -16,13 +18,9 @@ use im_text::Style;
 use im_types::Refusal;
 use std::alloc::{AllocError, Global};
 use std::env::{self, Env};
-use std::fs::File;
-use std::io::{self, Eprint, Input, IsTerminal, Print, Read, Write};
+use std::io::{self, Eprint, Input, IsTerminal, Read, Write};
 use std::marker::Brand;
 use std::process::ExitCode;
-use std::rt::Files;
-use std::sync::Wait;
-use std::thread::Threads;
 
 // Returns the status once a text is printed in place of work: 2 for bad words. Else the help or the version was asked
 // for, and the status says whether it was printed.
@@ -51,17 +49,7 @@ fn texts(alloc: Global, words: &[String]) -> Result<Vec<&str>, AllocError>
 /// The exit status is that of the work, or 1, 4 or 5 if that was refused: it is 0 only if all that was asked for was
 /// done and told.
 fn start<
-    R: Files<File = File>
-        + AllocGlobal
-        + Print
-        + Eprint
-        + Threads
-        + Wait
-        + Copy
-        + Drop
-        + Send
-        + Sync
-        + 'static,
+    R: Machine,
     S: Start + Send,
     T: Start,
     M: Openings<S, T>,
@@ -95,8 +83,7 @@ fn start<
             (ExitCode::from(status), out, None, None)
         }
         Err(WordFault::Bad(error)) => {
-            let printed = error.print(place.rt);
-            let status = status_after(error.use_stderr(), printed);
+            let status = status_after(error.use_stderr(), error.print(place.rt));
             (ExitCode::from(status), out, None, None)
         }
     }

@@ -3,6 +3,7 @@ ghost use Rattle.std.specs.Prelude.{◌≡◌, ◌≤◌};
 ghost use Rattle.im_listening.specs.{Lending.HasBytes, Listening.still_in};
 ghost use Rattle.im_program.specs.Ending.{EndedOn};
 
+use crate::machine::Machine;
 use im_disk::{Disk, FileDisk, Start};
 use im_listening::{InputBytes, Listener};
 use im_program::{
@@ -11,9 +12,7 @@ use im_program::{
 use im_text::Style;
 use im_types::Refusal;
 use std::alloc::Global;
-use std::fs::File;
 use std::io::{BufReader, Eprint, Read, Write};
-use std::rt::Files;
 use std::sync::Wait;
 use std::thread::Threads;
 
@@ -63,16 +62,7 @@ fn listen<
 /// that come together are served together. In a dialogue a thread listens to standard input, and a person at a terminal
 /// sees a prompt. If standard input doesn't block, the program waits for it.
 pub(crate) fn work_on<
-    R: Files<File = File>
-        + AllocGlobal
-        + Eprint
-        + Threads
-        + Wait
-        + Copy
-        + Drop
-        + Send
-        + Sync
-        + 'static,
+    R: Machine,
     S: Start + Send,
     T: Start,
     I: Read + Drop + Send + 'static,
