@@ -167,7 +167,12 @@ pub(crate) fn settle<R: Files<File = File> + AllocGlobal + Eprint, S: Start, T: 
 }
 
 /// Tells what a new image replaced, if it was made.
-pub(crate) fn tell_loss<R: AllocGlobal + Eprint>(rt: &R, work: &Work<&str>, loss: Loss, is_made: bool) {
+pub(crate) fn tell_loss<R: AllocGlobal + Eprint>(
+    rt: &R,
+    work: &Work<&str>,
+    loss: Loss,
+    is_made: bool,
+) {
     if is_made {
         loss.tell(rt, path_of(work));
     }

@@ -4,8 +4,8 @@ use crate::ProgramDesk;
 use crate::writers::ObserverNotes;
 use im_disk::Unknown;
 use im_program::{
-    AtHand, Console, Descriptors, Serving, Terminals, act, format_file, inspect_file,
-    read_words, serve_file, status_for,
+    AtHand, Console, Descriptors, Serving, Terminals, act, format_file, inspect_file, read_words,
+    serve_file, status_for,
 };
 use im_report::View;
 use im_story::{Phrase, Printout, Saying};

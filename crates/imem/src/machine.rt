@@ -7,8 +7,7 @@ use std::sync::Wait;
 use std::thread::Threads;
 
 /// A machine has files, memory, standard streams and threads. Each type that has them is one.
-pub(crate) trait Machine:
-    Files<File = File>
+pub(crate) trait Machine: Files<File = File>
     + AllocGlobal
     + Print
     + Eprint
@@ -18,9 +17,7 @@ pub(crate) trait Machine:
     + Drop
     + Send
     + Sync
-    + 'static
-{
-}
+    + 'static {}
 
 impl<
     R: Files<File = File>
@@ -34,6 +31,4 @@ impl<
         + Send
         + Sync
         + 'static,
-> Machine for R
-{
-}
+> Machine for R {}

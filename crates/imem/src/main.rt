@@ -74,8 +74,9 @@ fn start<
     match read_words(place.rt.alloc(), texts.as_slice()) {
         Ok(line) => {
             let starts = openings.starts(line.wait);
-            let (status, out, disk, old) =
-                work_on::<R, S, T, I, W, Brand>(place, &line, out, input, starts);
+            let (status, out, disk, old) = work_on::<R, S, T, I, W, Brand>(
+                place, &line, out, input, starts,
+            );
             (ExitCode::from(status), out, disk, old)
         }
         Err(WordFault::NoMemory) => {

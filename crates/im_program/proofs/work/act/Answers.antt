@@ -14,8 +14,8 @@ returns-clause-done g c =
     let is = g.W.Write.contents c.or_refused-status.new.out in
     let r = c.or_refused-status.result in
     let done = done_or_refused g.S.Start g.T.Start d e (g.I.Read.remaining c.may_do.new.input) work
-        (λ w. g.W.Write.contents w) was c.do_work-done.new.out c.or_refused-status.new.out c.do_work-done.result r
-        c.do_work-done.ensures.done c.or_refused-status.ensures in
+    (λ w. g.W.Write.contents w) was c.do_work-done.new.out c.or_refused-status.new.out c.do_work-done.result r
+    c.do_work-done.ensures.done c.or_refused-status.ensures in
     rw c.parts-input.ensures.input at (done_with {I = g.row.I.Denot} g.S.Start g.T.Start d e
     (λ i. g.I.Read.remaining i) c.parts-input.result.2.now c.may_do.new.input work c.may_do.ensures was is
     r.0 r.1 r.2 done)
