@@ -1,15 +1,13 @@
 -- The calls of a trace as objects of JSON. (Own.)
-use Rattle.std.specs.Prelude.{ℕ, List, [], ◌++◌, if◌then◌else◌, Some, None, Ok, Err, codes, decimal, Option, Result}
+use Rattle.std.specs.Prelude.{ℕ, List, [], ◌++◌, if◌then◌else◌, Some, None, Ok, Err, codes, Option, Result}
 use Rattle.im_types.specs.Types.{Request, Outcome, Call, Line, Asks, Confirm, Tells, Confirmed, Commands, Collect}
 use Rattle.im_types.specs.Types.{Refusal, number_of}
 use Rattle.im_trace.specs.declared.Since.{Since}
-use Rattle.im_text.specs.Objects.{number_member, number_of_entry, op_members, op_word, word_of_entry}
+use Rattle.im_text.specs.Objects.{number_member, number_of_entry, object_start, op_members, op_word, word_of_entry}
 
 -- the element, the number and the word of a call; here the object begins
 abbrev pub call_start : ℕ → ℕ → List ℕ → List ℕ
-call_start element number word =
-    codes "{\"element\":" ++ decimal element ++ codes ",\"number\":\"" ++ decimal number ++ codes "\",\"call\":\""
-    ++ word ++ codes "\""
+call_start element number word = object_start element number ++ codes ",\"call\":\"" ++ word ++ codes "\""
 
 -- a request, with what it asks for
 abbrev pub request_members : Request → List ℕ

@@ -5,7 +5,9 @@ ghost use Rattle.im_run.specs.Traced.{outcome_number, outcome_word, reply_member
 ghost use Rattle.im_run.specs.Tracing.{call_text, outcome_text, refusal_text, request_text, trace_line, traced_text};
 
 use im_controller::Since;
-use im_text::{add_entry, add_number, add_op, add_op_members, entry_parts, op_word};
+use im_text::{
+    add_entry, add_number, add_object_start, add_op, add_op_members, entry_parts, op_word,
+};
 use im_types::{Call, Command, Line, Outcome, Refusal, Request};
 use std::alloc::AllocError;
 
@@ -65,10 +67,8 @@ fn add_line(text: &mut String, line: Line) -> Result<(), AllocError>
 fn add_start(text: &mut String, element: u16, number: u64, word: &str) -> Result<(), AllocError>
     ensures { OnOk result (string_bytes text.new ≡ string_bytes text.old ++ call_start element number word.now) }
 {
-    write!(
-        text,
-        "{{\"element\":{element},\"number\":\"{number}\",\"call\":\"{word}\""
-    )
+    add_object_start(text, element, number)?;
+    write!(text, ",\"call\":\"{word}\"")
 }
 
 // Adds the members of a request.

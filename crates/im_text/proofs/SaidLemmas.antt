@@ -127,12 +127,16 @@ waits_more = one_more (λ m c. waits_by c (step m c).answer) waits (λ m. refl) 
 
 -- ---- the line of a refusal
 
+-- it wasn't printed
+pub last_unprinted : (from : Output) (is : Option (List ℕ)) (lines : Lines) (said : List OutputLine)
+    → Prints from is lines said → (last : List OutputLine) × (IsLast last × Prints from is lines (said ++ last))
+last_unprinted from is lines said it = ([], (inl refl, subst (Prints from is lines) (sym (append-nil said)) it))
+
 -- it was printed, or not
 pub last_printed : (from : Output) (is : Option (List ℕ)) (lines : Lines) (said : List OutputLine) (refusal : Refusal)
     → Prints from is lines said ⊎ Prints from is lines (said ++ Refused refusal ∷ [])
     → (last : List OutputLine) × (IsLast last × Prints from is lines (said ++ last))
-last_printed from is lines said refusal (inl it) =
-    ([], (inl refl, subst (Prints from is lines) (sym (append-nil said)) it))
+last_printed from is lines said refusal (inl it) = last_unprinted from is lines said it
 last_printed from is lines said refusal (inr it) = (Refused refusal ∷ [], (inr (refusal, refl), it))
 
 -- a text that was put through says it

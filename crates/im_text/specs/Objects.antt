@@ -53,6 +53,14 @@ abbrev pub number_member : List ℕ → Option ℕ → List ℕ
 number_member word None = []
 number_member word (Some n) = codes ",\"" ++ word ++ codes "\":\"" ++ decimal n ++ codes "\""
 
+-- an element; here an object begins
+abbrev pub element_start : ℕ → List ℕ
+element_start element = codes "{\"element\":" ++ decimal element
+
+-- the same, and a number
+abbrev pub object_start : ℕ → ℕ → List ℕ
+object_start element number = element_start element ++ number_member (codes "number") (Some number)
+
 -- ---- operations
 
 -- the word of an operation
@@ -71,7 +79,7 @@ address_member a = codes ",\"address\":" ++ decimal a
 
 -- the same, and the value that is written there
 abbrev pub written_members : ℕ → ℕ → List ℕ
-written_members a v = codes ",\"address\":" ++ decimal a ++ codes ",\"value\":\"" ++ decimal v ++ codes "\""
+written_members a v = address_member a ++ number_member (codes "value") (Some v)
 
 -- what an operation asks for
 abbrev pub op_members : Op → List ℕ

@@ -10,7 +10,7 @@ use Rattle.im_types.specs.Types.{PaneGone, number_of, Contents, asker, step}
 use Rattle.im_text.specs.declared.{lines.Lines.Lines, replies.Waited.Waited, said.OutputLine.OutputLine}
 use Rattle.im_text.specs.declared.said.OutputLine.TheVariants.{Done, Glance, Now, Refused, Reply}
 use Rattle.im_text.specs.declared.said.Style.{Style, TheVariants.Json, TheVariants.Quiet, TheVariants.Text}
-use Rattle.im_text.specs.Objects.{number_member, number_of_entry, word_of_entry}
+use Rattle.im_text.specs.Objects.{number_member, number_of_entry, object_start, word_of_entry}
 use Rattle.im_text.specs.Printing.{Batches, Begins, now_line, refused_line, told_line}
 use Rattle.im_text.specs.Texts.{line_feed, texts_below}
 
@@ -70,8 +70,7 @@ line_words (Refused refusal) = refused_line refusal (told_name refusal)
 -- a request with its reply, and whether it is the later one
 abbrev pub reply_start : ℕ → ℕ → List ℕ → List ℕ → List ℕ
 reply_start element number now word =
-    codes "{\"element\":" ++ decimal element ++ codes ",\"number\":\"" ++ decimal number ++ codes "\",\"now\":" ++ now
-    ++ codes ",\"reply\":\"" ++ word ++ codes "\""
+    object_start element number ++ codes ",\"now\":" ++ now ++ codes ",\"reply\":\"" ++ word ++ codes "\""
 
 -- the same, with the number of the reply under its word, if it has one
 abbrev pub reply_object : ℕ → ℕ → List ℕ → List ℕ → Option ℕ → List ℕ
@@ -92,10 +91,17 @@ glance_start element address =
 abbrev pub glance_object : ℕ → ℕ → Option ℕ → List ℕ
 glance_object element address value = glance_start element address ++ seen_member value ++ codes "}\n"
 
+-- the number of a refusal; here its object begins
+abbrev pub refusal_start : ℕ → List ℕ
+refusal_start number = codes "{\"refused\":{\"code\":" ++ decimal number
+
+-- the name of a refusal; here its object ends
+abbrev pub refusal_end : List ℕ → List ℕ
+refusal_end name = codes ",\"name\":\"" ++ name ++ codes "\"}}\n"
+
 -- a refusal, by its number and its name
 abbrev pub refusal_object : ℕ → List ℕ → List ℕ
-refusal_object number name = codes "{\"refused\":{\"code\":" ++ decimal number ++ codes ",\"name\":\"" ++ name
-    ++ codes "\"}}\n"
+refusal_object number name = refusal_start number ++ refusal_end name
 
 -- a line as an object
 abbrev pub object_of : OutputLine → List ℕ

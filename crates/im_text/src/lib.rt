@@ -19,7 +19,7 @@ pub use ending::{end, finish, put_refusal};
 pub use faults::{CallFault, PathFault, Words};
 pub use lines::Lines;
 pub use news::{News, Progress, Warning};
-pub use objects::{add_number, add_op_members, entry_parts, op_word};
+pub use objects::{add_number, add_object_start, add_op_members, entry_parts, op_word};
 pub use reasons::Reason;
 pub use replies::{Waited, add_entry, add_op, kind_text};
 pub use said::{OutputLine, Style, make_words};

@@ -1,7 +1,8 @@
 //! The parts of objects of JSON: the words of operations and entries, and numbers under words.
 ghost use Rattle.std.specs.Prelude.{◌≡◌, ◌++◌, OnOk, string_bytes};
-ghost use Rattle.im_text.specs.Objects.{address_member, number_member, number_of_entry, number_of_reply, op_members};
-ghost use Rattle.im_text.specs.Objects.{op_word, word_of_entry, word_of_reply, written_members};
+ghost use Rattle.im_text.specs.Objects.{address_member, element_start, number_member, number_of_entry, number_of_reply};
+ghost use Rattle.im_text.specs.Objects.{object_start, op_members, op_word, word_of_entry, word_of_reply};
+ghost use Rattle.im_text.specs.Objects.{written_members};
 
 use crate::replies::kind_text;
 use im_types::{Entry, Op, Reply};
@@ -61,6 +62,21 @@ pub fn add_number(out: &mut String, word: &str, number: Option<u64>) -> Result<(
     }
 }
 
+// Adds an element, with which an object begins.
+fn add_element_start(out: &mut String, element: u16) -> Result<(), AllocError>
+    ensures { OnOk result (string_bytes out.new ≡ string_bytes out.old ++ element_start element) }
+{
+    write!(out, "{{\"element\":{element}")
+}
+
+/// Adds an element and a number, with which an object begins.
+pub fn add_object_start(out: &mut String, element: u16, number: u64) -> Result<(), AllocError>
+    ensures { OnOk result (string_bytes out.new ≡ string_bytes out.old ++ object_start element number) }
+{
+    add_element_start(out, element)?;
+    add_number(out, "number", Some(number))
+}
+
 /// The word of an operation.
 pub fn op_word(op: Op) -> &'static str
     ensures { result.now ≡ op_word op }
@@ -87,7 +103,8 @@ fn add_address(out: &mut String, a: u32) -> Result<(), AllocError>
 fn add_written(out: &mut String, a: u32, value: u64) -> Result<(), AllocError>
     ensures { OnOk result (string_bytes out.new ≡ string_bytes out.old ++ written_members a value) }
 {
-    write!(out, ",\"address\":{a},\"value\":\"{value}\"")
+    add_address(out, a)?;
+    add_number(out, "value", Some(value))
 }
 
 /// Adds what an operation asks for.

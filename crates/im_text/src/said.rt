@@ -3,10 +3,10 @@ ghost use Rattle.std.specs.Prelude.{◌≡◌, ◌++◌, OnOk, Some, string_byte
 ghost use Rattle.im_text.specs.Objects.{number_of_entry, word_of_entry};
 ghost use Rattle.im_text.specs.Printing.{now_line, refused_line, told_line};
 ghost use Rattle.im_text.specs.Said.{done_text, glance_object, glance_start, glance_text, line_words, object_of};
-ghost use Rattle.im_text.specs.Said.{quiet_of, refusal_object, reply_object, reply_start, said_in, seen_member};
-ghost use Rattle.im_text.specs.Said.{seen_text, told_name};
+ghost use Rattle.im_text.specs.Said.{quiet_of, refusal_end, refusal_object, refusal_start, reply_object, reply_start};
+ghost use Rattle.im_text.specs.Said.{said_in, seen_member, seen_text, told_name};
 
-use crate::objects::{add_number, entry_parts};
+use crate::objects::{add_number, add_object_start, entry_parts};
 use crate::replies::{Waited, add_entry};
 use im_types::{Entry, Refusal};
 use std::alloc::AllocError;
@@ -155,11 +155,8 @@ fn add_reply_start(
 ) -> Result<(), AllocError>
     ensures { OnOk result (string_bytes out.new ≡ string_bytes out.old ++ reply_start who.0 who.1 now.now word.now) }
 {
-    let (element, number) = who;
-    write!(
-        out,
-        "{{\"element\":{element},\"number\":\"{number}\",\"now\":{now},\"reply\":\"{word}\""
-    )
+    add_object_start(out, who.0, who.1)?;
+    write!(out, ",\"now\":{now},\"reply\":\"{word}\"")
 }
 
 // Adds the object of a reply. A value or a base stands under its word.
@@ -221,14 +218,26 @@ fn add_glance_object(
     out.push_str("}\n")
 }
 
+// Adds the number of a refusal, with which its object begins.
+fn add_refusal_start(out: &mut String, number: u8) -> Result<(), AllocError>
+    ensures { OnOk result (string_bytes out.new ≡ string_bytes out.old ++ refusal_start number) }
+{
+    write!(out, "{{\"refused\":{{\"code\":{number}")
+}
+
+// Adds the name of a refusal, with which its object ends.
+fn add_refusal_end(out: &mut String, name: &str) -> Result<(), AllocError>
+    ensures { OnOk result (string_bytes out.new ≡ string_bytes out.old ++ refusal_end name.now) }
+{
+    write!(out, ",\"name\":\"{name}\"}}}}\n")
+}
+
 // Adds the object of a refusal.
 fn add_refusal_object(out: &mut String, number: u8, name: &str) -> Result<(), AllocError>
     ensures { OnOk result (string_bytes out.new ≡ string_bytes out.old ++ refusal_object number name.now) }
 {
-    write!(
-        out,
-        "{{\"refused\":{{\"code\":{number},\"name\":\"{name}\"}}}}\n"
-    )
+    add_refusal_start(out, number)?;
+    add_refusal_end(out, name)
 }
 
 // Adds a line as an object.

@@ -1,5 +1,5 @@
-use Rattle.std.proofs.Common.{List, [], sym, refl, subst, inl, append-nil}
-use Rattle.im_text.{proofs.SaidLemmas.prints_all, specs.declared.said.OutputLine.OutputLine, specs.Said.Prints}
+use Rattle.std.proofs.Common.{refl}
+use Rattle.im_text.proofs.SaidLemmas.{last_unprinted, prints_all}
 use Rattle.im_text.proofs.ending.finish.Goals as goal
 
 pub returns-in-Ok-flush-clause-whole : goal.returns-in-Ok-flush-clause-whole
@@ -10,12 +10,8 @@ returns-in-Ok-flush-clause-whole g c = λ zero. (
 )
 
 -- no line of a refusal
+pub returns-in-Ok-flush-clause-last : goal.returns-in-Ok-flush-clause-last
+returns-in-Ok-flush-clause-last g c = λ from said it. last_unprinted from _ _ said (c.flush.ensures.on from said it)
+
 pub returns-in-Err-flush-clause-last : goal.returns-in-Err-flush-clause-last
-returns-in-Err-flush-clause-last g c = λ from said printed. (
-  [],
-  (
-    inl refl,
-    subst (λ (l : List OutputLine). Prints from (g.W.Write.contents c.flush.new.out) c.flush.new.lines l)
-        (sym (append-nil said)) (c.flush.ensures.on from said printed),
-  ),
-)
+returns-in-Err-flush-clause-last g c = λ from said it. last_unprinted from _ _ said (c.flush.ensures.on from said it)
