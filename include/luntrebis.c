@@ -52,6 +52,7 @@ size_t lt_tell(const struct lt_command *command, const struct lt_outcome *outcom
 
 void lt_held_memory_collect(struct lt_memory memory, uint16_t element, uint64_t number, struct lt_memory *next,
                             struct lt_outcome *outcome);
+void lt_held_memory_cell(struct lt_memory memory, uint32_t address, struct lt_memory *next, struct lt_presence *cell);
 size_t lt_held_steps(struct lt_image image, struct lt_image *next);
 void lt_held_step_at(struct lt_image image, size_t index, struct lt_image *next, struct lt_step *step);
 uint8_t lt_held_step_bytes(struct lt_image image, size_t index, struct lt_image *next, uint8_t *buffer, size_t length);
@@ -61,6 +62,8 @@ void lt_held_entry(struct lt_image image, uint16_t element, uint64_t number, str
                    struct lt_command *asked);
 size_t lt_held_waiters(struct lt_image image, uint32_t address, struct lt_image *next, struct lt_waiter *waiters,
                        size_t room);
+size_t lt_held_cells(struct lt_image image, uint32_t from, struct lt_image *next, struct lt_presence *cells, size_t room);
+void lt_held_stat(struct lt_image image, struct lt_image *next, struct lt_figures *figures);
 void lt_held_window(struct lt_image image, uint16_t element, struct lt_image *next, struct lt_bounds *window);
 uint32_t lt_held_room(struct lt_image image, struct lt_image *next);
 uint64_t lt_held_count(struct lt_image image, struct lt_image *next);
@@ -69,6 +72,13 @@ uint8_t lt_memory_collect(const struct lt_memory *memory, uint16_t element, uint
     struct lt_memory same = {0};
     lt_held_memory_collect(*memory, element, number, &same, outcome);
     return outcome->refusal;
+}
+
+struct lt_presence lt_memory_cell(const struct lt_memory *memory, uint32_t address) {
+    struct lt_memory same = {0};
+    struct lt_presence cell = {0, 0, 0, 0, 0};
+    lt_held_memory_cell(*memory, address, &same, &cell);
+    return cell;
 }
 
 size_t lt_steps(const struct lt_image *image) {
@@ -104,6 +114,39 @@ struct lt_command lt_entry(const struct lt_image *image, uint16_t element, uint6
 size_t lt_waiters(const struct lt_image *image, uint32_t address, struct lt_waiter *waiters, size_t room) {
     struct lt_image same = {0};
     return lt_held_waiters(*image, address, &same, waiters, room);
+}
+
+struct lt_presence lt_cell(const struct lt_image *image, uint32_t address) {
+    struct lt_presence cell = {0, 0, 0, 0, 0};
+    lt_cells(image, address, &cell, 1);
+    return cell;
+}
+
+size_t lt_cells(const struct lt_image *image, uint32_t from, struct lt_presence *cells, size_t room) {
+    struct lt_image same = {0};
+    return lt_held_cells(*image, from, &same, cells, room);
+}
+
+struct lt_figures lt_stat(const struct lt_image *image) {
+    struct lt_image same = {0};
+    struct lt_figures figures = {0, 0, 0, 0, 0, 0, 0, 0, 0};
+    lt_held_stat(*image, &same, &figures);
+    return figures;
+}
+
+/* Whether an element keeps all entries that it may, and the oldest waits. */
+static int is_stuck(const struct lt_image *image, uint16_t element, const struct lt_bounds *window) {
+    struct lt_outcome oldest = {0, 0, 0};
+    if (window->next - window->base < 64) return 0;
+    return lt_collect(image, element, window->base, &oldest) == 0 && oldest.tag == LT_WAITING;
+}
+
+size_t lt_stuck(const struct lt_image *image, struct lt_waiter *stuck, size_t room) {
+    struct lt_bounds window = {0, 0, 0};
+    size_t count = 0;
+    for (uint16_t element = 0; count < room && lt_window(image, element, &window) == 0; element++)
+        if (is_stuck(image, element, &window)) stuck[count++] = (struct lt_waiter){element, window.base};
+    return count;
 }
 
 uint8_t lt_window(const struct lt_image *image, uint16_t element, struct lt_bounds *window) {

@@ -119,6 +119,24 @@ struct lt_outcome {
     uint64_t value;
 };
 
+/* What a cell holds, by `state`. */
+enum lt_state {
+    LT_NOWHERE = 0, /* the address lies in no block */
+    LT_EMPTY = 1,
+    LT_AWAITED = 2, /* requests wait for it */
+    LT_FULL = 3,    /* it has `value` */
+    LT_CLASHED = 4  /* it had `value` when it was written once more */
+};
+
+/* A cell, and the block that it lies in. If it lies in none, all is 0. */
+struct lt_presence {
+    uint8_t kind;    /* LT_ALLOC_I or LT_ALLOC_M, by which the block was made */
+    uint8_t state;
+    uint32_t base;   /* the address of the block's first cell */
+    uint32_t length; /* the number of its cells */
+    uint64_t value;
+};
+
 /* A handle of a memory. Zero bytes hold nothing. */
 struct lt_memory {
     void *block;
@@ -128,7 +146,7 @@ struct lt_memory {
  * refusal, and `next` is as it was. */
 uint8_t lt_memory_new(uint32_t cells, uint16_t elements, struct lt_memory *next);
 
-/* Serves one command. Returns its refusal, and writes its outcome at `outcome`. This call and the next two take a
+/* Serves one command. Returns its refusal, and writes its outcome at `outcome`. This call and the next three take a
  * handle that holds a memory. */
 uint8_t lt_memory_step(struct lt_memory memory, const struct lt_command *command, struct lt_memory *next,
                        struct lt_outcome *outcome);
@@ -136,6 +154,9 @@ uint8_t lt_memory_step(struct lt_memory memory, const struct lt_command *command
 /* Writes the entry that is kept under an element's number at `outcome`, or its refusal: LT_NO_ELEMENT, LT_FORGOTTEN or
  * LT_GAP. Returns the refusal. */
 uint8_t lt_memory_collect(const struct lt_memory *memory, uint16_t element, uint64_t number, struct lt_outcome *outcome);
+
+/* Returns the cell at an address. */
+struct lt_presence lt_memory_cell(const struct lt_memory *memory, uint32_t address);
 
 /* Frees the memory. */
 void lt_memory_free(struct lt_memory memory);
@@ -186,6 +207,16 @@ struct lt_sizes {
 struct lt_waiter {
     uint16_t element;
     uint64_t number;
+};
+
+/* The numbers of an image. */
+struct lt_figures {
+    uint64_t blocks;
+    uint64_t empty, awaited, full, clashed; /* cells of blocks, by their state */
+    uint64_t kept;                          /* entries */
+    uint64_t waiting;                       /* those of them that aren't answered */
+    uint64_t full_windows;                  /* elements that keep 64 entries */
+    uint64_t stuck;                         /* those of them whose oldest entry waits: lt_stuck says which */
 };
 
 /* What a step does on the file, by `kind`. */
@@ -301,6 +332,22 @@ struct lt_command lt_entry(const struct lt_image *image, uint16_t element, uint6
 /* Writes the requests that wait at a cell at `waiters`, in their order of arrival, as many as there is room for.
  * Returns how many it wrote, 0 after a lost step. A store answers all of them, a put the first. */
 size_t lt_waiters(const struct lt_image *image, uint32_t address, struct lt_waiter *waiters, size_t room);
+
+/* Returns the cell at an address, with its block. After a lost step it shows none, as the calls that follow up to
+ * lt_stuck. */
+struct lt_presence lt_cell(const struct lt_image *image, uint32_t address);
+
+/* Writes the cells from an address on at `cells`, as many as there is room for. Returns how many it wrote: fewer at the
+ * end of the memory. */
+size_t lt_cells(const struct lt_image *image, uint32_t from, struct lt_presence *cells, size_t room);
+
+/* Returns the numbers of the image. It looks at each cell several times. */
+struct lt_figures lt_stat(const struct lt_image *image);
+
+/* Writes the oldest entry of each element that is stuck: 64 entries are kept, and the oldest waits, so that nothing can
+ * be confirmed or asked before it is answered. Writes as many as there is room for, of 64 at most. Returns how many it
+ * wrote. lt_entry says for which cell each waits. */
+size_t lt_stuck(const struct lt_image *image, struct lt_waiter *stuck, size_t room);
 
 /* Writes the window of an element at `window`, or its refusal: LT_NO_ELEMENT, or LT_DEVICE after a lost step. Returns
  * the refusal. */

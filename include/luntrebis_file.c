@@ -11,7 +11,7 @@
 #include <sys/stat.h>
 #include <unistd.h>
 
-enum { MEMBERS = 16, KEPT = 64, SWEPT_AT_ONCE = 64, BOOT_NAME = 37 };
+enum { MEMBERS = 16, KEPT = 64, SWEPT_AT_ONCE = 1024, BOOT_NAME = 37 };
 
 struct ltf {
     struct lt_image image;
@@ -413,6 +413,22 @@ struct lt_bounds ltf_window(const struct ltf *file, uint16_t element) {
     return window;
 }
 
+struct lt_presence ltf_cell(const struct ltf *file, uint32_t address) {
+    return lt_cell(&file->image, address);
+}
+
+size_t ltf_cells(const struct ltf *file, uint32_t from, struct lt_presence *cells, size_t room) {
+    return lt_cells(&file->image, from, cells, room);
+}
+
+struct lt_figures ltf_stat(const struct ltf *file) {
+    return lt_stat(&file->image);
+}
+
+size_t ltf_stuck(const struct ltf *file, struct lt_waiter *stuck, size_t room) {
+    return lt_stuck(&file->image, stuck, room);
+}
+
 uint32_t ltf_room(const struct ltf *file) {
     return lt_room(&file->image);
 }
@@ -531,6 +547,13 @@ static int begin(struct ltf *file) {
     return -file->failure.error;
 }
 
+/* Names the file that was formed, if it was. Returns the answer, or why it has no name. */
+static int name(int answer, const char *path, const char *forming) {
+    if (answer == 0 && link(forming, path) < 0) answer = -errno;
+    unlink(forming);
+    return answer ? answer : sync_folder(path);
+}
+
 /* Forms the image, and then names it: a run that is stopped leaves no half image under that name. */
 static int form(struct ltf *file, const char *path, const char *forming) {
     int answer;
@@ -543,9 +566,7 @@ static int form(struct ltf *file, const char *path, const char *forming) {
     if (answer == 0 && (ftruncate(file->file, length) < 0 || fsync(file->file) < 0)) answer = -errno;
     file->length = length;
     if (answer == 0) answer = begin(file);
-    if (answer == 0 && link(forming, path) < 0) answer = -errno;
-    unlink(forming);
-    if (answer == 0) answer = sync_folder(path);
+    answer = name(answer, path, forming);
     if (answer == 0) unlink(file->note);
     return answer;
 }
@@ -586,6 +607,45 @@ static int read_all(int file, uint8_t **bytes, size_t *length) {
         at += (size_t)done;
     }
     return 0;
+}
+
+/* Reads the bytes of the file, all of which are on the disk, and sees that they open as an image. */
+static int read_whole(const struct ltf *file, uint8_t **bytes, size_t *length) {
+    struct lt_image opened = {0};
+    int answer = read_all(file->file, bytes, length);
+    if (answer == 0) answer = lt_open(*bytes, *length, &opened);
+    if (opened.block) lt_close(opened);
+    return answer;
+}
+
+/* Writes a copy, and names it. */
+static int copy(const struct ltf *file, const char *path, const char *forming) {
+    uint8_t *bytes = NULL;
+    size_t length = 0;
+    int answer = read_whole(file, &bytes, &length), made = answer ? -1 : make_alone(forming);
+    if (answer == 0 && made < 0) answer = made;
+    if (answer == 0 && (write_all(made, bytes, length, 0) < 0 || fsync(made) < 0)) answer = -errno;
+    if (made >= 0) {
+        answer = name(answer, path, forming);
+        close(made);
+    }
+    free(bytes);
+    return answer;
+}
+
+int ltf_backup(const struct ltf *file, const char *path) {
+    struct stat seen;
+    char *forming, *note;
+    int answer = -ENOMEM;
+    if (lost(file)) return LT_DEVICE;
+    if (lstat(path, &seen) == 0) return -EEXIST;
+    forming = path_with(path, ".new");
+    note = note_of(path);
+    if (forming && note) answer = copy(file, path, forming);
+    if (answer == 0) unlink(note);
+    free(forming);
+    free(note);
+    return answer;
 }
 
 /* Puts what an earlier run wrote on the disk. Then it asks the system to drop its pages of the file, so that the file

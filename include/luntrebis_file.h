@@ -83,10 +83,22 @@ size_t ltf_waiters(const struct ltf *file, uint32_t address, struct lt_waiter *w
 
 struct lt_bounds ltf_window(const struct ltf *file, uint16_t element);
 
+/* Show cells with their blocks, the numbers of the image, and who is stuck, as the calls of luntrebis.h. They make no
+ * request, and show what is on the disk: what is ahead hasn't acted. */
+struct lt_presence ltf_cell(const struct ltf *file, uint32_t address);
+size_t ltf_cells(const struct ltf *file, uint32_t from, struct lt_presence *cells, size_t room);
+struct lt_figures ltf_stat(const struct ltf *file);
+size_t ltf_stuck(const struct ltf *file, struct lt_waiter *stuck, size_t room);
+
 /* Return how many more commands there is room for, how many were accepted since the image was made, and its sizes. */
 uint32_t ltf_room(const struct ltf *file);
 uint64_t ltf_count(const struct ltf *file);
 struct lt_sizes ltf_limits(const struct ltf *file);
+
+/* Copies the image to a path where nothing exists, with all that was served, and returns once the copy is on the disk.
+ * The copy is formed as PATH.new, is seen to open as an image, and gets its name once it is whole. What is ahead isn't
+ * in it. Returns -EEXIST if something has the name, LT_DEVICE after a lost step, or why there is no copy. */
+int ltf_backup(const struct ltf *file, const char *path);
 
 /* The work that was done since the file was opened. */
 struct ltf_counts {

@@ -3,6 +3,8 @@
 
 #include <errno.h>
 #include <pthread.h>
+#include <sched.h>
+#include <stdatomic.h>
 #include <stdlib.h>
 #include <string.h>
 #include <sys/eventfd.h>
@@ -16,9 +18,10 @@
 #include <sys/syscall.h>
 #endif
 
-enum { ELEMENTS = 64, KEPT = 64, MEMBERS = 16, CONFIRM_AT = 48, WORTH_WAITING = 8, SLEEPERS = 64 };
+enum { ELEMENTS = 64, KEPT = 64, MEMBERS = 16, CONFIRM_AT = 63, WORTH_WAITING = 8 };
+enum { LOOK_OUT = 50000 }; /* nanoseconds, about what a sleep and a wake of the owner take */
 
-enum kind { ASKS, AWAITS, SHOWS_WINDOW, LEASES };
+enum kind { ASKS, AWAITS, SHOWS_WINDOW, LEASES, LOOKS };
 enum state { QUEUED, TAKEN, WAITS, TOLD };
 
 /* An answer on its way to a queue. */
@@ -32,8 +35,10 @@ struct parcel {
 struct ticket {
     struct ticket *next, **link; /* in the list that it is in */
     enum kind kind;
-    int state; /* an enum state, on which its thread sleeps */
+    _Atomic int state; /* an enum state, on which its thread sleeps */
+    _Atomic int *wakes[2]; /* the states of two more, whom its thread wakes once it is told */
     int leased; /* its number was given here */
+    int late; /* its time is over */
     struct lt_command command;
     struct lt_outcome outcome;
     struct lt_bounds window;
@@ -41,6 +46,7 @@ struct ticket {
     struct lts_queue *queue;
     void *mark;
     struct parcel first, later; /* for a queue */
+    lts_looks *looks; /* with `mark` */
 };
 
 struct list {
@@ -70,13 +76,10 @@ struct lts {
     pthread_t owner;
     pthread_mutex_t lock; /* of all that follows */
     pthread_cond_t come;
-#if LTS_FUTEX
-    int *due[SLEEPERS]; /* states on which a thread sleeps that is to be woken */
-#else
+#if !LTS_FUTEX
     pthread_cond_t told;
 #endif
-    size_t due_count;
-    struct list asked;
+    struct list asked, due; /* those who are due have an answer, and aren't told yet */
     struct ticket *waiting[ELEMENTS][KEPT]; /* by the element and the place in its window */
     struct lane lanes[ELEMENTS];
     uint64_t lately[3]; /* the elements of the last three groups, a bit each */
@@ -84,8 +87,9 @@ struct lts {
     struct ltf_counts work;
     struct ltf_fault failure;
     uint16_t elements;
-    int ending, dead, idle;
-    size_t queued;
+    int ending, dead;
+    _Atomic size_t queued; /* how many asked */
+    size_t wanted; /* for how many of them the owner sleeps */
     struct group ahead; /* its bodies are on the disk, and none of its members has acted */
 };
 
@@ -131,63 +135,87 @@ static struct ticket **waiting_for(struct lts *shared, uint16_t element, uint64_
     return &shared->waiting[element % ELEMENTS][number % KEPT];
 }
 
-/* ---- A thread sleeps on its ticket's state. The owner wakes it once it has given up the lock: else all whom a group
- * answers would wake, and sleep again for the lock. A ticket may be gone when its thread is woken. Then nobody is, or
- * somebody who looks, and sleeps again. */
+static int64_t now(void) {
+    struct timespec time;
+    clock_gettime(CLOCK_MONOTONIC, &time);
+    return time.tv_sec * (int64_t)1000000000 + time.tv_nsec;
+}
 
 static int is_of_thread(const struct ticket *ticket) {
     return !ticket->done && !ticket->queue;
 }
 
+/* ---- A thread sleeps on its ticket's state, without the lock. All whom a group answers are told together as the owner
+ * gives up the lock, and each one who is told wakes two others: so the owner, which has a sync to make, wakes one. A
+ * ticket may be gone when its thread is woken. Then nobody is, or somebody who looks, and sleeps again. */
+
 #if LTS_FUTEX
 
-/* Wakes those who are due. It gives up the lock meanwhile. */
-static void wake_due(struct lts *shared) {
-    int *due[SLEEPERS];
-    size_t count = shared->due_count;
-    if (count == 0) return;
-    memcpy(due, shared->due, count * sizeof *due);
-    shared->due_count = 0;
-    pthread_mutex_unlock(&shared->lock);
-    for (size_t at = 0; at < count; at++) syscall(SYS_futex, due[at], FUTEX_WAKE_PRIVATE, 1, NULL, NULL, 0);
-    pthread_mutex_lock(&shared->lock);
+static void wake_thread(struct lts *shared, const _Atomic int *state) {
+    (void)shared;
+    if (state) syscall(SYS_futex, state, FUTEX_WAKE_PRIVATE, 1, NULL, NULL, 0);
 }
 
-/* The thread of a ticket is due, as its state has changed. */
-static void call(struct lts *shared, struct ticket *ticket) {
-    shared->due[shared->due_count++] = &ticket->state;
-    if (shared->due_count == SLEEPERS) wake_due(shared);
+/* Sleeps until a ticket is told, or that time. Returns whether it is told. */
+static int await_told(struct lts *shared, struct ticket *ticket, const struct timespec *end) {
+    const int how = FUTEX_WAIT_BITSET_PRIVATE;
+    const unsigned any = FUTEX_BITSET_MATCH_ANY;
+    int state, over = 0;
+    while ((state = ticket->state) != TOLD && !over)
+        over = syscall(SYS_futex, &ticket->state, how, state, end, NULL, any) < 0 && errno == ETIMEDOUT;
+    if (state != TOLD) return 0;
+    for (size_t at = 0; at < 2; at++) wake_thread(shared, ticket->wakes[at]);
+    return 1;
 }
 
-/* Sleeps until a ticket's state changes, or that time. Returns whether the time is over. */
-static int sleep_on(struct lts *shared, struct ticket *ticket, const struct timespec *end) {
-    int state = ticket->state, over;
-    pthread_mutex_unlock(&shared->lock);
-    over = syscall(SYS_futex, &ticket->state, FUTEX_WAIT_BITSET_PRIVATE, state, end, NULL, FUTEX_BITSET_MATCH_ANY) != 0
-        && errno == ETIMEDOUT;
-    pthread_mutex_lock(&shared->lock);
-    return over;
+/* Looks for those who come soon, before the owner sleeps. */
+static void look_out(const struct lts *shared, size_t wanted) {
+    int64_t end = now() + (shared->pace / 8 < LOOK_OUT ? shared->pace / 8 : LOOK_OUT);
+    while (shared->queued < wanted && now() < end) sched_yield();
 }
 
 #else
 
-static void wake_due(struct lts *shared) {
-    if (shared->due_count > 0) pthread_cond_broadcast(&shared->told);
-    shared->due_count = 0;
+static void wake_thread(struct lts *shared, const _Atomic int *state) {
+    if (!state) return;
+    pthread_mutex_lock(&shared->lock);
+    pthread_cond_broadcast(&shared->told);
+    pthread_mutex_unlock(&shared->lock);
 }
 
-static void call(struct lts *shared, struct ticket *ticket) {
-    (void)ticket;
-    shared->due_count++;
+static int await_told(struct lts *shared, struct ticket *ticket, const struct timespec *end) {
+    int told, over = 0;
+    pthread_mutex_lock(&shared->lock);
+    while (ticket->state != TOLD && !over)
+        over = end ? pthread_cond_timedwait(&shared->told, &shared->lock, end) == ETIMEDOUT
+                   : pthread_cond_wait(&shared->told, &shared->lock) != 0;
+    told = ticket->state == TOLD;
+    pthread_mutex_unlock(&shared->lock);
+    return told;
 }
 
-static int sleep_on(struct lts *shared, struct ticket *ticket, const struct timespec *end) {
-    (void)ticket;
-    if (end) return pthread_cond_timedwait(&shared->told, &shared->lock, end) == ETIMEDOUT;
-    return pthread_cond_wait(&shared->told, &shared->lock) != 0;
+static void look_out(const struct lts *shared, size_t wanted) {
+    (void)shared;
+    (void)wanted;
 }
 
 #endif
+
+/* Gives up the lock, and tells those who are due. */
+static void give_up_lock(struct lts *shared) {
+    struct ticket *ticket = shared->due.first, *waker = ticket;
+    _Atomic int *first = ticket ? &ticket->state : NULL;
+    for (size_t at = 0; ticket && (ticket = ticket->next); at++) {
+        waker->wakes[at % 2] = &ticket->state;
+        if (at % 2) waker = waker->next;
+    }
+    while ((ticket = shared->due.first)) {
+        take_out(&shared->due, ticket);
+        ticket->state = TOLD;
+    }
+    pthread_mutex_unlock(&shared->lock);
+    wake_thread(shared, first);
+}
 
 static void wait_for_it(struct lts *shared, struct ticket *ticket) {
     struct ticket **first = waiting_for(shared, ticket->command.element, ticket->command.number);
@@ -196,7 +224,6 @@ static void wait_for_it(struct lts *shared, struct ticket *ticket) {
     if (*first) (*first)->link = &ticket->next;
     *first = ticket;
     ticket->state = WAITS;
-    if (is_of_thread(ticket)) call(shared, ticket); /* Its time may be over. */
 }
 
 /* ---- Answers. Under the lock, but for the calls of lts_done. */
@@ -217,7 +244,7 @@ static void send(struct lts_queue *queue, struct parcel *parcel) {
     pthread_mutex_unlock(&queue->lock);
 }
 
-/* Gives a ticket its answer, with `later` if it waited. The ticket may be gone after this call. */
+/* Gives a ticket its answer, with `later` if it waited. That of a thread is due then; another may be gone. */
 static void tell(struct lts *shared, struct ticket *ticket, int later) {
     struct lts_answer answer = {ticket->command, ticket->outcome, ticket->mark, later};
     struct lane *lane = &shared->lanes[ticket->command.element % ELEMENTS];
@@ -235,8 +262,8 @@ static void tell(struct lts *shared, struct ticket *ticket, int later) {
         done(&answer);
         pthread_mutex_lock(&shared->lock);
     } else {
-        ticket->state = TOLD;
-        call(shared, ticket);
+        ticket->state = TAKEN;
+        append(&shared->due, ticket);
     }
 }
 
@@ -256,6 +283,7 @@ static void refuse_all(struct lts *shared, uint8_t refusal) {
         }
     while ((ticket = shared->asked.first)) {
         take_out(&shared->asked, ticket);
+        shared->queued--;
         refuse(shared, ticket, refusal, 0);
     }
 }
@@ -267,7 +295,6 @@ static void wake(struct lts *shared, const struct lt_waiter *woken) {
     struct ticket *ticket;
     while ((ticket = *waiting_for(shared, woken->element, woken->number))) {
         take_out(NULL, ticket);
-        ticket->state = TAKEN;
         ltf_collect(shared->file, woken->element, woken->number, &ticket->outcome);
         tell(shared, ticket, 1);
     }
@@ -282,7 +309,7 @@ static void wake_all(struct lts *shared) {
 /* Answers a request whose number is waited for, now or later. */
 static void look(struct lts *shared, struct ticket *ticket) {
     ltf_collect(shared->file, ticket->command.element, ticket->command.number, &ticket->outcome);
-    if (is_last(&ticket->outcome))
+    if (is_last(&ticket->outcome) || ticket->late)
         tell(shared, ticket, 1);
     else
         wait_for_it(shared, ticket);
@@ -366,6 +393,14 @@ static void lease(struct lts *shared, struct ticket *ticket) {
     tell(shared, ticket, 0);
 }
 
+/* Lets a thread look at the file. */
+static void show(struct lts *shared, struct ticket *ticket) {
+    pthread_mutex_unlock(&shared->lock);
+    ticket->looks(shared->file, ticket->mark);
+    pthread_mutex_lock(&shared->lock);
+    tell(shared, ticket, 0);
+}
+
 /* Answers what needs no step, or lets it wait; adds each other command to the group. */
 static void sort_in(struct lts *shared, struct group *group, struct ticket *ticket) {
     if (ticket->kind == SHOWS_WINDOW) {
@@ -373,6 +408,8 @@ static void sort_in(struct lts *shared, struct group *group, struct ticket *tick
         tell(shared, ticket, 0);
     } else if (ticket->kind == LEASES) {
         lease(shared, ticket);
+    } else if (ticket->kind == LOOKS) {
+        show(shared, ticket);
     } else if (ticket->kind == AWAITS) {
         look(shared, ticket);
     } else if (number(shared, group, ticket)) {
@@ -452,8 +489,7 @@ static void answer_all(struct lts *shared, const struct group *group, int refusa
 static void serve_at_once(struct lts *shared, struct group *group) {
     size_t served;
     int refusal;
-    wake_due(shared);
-    pthread_mutex_unlock(&shared->lock);
+    give_up_lock(shared);
     refusal = ltf_serve_group(shared->file, group->commands, group->count, group->outcomes, &served);
     pthread_mutex_lock(&shared->lock);
     put_back(shared, group, served);
@@ -466,8 +502,7 @@ static void serve(struct lts *shared, struct group *group) {
     size_t ahead, answered;
     int refusal, was_none = acts->count == 0;
     if (group->count == 0 && was_none) return;
-    wake_due(shared);
-    pthread_mutex_unlock(&shared->lock);
+    give_up_lock(shared);
     refusal = ltf_advance(shared->file, group->commands, group->count, &ahead, acts->outcomes, &answered);
     pthread_mutex_lock(&shared->lock);
     answer_all(shared, acts, refusal);
@@ -483,16 +518,10 @@ static void serve(struct lts *shared, struct group *group) {
 /* Keeps the journal half empty while nobody asks. Returns whether there was something to do. */
 static int tidy(struct lts *shared) {
     int did;
-    pthread_mutex_unlock(&shared->lock);
+    give_up_lock(shared);
     did = ltf_tidy(shared->file);
     pthread_mutex_lock(&shared->lock);
     return did == 1;
-}
-
-static int64_t now(void) {
-    struct timespec time;
-    clock_gettime(CLOCK_MONOTONIC, &time);
-    return time.tv_sec * (int64_t)1000000000 + time.tv_nsec;
 }
 
 static size_t count_bits(uint64_t bits) {
@@ -501,19 +530,31 @@ static size_t count_bits(uint64_t bits) {
     return count;
 }
 
+/* Waits until so many have asked, or that time. */
+static void await_asked(struct lts *shared, size_t wanted, const struct timespec *end) {
+    pthread_cond_t *come = &shared->come;
+    int over = 0;
+    if (shared->queued >= wanted || shared->ending) return;
+    give_up_lock(shared);
+    if (end) look_out(shared, wanted);
+    pthread_mutex_lock(&shared->lock);
+    shared->wanted = wanted;
+    while (shared->queued < wanted && !shared->ending && !over)
+        over = end ? pthread_cond_timedwait(come, &shared->lock, end) : pthread_cond_wait(come, &shared->lock);
+    shared->wanted = 0;
+}
+
 /* Waits for those who were in the last three groups and aren't ahead, for at most a quarter of the time that a group
- * takes. Without it those who are answered together come back one by one, and stay parted into two groups. Behind a group
- * ahead it waits only if more than eight may come: else those who are ahead are answered sooner. */
+ * takes. Without it those who are answered together come back one by one, and stay parted into two groups. Behind a
+ * group ahead it waits only if more than eight may come, or if all don't fit into one group: else those who are ahead
+ * are answered sooner, and come back with the others. */
 static void linger(struct lts *shared) {
-    size_t wanted = count_bits((shared->lately[0] | shared->lately[1] | shared->lately[2]) & ~elements_ahead(shared));
+    uint64_t lately = shared->lately[0] | shared->lately[1] | shared->lately[2];
+    size_t wanted = count_bits(lately & ~elements_ahead(shared));
     int64_t end = now() + shared->pace / 4;
     struct timespec until = {.tv_sec = end / 1000000000, .tv_nsec = end % 1000000000};
-    if (shared->ahead.count && wanted <= WORTH_WAITING) wanted = 0;
-    if (wanted > MEMBERS) wanted = MEMBERS;
-    shared->idle = 1;
-    while (shared->queued < wanted && !shared->ending)
-        if (pthread_cond_timedwait(&shared->come, &shared->lock, &until)) break;
-    shared->idle = 0;
+    if (shared->ahead.count && wanted <= WORTH_WAITING && count_bits(lately) <= MEMBERS) return;
+    await_asked(shared, wanted < MEMBERS ? wanted : MEMBERS, &until);
 }
 
 /* Puts a group of those who asked ahead, and answers the one before it. */
@@ -541,19 +582,14 @@ static void *own(void *given) {
     struct lts *shared = given;
     pthread_mutex_lock(&shared->lock);
     while (!shared->ending || shared->asked.first || shared->ahead.count) {
-        if (shared->asked.first || shared->ahead.count) {
+        if (shared->asked.first || shared->ahead.count)
             serve_next(shared);
-        } else if (!tidy(shared) && !shared->asked.first && !shared->ending) {
-            shared->idle = 1;
-            pthread_cond_wait(&shared->come, &shared->lock);
-            shared->idle = 0;
-        }
+        else if (!tidy(shared))
+            await_asked(shared, 1, NULL);
         note_work(shared);
-        wake_due(shared);
     }
     refuse_all(shared, LT_NO_CALL);
-    wake_due(shared);
-    pthread_mutex_unlock(&shared->lock);
+    give_up_lock(shared);
     return NULL;
 }
 
@@ -565,31 +601,36 @@ static int enter(struct lts *shared, struct ticket *ticket) {
     ticket->state = QUEUED;
     append(&shared->asked, ticket);
     shared->queued++;
-    if (shared->idle) pthread_cond_signal(&shared->come);
+    if (shared->queued == shared->wanted) pthread_cond_signal(&shared->come);
     return 1;
 }
 
-/* Takes back a ticket whose time is over. Returns whether its answer came first. */
-static int take_back(struct lts *shared, struct ticket *ticket) {
-    while (ticket->state == TAKEN) sleep_on(shared, ticket, NULL);
-    if (ticket->state == TOLD) return 1;
+/* Takes back a ticket whose time is over. If the owner has it, it is told soon. */
+static void take_back(struct lts *shared, struct ticket *ticket) {
+    pthread_mutex_lock(&shared->lock);
+    ticket->late = 1;
     if (ticket->state == QUEUED) shared->queued--;
-    take_out(ticket->state == QUEUED ? &shared->asked : NULL, ticket);
-    return 0;
+    if (ticket->state == QUEUED || ticket->state == WAITS) {
+        take_out(ticket->state == QUEUED ? &shared->asked : NULL, ticket);
+        ticket->outcome = (struct lt_outcome){0, LT_WAITING, 0};
+        ticket->state = TOLD;
+    }
+    pthread_mutex_unlock(&shared->lock);
 }
 
 /* Asks with a thread's ticket, and waits until it is answered or the time is over. */
 static void ask_and_wait(struct lts *shared, struct ticket *ticket, const struct timespec *end) {
-    int over = 0;
+    int entered;
     pthread_mutex_lock(&shared->lock);
-    if (enter(shared, ticket)) {
-        while (ticket->state != TOLD && !over) over = sleep_on(shared, ticket, end);
-        if (over && !take_back(shared, ticket)) ticket->outcome = (struct lt_outcome){0, LT_WAITING, 0};
-    } else {
+    entered = enter(shared, ticket);
+    if (!entered) {
         ticket->outcome = shared->dead ? no_file : (struct lt_outcome){LT_NO_CALL, 0, 0};
         ticket->window = (struct lt_bounds){ticket->outcome.refusal, 0, 0};
     }
     pthread_mutex_unlock(&shared->lock);
+    if (!entered || await_told(shared, ticket, end)) return;
+    take_back(shared, ticket);
+    await_told(shared, ticket, NULL);
 }
 
 struct lt_outcome lts_ask(struct lts *shared, const struct lt_command *command) {
@@ -669,6 +710,99 @@ int lts_submit(struct lts *shared, const struct lt_command *commands, size_t cou
     return submit(shared, &like, commands, count);
 }
 
+/* ---- Those who look */
+
+int lts_look(struct lts *shared, lts_looks *looks, void *given) {
+    struct ticket ticket = {.kind = LOOKS, .looks = looks, .mark = given};
+    ask_and_wait(shared, &ticket, NULL);
+    return ticket.outcome.refusal;
+}
+
+enum sort { CELLS, STAT, STUCK, WAITERS, ENTRY, OUTCOME, ROOM, COUNT, BACKUP };
+
+/* What a call here looks for, and what it sees. */
+struct sight {
+    enum sort sort;
+    uint32_t address;
+    uint16_t element;
+    uint64_t number, count;
+    const char *path;
+    void *places;
+    size_t room;
+    struct lt_figures figures;
+    struct lt_command entry;
+    struct lt_outcome outcome;
+    int answer;
+};
+
+static void see(const struct ltf *file, void *given) {
+    struct sight *it = given;
+    switch (it->sort) {
+    case CELLS: it->count = ltf_cells(file, it->address, it->places, it->room); break;
+    case STAT: it->figures = ltf_stat(file); break;
+    case STUCK: it->count = ltf_stuck(file, it->places, it->room); break;
+    case WAITERS: it->count = ltf_waiters(file, it->address, it->places, it->room); break;
+    case ENTRY: it->entry = ltf_entry(file, it->element, it->number); break;
+    case OUTCOME: ltf_collect(file, it->element, it->number, &it->outcome); break;
+    case ROOM: it->count = ltf_room(file); break;
+    case COUNT: it->count = ltf_count(file); break;
+    case BACKUP: it->answer = ltf_backup(file, it->path); break;
+    }
+}
+
+static struct sight seen(struct lts *shared, struct sight it) {
+    int refusal = lts_look(shared, see, &it);
+    if (refusal) it.outcome = (struct lt_outcome){(uint8_t)refusal, 0, 0};
+    if (refusal) it.answer = refusal;
+    return it;
+}
+
+size_t lts_cells(struct lts *shared, uint32_t from, struct lt_presence *cells, size_t room) {
+    return seen(shared, (struct sight){.sort = CELLS, .address = from, .places = cells, .room = room}).count;
+}
+
+struct lt_presence lts_cell(struct lts *shared, uint32_t address) {
+    struct lt_presence cell = {0, 0, 0, 0, 0};
+    lts_cells(shared, address, &cell, 1);
+    return cell;
+}
+
+struct lt_figures lts_stat(struct lts *shared) {
+    return seen(shared, (struct sight){.sort = STAT}).figures;
+}
+
+size_t lts_stuck(struct lts *shared, struct lt_waiter *stuck, size_t room) {
+    return seen(shared, (struct sight){.sort = STUCK, .places = stuck, .room = room}).count;
+}
+
+size_t lts_waiters(struct lts *shared, uint32_t address, struct lt_waiter *waiters, size_t room) {
+    return seen(shared, (struct sight){.sort = WAITERS, .address = address, .places = waiters, .room = room}).count;
+}
+
+struct lt_command lts_entry(struct lts *shared, uint16_t element, uint64_t number) {
+    return seen(shared, (struct sight){.sort = ENTRY, .element = element, .number = number}).entry;
+}
+
+struct lt_outcome lts_collect(struct lts *shared, uint16_t element, uint64_t number) {
+    return seen(shared, (struct sight){.sort = OUTCOME, .element = element, .number = number}).outcome;
+}
+
+uint32_t lts_room(struct lts *shared) {
+    return (uint32_t)seen(shared, (struct sight){.sort = ROOM}).count;
+}
+
+uint64_t lts_count(struct lts *shared) {
+    return seen(shared, (struct sight){.sort = COUNT}).count;
+}
+
+struct lt_sizes lts_limits(struct lts *shared) {
+    return ltf_limits(shared->file);
+}
+
+int lts_backup(struct lts *shared, const char *path) {
+    return seen(shared, (struct sight){.sort = BACKUP, .path = path}).answer;
+}
+
 /* ---- Queues */
 
 int lts_queue_make(struct lts_queue **made) {
@@ -729,6 +863,7 @@ static int share(struct ltf *file, struct lts **made) {
         shared->file = file;
         shared->elements = ltf_limits(file).elements;
         shared->asked.end = &shared->asked.first;
+        shared->due.end = &shared->due.first;
         pthread_mutex_init(&shared->lock, NULL);
         pthread_condattr_init(&how);
         pthread_condattr_setclock(&how, CLOCK_MONOTONIC);

@@ -86,9 +86,33 @@ struct lt_outcome lts_call(struct lts *shared, uint16_t element, uint8_t tag, ui
 struct lt_outcome lts_call_until(struct lts *shared, uint16_t element, uint8_t tag, uint32_t address, uint64_t value,
                                  const struct timespec *end, uint64_t *number);
 
-/* ---- What is kept, and what was done */
+/* ---- What is kept, and what was done
+ *
+ * These calls make no request. They show what is on the disk, as it is between two groups: of what was asked and isn't
+ * answered yet nothing has acted. After a lost step they show nothing, as ltf_cell and the others. */
 
+struct lt_presence lts_cell(struct lts *shared, uint32_t address);
+size_t lts_cells(struct lts *shared, uint32_t from, struct lt_presence *cells, size_t room);
+struct lt_figures lts_stat(struct lts *shared);
+size_t lts_stuck(struct lts *shared, struct lt_waiter *stuck, size_t room);
+size_t lts_waiters(struct lts *shared, uint32_t address, struct lt_waiter *waiters, size_t room);
+struct lt_command lts_entry(struct lts *shared, uint16_t element, uint64_t number);
+struct lt_outcome lts_collect(struct lts *shared, uint16_t element, uint64_t number);
 struct lt_bounds lts_window(struct lts *shared, uint16_t element);
+uint32_t lts_room(struct lts *shared);
+uint64_t lts_count(struct lts *shared);
+struct lt_sizes lts_limits(struct lts *shared);
+
+/* Copies the image, as ltf_backup does, between two groups. Others may ask meanwhile, and are served after it. */
+int lts_backup(struct lts *shared, const char *path);
+
+/* Called with the file and what it was given, by the thread that holds the file. It only looks, at as much as it likes:
+ * nothing acts meanwhile. It must return soon, and make no call here. */
+typedef void lts_looks(const struct ltf *file, void *given);
+
+/* Lets a function look at the file. Returns 0, or LT_DEVICE or LT_NO_CALL if it wasn't called. */
+int lts_look(struct lts *shared, lts_looks *looks, void *given);
+
 struct ltf_counts lts_work(struct lts *shared);
 struct ltf_fault lts_failure(struct lts *shared);
 

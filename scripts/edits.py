@@ -210,14 +210,6 @@ class Known:
             found |= {it for it in names if (own and own[1].replace("/", "::") == it) or (around and is_named(around, it))} or {None}
         return None if None in found or not found else sorted(names)
 
-    def elsewhere(self, crate, edit, pairs):
-        """Returns a function that these replacements change, if they change none that the edit is meant to break. Its old
-        text stands there by chance. None if they change one."""
-        found = [self.around(crate, file, old) for file, old, _ in pairs if file.startswith("src/")]
-        is_its = lambda it, name: is_named(it, name) or (it.owner and name.split("::")[-1].startswith(it.owner))
-        is_meant = any(is_its(it, name) for it in filter(None, found) for name, _ in edit.breaks)
-        return None if is_meant or None in found else next(iter(found), None)
-
     def why_not(self, crate, function, what):
         """Returns why there is no such thing to break, or None."""
         kind, *names = what.split()
@@ -237,19 +229,13 @@ class Known:
         return None if kind in NO_CLAUSES or kind in sum(ensured, []) else f"{function} has no clause `{kind}`"
 
     def faults(self, crate, edit):
-        """Yields what is wrong with an edit: a line that it lacks, an old text that doesn't stand once in its file, a clause
-        that doesn't exist, or another function changed than it names."""
+        """Yields what is wrong with an edit: a line that it lacks, an old text that doesn't stand once in its file, or a
+        clause that doesn't exist."""
         if not (edit.breaks and edit.case and edit.wrong and edit.twin and all(len(it) == 2 for it in edit.breaks)):
             yield "it has to have lines breaks:, case:, file:, old:, new:, twin-old:, twin-new:"
             return
-        why = next(filter(None, (self.why_not(crate, *it) for it in edit.breaks)), None)
-        if why:
-            yield why
-        for pairs in (edit.wrong, edit.twin):
-            if lost := rewritten(self.top / "crates" / crate, pairs)[1]:
-                yield lost
-            elif not why and (other := self.elsewhere(crate, edit, pairs)):
-                yield f"changes {other.path()}, and breaks {edit.breaks[0][0]}"
+        yield from filter(None, (self.why_not(crate, *it) for it in edit.breaks))
+        yield from filter(None, (rewritten(self.top / "crates" / crate, it)[1] for it in (edit.wrong, edit.twin)))
 
 
 def faults(top=sources.TOP):

@@ -28,11 +28,14 @@ static void show(const char *what, struct lt_outcome outcome) {
 
 int main(void) {
     struct lt_outcome outcome = {0, 0, 0};
+    struct lt_presence cell;
     uint64_t sum = 0;
     show_refusal("no cells", lt_memory_new(0, 2, &memory));
     if (lt_memory_new(64, 2, &memory)) return 1;
     show("block", step(LT_ALLOC_M, 0, 8, 1, 0));
     show("take", step(LT_TAKE, 1, 3, 1, 0));
+    cell = lt_memory_cell(&memory, 3);
+    printf("cell 3: kind %d state %d, of %" PRIu32 " cells from %" PRIu32 " on\n", cell.kind, cell.state, cell.length, cell.base);
     show("put", step(LT_PUT, 0, 3, 2, 42));
     lt_memory_collect(&memory, 1, 1, &outcome);
     show("collected", outcome);

@@ -1,5 +1,5 @@
 /* A step that fails under sixteen threads, while one more waits. All of them get LT_DEVICE, and those who ask later
- * too.
+ * too. Nothing is shown or copied from then on.
  *
  * usage: fault IMAGE      with FAIL_AT in the environment (slow_sync.c) */
 #include <pthread.h>
@@ -49,6 +49,7 @@ int main(int count, char **words) {
     for (int at = 0; at <= MEMBERS; at++) pthread_join(threads[at], NULL);
     for (int at = 0; at <= MEMBERS; at++) bad |= refused[at] != LT_DEVICE;
     bad |= lts_ask(shared, &later).refusal != LT_DEVICE;
+    bad |= lts_cell(shared, 40).kind != 0 || lts_stat(shared).blocks != 0 || lts_backup(shared, "fault.copy") != LT_DEVICE;
     failure = lts_failure(shared);
     if (bad) { for (int at = 0; at <= MEMBERS; at++) fprintf(stderr, "%d ", refused[at]); fprintf(stderr, "\n"); }
     printf("%s, error %d%s%s\n", bad ? "SOMEBODY WASN'T TOLD" : "all were told", failure.error, failure.sync ? ", a sync" : "",

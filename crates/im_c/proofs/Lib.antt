@@ -3,3 +3,4 @@ mod AsImage
 pub mod Boxes
 pub mod Faults
 mod Crosses
+pub mod Cells

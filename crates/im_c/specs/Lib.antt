@@ -8,3 +8,4 @@ pub mod Chain
 pub mod Telling
 pub mod Waiting
 pub mod Sizes
+pub mod Seeing

@@ -13,8 +13,11 @@ mod parts;
 mod plain;
 #[cfg(test)]
 mod programs;
+mod seeing;
+mod seen;
 mod serving;
 mod sizes;
+mod stat;
 mod stepping;
 mod version;
 mod waiting;
@@ -27,8 +30,11 @@ pub use looking::{lt_held_collect, lt_held_count, lt_held_entry, lt_held_room, l
 pub use memory::{LtMemory, lt_held_memory_collect, lt_memory_free, lt_memory_new, lt_memory_step};
 pub use naming::{lt_answer_name, lt_refusal_name};
 pub use plain::{LtAdvanced, LtBounds, LtCommand, LtLimits, LtOutcome, LtStep, LtWaiter};
+pub use seeing::{lt_held_cells, lt_held_memory_cell};
+pub use seen::{LtFigures, LtPresence};
 pub use serving::{lt_serve, lt_sweep, lt_turn};
 pub use sizes::lt_limits;
+pub use stat::lt_held_stat;
 pub use stepping::{lt_failed, lt_held_step_at, lt_held_step_bytes, lt_held_steps};
 pub use version::{lt_layout_version, lt_version};
 pub use waiting::lt_held_waiters;

@@ -15,7 +15,7 @@ use crate::step::Step;
 use arrayvec::ArrayVec;
 use im_checkpoint::TurnDone;
 use im_engine::Engine;
-use im_memory::Waiters;
+use im_memory::{Memory, Waiters};
 use im_types::layout::image_length;
 use im_types::{Command, Entry, Kept, Limits, MAX_GROUP, Outcome, Refusal, Served};
 use std::alloc::Global;
@@ -273,6 +273,13 @@ impl Image {
         ensures { result ≡ self.now.lost }
     {
         self.lost
+    }
+
+    /// Returns the memory.
+    pub fn memory(&self) -> &Memory
+        ensures { result.now.contents ≡ self.now.engine.memory }
+    {
+        self.engine.memory()
     }
 
     /// Returns how many more commands can be accepted.

@@ -6,7 +6,7 @@ use Rattle.im_types.specs.Types.{Op, Request, Command, Asks, Confirm, Window, Co
 use Rattle.im_types.specs.Types.{after}
 use Rattle.{im_laws.proofs.RunLemmas.after-append, im_text.proofs.WindowLemmas.bounds_found}
 use Rattle.im_script.specs.{declared.Said.Said, Places.action_op, Script.Draft}
-use Rattle.im_serial.specs.Asked.{bases_after, bases_by, Course, HasNamed, HasReached, Leads, LeadsIf, NamesIf}
+use Rattle.im_serial.specs.Asked.{AreDue, bases_after, bases_by, Course, HasNamed, HasReached, Leads, LeadsIf, NamesIf}
 use Rattle.im_serial.specs.Asked.{request_in, said_at, Standing, standing, Wanted, wanted_by, wanted_in}
 
 -- ---- one request
@@ -34,6 +34,14 @@ stands_confirmed m s put element upto it = λ more last leads.
     subst (λ (l : List Command). LeadsIf m s.script l last) (sym (append_assoc put (Confirm element upto ∷ []) more))
     (it (Confirm element upto ∷ more) last (subst (λ (n : Contents). Leads n s.bases s.left more last) (after-append m
     put (Confirm element upto ∷ [])) leads))
+
+-- more commands, whose confirmations are due behind these
+pub due_more : (m : Contents) (put more : List Command) → AreDue m put → AreDue (after m put) more
+    → AreDue m (put ++ more)
+due_more m [] more first second = second
+due_more m (Asks r ∷ put) more first second = due_more (step m (Asks r)).contents put more first second
+due_more m (Confirm element upto ∷ put) more first second =
+    (first.0, due_more (step m (Confirm element upto)).contents put more first.1 second)
 
 -- a request more
 pub stands_asked : (m : Contents) (script : Option Course) (bases added : List ℕ) (w : Wanted) (left : List

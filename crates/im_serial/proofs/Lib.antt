@@ -2,6 +2,7 @@ pub mod AskedLemmas
 pub mod ServingLemmas
 pub mod NotedLemmas
 pub mod ScriptedLemmas
+pub mod PlaceLemmas
 pub mod LeftLemmas
 pub mod SettledLemmas
 pub mod SetupLemmas

@@ -199,14 +199,6 @@ written_back len new old names fits =
     ap (λ (n : ℕ). take n (new ++ drop (length new) old)) (sym fits ∙ sym same)
     ∙ take-prefix new (drop (length new) old)
 
-pub bounds_rise : (windows : List Window) (element base next : ℕ) → bounds windows element ≡ Ok (base, next)
-    → base ≤ next
-bounds_rise windows element base next is =
-    let it = bounds_found (slice_get windows element) base next is in
-    let below = it.base_is in
-    let above = it.next_is in
-    omega arith
-
 -- ---- before a confirmation
 
 nothing : (who : Waiter) → IsToDrop 0 0 who → ⊥

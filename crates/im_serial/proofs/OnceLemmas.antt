@@ -19,7 +19,7 @@ use Rattle.im_text.specs.Said.{SaysSome, SaysWhole, waits, waits_if, who_of}
 use Rattle.im_serial.proofs.{AskedLemmas.wanted_line, KeepsLemmas.went_on, LeftLemmas.had_at, LeftLemmas.has_some}
 use Rattle.im_serial.proofs.{LeftLemmas.met_here, LeftLemmas.met_less, NotedLemmas.apart, NotedLemmas.last_or_before}
 use Rattle.im_serial.proofs.{ScriptedLemmas.going_from, ScriptedLemmas.leads_here, ScriptedLemmas.over_here}
-use Rattle.im_serial.specs.Asked.{Course, Leads, said_at, standing, Wanted, wanted_by, wanted_in, wanted_of}
+use Rattle.im_serial.specs.Asked.{AreDue, Course, Leads, said_at, standing, Wanted, wanted_by, wanted_in, wanted_of}
 use Rattle.im_serial.specs.declared.{meeting.Met.Met, waits.Mark.Mark, waits.Mark.TheVariants.Here}
 use Rattle.im_serial.specs.Fitting.{FitsScript}
 use Rattle.im_serial.specs.Had.{bases_had, has_block, has_next, if_new, left_of, length_asked, met, met_all, news}
@@ -688,6 +688,7 @@ module _ {D : Type 0} where
             few = omega arith;
             left = new_of m script;
             leads = refl;
+            due = tt;
             known = at_start.known;
           });
       once = subst (λ (t : SessionState D). IsMadeOnce m t script text new.waited) (sym session_is) (record {
@@ -866,16 +867,18 @@ module _ {D : Type 0} where
     abbrev early : List Waiter
     early = waits_had origin (numbers_had origin) wanted
 
-    served : IsAskedOnce origin wanted (t.put ++ t.doubt) status → length t.doubt ≤ 1
+    served : IsAskedOnce origin wanted (t.put ++ t.doubt) status → AreDue origin (t.put ++ t.doubt)
+        → length t.doubt ≤ 1
         → HasMade origin wanted ⊎ ((t.put ++ t.doubt ≡ []) × (status ≡ 0 → ⊥))
         → FitsScript origin wanted ⊎ (t.put ++ t.doubt ≡ []) → ToldOnce origin wanted t.put was is status
         → ServedOnce disk script t.start.disk end was is status
-    served asked few made fit told = record {
+    served asked confirmed few made fit told = record {
       session = t;
       opened = refl;
       closed = at_end;
       kept = kept;
       asked = asked;
+      confirmed = confirmed;
       few = few;
       works = works;
       made = made;
@@ -920,7 +923,11 @@ module _ {D : Type 0} where
         let over = over_here t.start t s g.text (notes noted marks) g.serving in
         let full = whole none was ((lines ++ g.text) ++ nows waited (length waited)) (all none was (lines ++ g.text)
         g.printed) in
-        served (record { left = []; leads = leads_here t.start t s g.text (notes noted marks) g.serving; all = λ z. refl }) over.few (inl g.made) (inl g.fit)
+        served (record {
+          left = [];
+          leads = leads_here t.start t s g.text (notes noted marks) g.serving;
+          all = λ z. refl;
+        }) over.due over.few (inl g.made) (inl g.fit)
         (told_once (course_of origin wanted) g.text lines over ([], sym (append-nil lines)) ([], sym (append-nil early))
         (inl g.fit) g.printed (λ z. (
           refl,
@@ -940,7 +947,7 @@ module _ {D : Type 0} where
               (subst (λ (w : List Wanted). Leads origin c.first w all_put over.left) is_course.wanted over.leads);
           all = λ z. absurd (omega arith);
         })
-        over.few
+        over.due over.few
         (⊎_elim (λ made. inl made) (λ none. inr (none, λ z. absurd (omega arith))) ended.once.made)
         (⊎_elim (λ fit. inl fit) (λ none. inr none.0) ended.once.fit)
         (told_once c ended.text ended.had over is_course.had_is is_course.earlier_is

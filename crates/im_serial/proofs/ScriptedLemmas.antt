@@ -4,26 +4,27 @@ use Rattle.std.proofs.Common.{IfOk, if◌then◌else◌, OnOk, OnErr, IsOk, slic
 use Rattle.std.proofs.Common.{sym, refl, ap, ◌∙◌, subst, ⊎_elim, append_assoc, append-nil, arith, Bor}
 use Rattle.std.specs.Option.{option_map_or}
 use Rattle.im_types.specs.Types.{Entry, Op, Waiter, Waiting, Answered as Replied, Request, Command, Outcome, Asks}
-use Rattle.im_types.specs.Types.{Confirm, Tells, Confirmed, Refusal, Failed, Window, Contents, IsWindow, IsMemory}
+use Rattle.im_types.specs.Types.{Confirm, Tells, Confirmed, Refusal, Window, Contents, IsWindow, IsMemory}
 use Rattle.im_types.specs.Types.{WaitingAgrees, confirm_window, bounds, asker, step_confirm, step, is_accepted, after}
 use Rattle.im_types.specs.Types.{accepted}
-use Rattle.{im_laws.proofs.AcceptLemmas.unaccepted-leaves, im_disk.specs.declared.Disk.Ghosts}
+use Rattle.im_laws.proofs.AcceptLemmas.{unaccepted-leaves}
 use Rattle.im_laws.proofs.{MemoryLemmas.after-memory, RunLemmas.after-append, Tests.true_or_false}
+use Rattle.{im_disk.specs.declared.Disk.Ghosts, im_asks.specs.Windows.IsDue}
 use Rattle.im_session.specs.Kept.{IsFresh, Kept, SessionStart, SessionState}
-use Rattle.im_session.specs.Serving.{CommandRefused, CommandServed, Rests}
+use Rattle.im_session.specs.Serving.{CommandRefused, CommandServed}
 use Rattle.im_script.specs.{declared.Said.Said, Places.action_op, Script.Draft, Script.lines_of}
 use Rattle.im_text.proofs.PrintingLemmas.{take-all, take-prefix, true_false}
 use Rattle.im_text.proofs.SaidLemmas.{prints_begins, prints_none, replies_more, waits_more}
 use Rattle.im_text.specs.declared.{Lines.Lines, OutputLine.OutputLine, Waited.Waited}
 use Rattle.im_text.specs.Said.{IsLast, nows, Output, Prints, PrintsMore, PrintsNows, PrintsOn, replied, replies}
 use Rattle.im_text.specs.Said.{reply_line, SaysSome, SaysWhole, waits, waits_by, waits_if, who_of}
-use Rattle.im_serial.proofs.AskedLemmas.{named_asked, named_confirmed, named_first, request_is, stands_asked}
+use Rattle.im_serial.proofs.AskedLemmas.{due_more, named_asked, named_confirmed, named_first, request_is, stands_asked}
 use Rattle.im_serial.proofs.AskedLemmas.{stands_confirmed, stands_first, stands_here, stands_last, wanted_line}
 use Rattle.im_serial.proofs.NotedLemmas.{known_asked, noted_asked, noted_confirmed, noted_known, noted_same}
 use Rattle.im_serial.proofs.NotedLemmas.{noted_waits}
 use Rattle.im_serial.proofs.ServingLemmas.{next_is_new}
-use Rattle.im_serial.specs.Asked.{bases_by, Course, earlier_in, HasNamed, HasReached, LeadsIf, request_in, said_at}
-use Rattle.im_serial.specs.Asked.{Standing, standing, Wanted, wanted_by, wanted_in, wanted_of, whole_course}
+use Rattle.im_serial.specs.Asked.{AreDue, bases_by, Course, earlier_in, HasNamed, HasReached, LeadsIf, request_in}
+use Rattle.im_serial.specs.Asked.{said_at, Standing, standing, Wanted, wanted_by, wanted_in, wanted_of, whole_course}
 use Rattle.im_serial.specs.declared.waits.Mark.{Mark, TheVariants.Here}
 use Rattle.im_serial.specs.Noted.{AreKnown, AreLast, AreNoted, learnt, mark_place, noted_if, Notes, notes}
 use Rattle.im_serial.specs.Serving.{AreWaited, EndedAt, EndsAt, GoingAt, HasAsked, HasServed, IsOver, IsRecorded}
@@ -102,6 +103,7 @@ record Doubted {D : Type 0} (start : SessionStart D) (t : SessionState D) (scrip
   few : length t.doubt ≤ 1
   left : List Wanted
   leads : LeadsIf start.memory script (t.put ++ t.doubt) left
+  due : AreDue start.memory (t.put ++ t.doubt)
 
 module _ {D : Type 0} (start : SessionStart D) where
   -- what is known, by other words for what was put
@@ -110,8 +112,8 @@ module _ {D : Type 0} (start : SessionStart D) where
       → t.start ≡ start → t.engine.failed ≡ false → t.doubt ≡ [] → t.engine.memory ≡ after start.memory put
       → text ≡ replies start.memory put → AreWaited s.script n.waited (waits start.memory put)
       → HasReached start.memory s put → HasNamed start.memory s put
-      → IfSome s.script (λ _. IsRecorded start.memory put n) → IsServing start t s text n
-  serving_with t s text n put same start_is works sure memory lines names reached named recorded = record {
+      → AreDue start.memory put → IfSome s.script (λ _. IsRecorded start.memory put n) → IsServing start t s text n
+  serving_with t s text n put same start_is works sure memory lines names reached named due recorded = record {
     start_is = start_is;
     works = works;
     sure = sure;
@@ -120,17 +122,9 @@ module _ {D : Type 0} (start : SessionStart D) where
     names = names ∙ ap (λ (l : List Command). earlier_in s.script ++ waits start.memory l) (sym same);
     reached = subst (HasReached start.memory s) (sym same) reached;
     named = subst (HasNamed start.memory s) (sym same) named;
+    due = subst (AreDue start.memory) (sym same) due;
     recorded = subst (λ (l : List Command). IfSome s.script (λ _. IsRecorded start.memory l n)) (sym same) recorded;
   }
-
-  -- nothing was put
-  pub rests_serving : (old new : SessionState D) → Rests old new → new.engine.failed ≡ old.engine.failed
-      → (s : Standing) (text : List OutputLine) (n : Notes) → IsServing start old s text n
-      → IsServing start new s text n
-  rests_serving old new rests works s text n was = serving_with new s text n old.put
-      (ap (λ (t : SessionState D). t.put) rests.same) (ap (λ (t : SessionState D). t.start) rests.same ∙ was.start_is)
-      (works ∙ was.works) (ap (λ (t : SessionState D). t.doubt) rests.same ∙ was.sure) (rests.memory ∙ was.memory)
-      was.lines was.names was.reached was.named was.recorded
 
   known_if : (s : Standing) (put : List Command) (n : Notes) → IfSome s.script (λ _. IsRecorded start.memory put n)
       → IfSome s.script (λ _. AreKnown start.memory put n.waited)
@@ -141,8 +135,8 @@ module _ {D : Type 0} (start : SessionStart D) where
   pub refused_over : (old new : SessionState D) (c : Command) → CommandRefused old c new
       → (s : Standing) (text : List OutputLine) (n : Notes) → IsServing start old s text n
       → (last : List Wanted) × LeadsIf start.memory s.script (old.put ++ c ∷ []) last
-      → IsOver start new s.script text n.waited
-  refused_over old new c it s text n was one = record {
+      → AreDue start.memory (old.put ++ c ∷ []) → IsOver start new s.script text n.waited
+  refused_over old new c it s text n was one due = record {
     start_is = it.start ∙ was.start_is;
     told = old.put;
     others = [];
@@ -153,25 +147,31 @@ module _ {D : Type 0} (start : SessionStart D) where
     few = doubted.few;
     left = doubted.left;
     leads = doubted.leads;
+    due = doubted.due;
     known = subst (λ (l : List Command). IfSome s.script (λ _. AreKnown start.memory l n.waited)) (sym it.put)
         (known_if s old.put n was.recorded);
   }
     where
       by_list : (l : List Command) → new.doubt ≡ l → length l ≤ 1 → (last : List Wanted)
-          → LeadsIf start.memory s.script (old.put ++ l) last → Doubted start new s.script
-      by_list l same few last leads = record {
+          → LeadsIf start.memory s.script (old.put ++ l) last → AreDue start.memory (old.put ++ l)
+          → Doubted start new s.script
+      by_list l same few last leads are_due = record {
         few = subst (λ (k : List Command). length k ≤ 1) (sym same) few;
         left = last;
         leads = subst (λ (k : List Command). LeadsIf start.memory s.script (k ++ new.doubt) last) (sym it.put)
             (subst (λ (k : List Command). LeadsIf start.memory s.script (old.put ++ k) last) (sym same) leads);
+        due = subst (λ (k : List Command). AreDue start.memory (k ++ new.doubt)) (sym it.put)
+            (subst (λ (k : List Command). AreDue start.memory (old.put ++ k)) (sym same) are_due);
       }
 
       doubted : Doubted start new s.script
       doubted = ⊎_elim
           (λ same. by_list [] (same ∙ was.sure) (omega arith) s.left
           (subst (λ (l : List Command). LeadsIf start.memory s.script l s.left) (sym (append-nil old.put))
-          (stands_here start.memory s old.put was.reached)))
-          (λ more. by_list (c ∷ []) (more.1 ∙ ap (λ (l : List Command). l ++ c ∷ []) was.sure) (omega arith) one.0 one.1)
+          (stands_here start.memory s old.put was.reached))
+          (subst (AreDue start.memory) (sym (append-nil old.put)) was.due))
+          (λ more. by_list (c ∷ []) (more.1 ∙ ap (λ (l : List Command). l ++ c ∷ []) was.sure) (omega arith) one.0 one.1
+          due)
           it.doubt
 
   -- the commands that were put lead to where it stands
@@ -180,6 +180,19 @@ module _ {D : Type 0} (start : SessionStart D) where
   leads_here t s text n was = subst (λ (l : List Command). LeadsIf start.memory s.script l s.left)
       (sym (append-nil t.put) ∙ ap (λ (l : List Command). t.put ++ l) (sym was.sure))
       (stands_here start.memory s t.put was.reached)
+
+  -- the confirmations that were put are due
+  pub due_here : (t : SessionState D) (s : Standing) (text : List OutputLine) (n : Notes)
+      → IsServing start t s text n → AreDue start.memory (t.put ++ t.doubt)
+  due_here t s text n was = subst (AreDue start.memory)
+      (sym (append-nil t.put) ∙ ap (λ (l : List Command). t.put ++ l) (sym was.sure)) was.due
+
+  -- a confirmation that is due behind the commands that were put
+  due_behind : (t : SessionState D) (element upto : ℕ) → IsDue t.engine.memory element upto
+      → t.engine.memory ≡ after start.memory t.put → AreDue start.memory t.put
+      → AreDue start.memory (t.put ++ Confirm element upto ∷ [])
+  due_behind t element upto is memory are = due_more start.memory t.put (Confirm element upto ∷ []) are
+      (subst (λ (x : Contents). IsDue x element upto) memory is, tt)
 
   -- it is ended where it goes on
   pub over_here : (t : SessionState D) (s : Standing) (text : List OutputLine) (n : Notes) → IsServing start t s text n
@@ -195,24 +208,25 @@ module _ {D : Type 0} (start : SessionStart D) where
     few = subst (λ (l : List Command). length l ≤ 1) (sym was.sure) (omega arith);
     left = s.left;
     leads = leads_here t s text n was;
+    due = due_here t s text n was;
     known = known_if s t.put n was.recorded;
   }
 
   -- a confirmation is refused
-  pub confirm_over : (old new : SessionState D) (element upto : ℕ) → CommandRefused old (Confirm element upto) new
-      → (s : Standing) (text : List OutputLine) (n : Notes) → IsServing start old s text n
+  pub confirm_over : (old new : SessionState D) (element upto : ℕ) → IsDue old.engine.memory element upto
+      → CommandRefused old (Confirm element upto) new → (s : Standing) (text : List OutputLine) (n : Notes)
+      → IsServing start old s text n
       → IsOver start new s.script text n.waited
-  confirm_over old new element upto it s text n was = refused_over old new (Confirm element upto) it s text n was (
+  confirm_over old new element upto is it s text n was = refused_over old new (Confirm element upto) it s text n was (
     s.left,
     stands_here start.memory s (old.put ++ Confirm element upto ∷ [])
         (stands_confirmed start.memory s old.put element upto was.reached),
-  )
+  ) (due_behind old element upto is was.memory was.due)
 
   -- a confirmation is served: the entries that were learnt are dropped
-  module _ (old new : SessionState D) (element upto : ℕ) (o : Outcome)
-      (it : CommandServed old (Confirm element upto) o new) (s : Standing) (text : List OutputLine) (waited : List
-      Waited)
-      (marks : List Mark) (was : IsServing start old s text (learnt waited marks element upto)) where
+  module _ (old new : SessionState D) (element upto : ℕ) (is_due : IsDue old.engine.memory element upto)
+      (o : Outcome) (it : CommandServed old (Confirm element upto) o new) (s : Standing) (text : List OutputLine)
+      (waited : List Waited) (marks : List Mark) (was : IsServing start old s text (learnt waited marks element upto)) where
     abbrev confirm : Command
     confirm = Confirm element upto
 
@@ -253,6 +267,7 @@ module _ {D : Type 0} (start : SessionStart D) where
         (was.names ∙ ap (λ (l : List Waiter). earlier_in s.script ++ l) unwaited)
         (stands_confirmed start.memory s old.put element upto was.reached)
         (named_confirmed start.memory s old.put element upto was.named)
+        (due_behind old element upto is_due was.memory was.due)
         (if_any s.script (IsRecorded start.memory old.put learning)
         (IsRecorded start.memory (old.put ++ confirm ∷ []) (notes waited marks))
         (λ r. record {
@@ -265,7 +280,7 @@ module _ {D : Type 0} (start : SessionStart D) where
         let still : (step found confirm).contents ≡ found = unaccepted-leaves found confirm e in
         serving_with new s text (notes waited marks) old.put
         (put_by [] (ap (λ (b : Bool). if b then confirm ∷ [] else []) e) ∙ append-nil old.put) begun_is it.works undoubted
-        (it.memory ∙ still ∙ was.memory) was.lines was.names was.reached was.named
+        (it.memory ∙ still ∙ was.memory) was.lines was.names was.reached was.named was.due
         (if_any s.script (IsRecorded start.memory old.put learning) (IsRecorded start.memory old.put (notes waited marks))
         (λ r. record {
           memory = r.memory;
@@ -293,6 +308,7 @@ module _ {D : Type 0} (start : SessionStart D) where
     names = names ∙ was.names;
     reached = was.reached;
     named = was.named;
+    due = was.due;
     recorded = if_any s.script (IsRecorded start.memory t.put (notes waited marks))
         (IsRecorded start.memory t.put (learnt learned later element upto))
         (λ r. record {
@@ -324,9 +340,13 @@ module _ {D : Type 0} (start : SessionStart D) where
     leads : (last : List Wanted) × LeadsIf start.memory script (old.put ++ c ∷ []) last
     leads = stands_last start.memory script bases w rest old.put r was.reached asked
 
+    due : AreDue start.memory (old.put ++ c ∷ [])
+    due = due_more start.memory old.put (c ∷ []) was.due tt
+
     -- it is refused
     pub ask_refused : CommandRefused old c new → IsOver start new script text waited
-    ask_refused it = refused_over old new c it (standing script bases (w ∷ rest)) text (notes waited marks) was leads
+    ask_refused it =
+        refused_over old new c it (standing script bases (w ∷ rest)) text (notes waited marks) was leads due
 
     module _ (entry : Entry) (it : CommandServed old c (Tells entry) new) where
       abbrev line : List OutputLine
@@ -376,6 +396,8 @@ module _ {D : Type 0} (start : SessionStart D) where
         leads = subst (λ (l : List Command). LeadsIf start.memory script l leads.0)
             (sym (append-nil (old.put ++ c ∷ [])) ∙ ap (λ (l : List Command). l ++ []) (sym put_is)
             ∙ ap (λ (l : List Command). new.put ++ l) (sym sure)) leads.1;
+        due = subst (AreDue start.memory) (sym (append-nil (old.put ++ c ∷ []))
+            ∙ ap (λ (l : List Command). l ++ []) (sym put_is) ∙ ap (λ (l : List Command). new.put ++ l) (sym sure)) due;
         known = subst (λ (l : List Command). IfSome script (λ _. AreKnown start.memory l noted)) (sym put_is) known;
       }
 
@@ -418,7 +440,7 @@ module _ {D : Type 0} (start : SessionStart D) where
             ∙ sym (after-append start.memory old.put (c ∷ []))) lines waited_more
             (stands_asked start.memory script bases added w rest old.put r was.reached asked
             (ap (bases_by w) answer ∙ made))
-            (named_asked start.memory script bases added w rest old.put r was.named (ap (bases_by w) answer ∙ made))
+            (named_asked start.memory script bases added w rest old.put r was.named (ap (bases_by w) answer ∙ made)) due
             recorded
 
         -- the same, and it is ended there
@@ -431,66 +453,26 @@ module _ {D : Type 0} (start : SessionStart D) where
             (AreKnown start.memory (old.put ++ c ∷ []) noted)
             (λ rec. noted_known start.memory (old.put ++ c ∷ []) 0 0 marked noted rec.noted) recorded)
 
-  -- what is known when it has ended stays so behind a call that puts nothing
-  over_rests : (old new : SessionState D) → Rests old new → (script : Option Course) (text : List OutputLine) (waited
-      : List
-      Waited) → IsOver start old script text waited → IsOver start new script text waited
-  over_rests old new rests script text waited was =
-      let put_is : new.put ≡ old.put = ap (λ (t : SessionState D). t.put) rests.same in
-      let doubt_is : new.doubt ≡ old.doubt = ap (λ (t : SessionState D). t.doubt) rests.same in
-      record {
-        start_is = ap (λ (t : SessionState D). t.start) rests.same ∙ was.start_is;
-        told = was.told;
-        others = was.others;
-        split = put_is ∙ was.split;
-        lines = was.lines;
-        many = was.many;
-        names = was.names;
-        few = subst (λ (l : List Command). length l ≤ 1) (sym doubt_is) was.few;
-        left = was.left;
-        leads = subst (λ (l : List Command). LeadsIf start.memory script (l ++ new.doubt) was.left) (sym put_is)
-            (subst (λ (l : List Command). LeadsIf start.memory script (old.put ++ l) was.left) (sym doubt_is) was.leads);
-        known = subst (λ (l : List Command). IfSome script (λ _. AreKnown start.memory l waited)) (sym put_is) was.known;
-      }
-
--- ---- room for a request
-
--- room is made in the journal, behind a place in the window
-pub room_then : {D T E : Type 0} (r : Result T E) (old mid new : SessionState D) (waited learned : List Waited)
-    (marks later : List Mark)
-    → ((start : SessionStart D) (s : Standing) (text : List OutputLine)
-    → IsServing start old s text (notes waited marks)
-    → IsServing start mid s text (notes learned later)) → Rests mid new
-    → OnOk r (new.engine.failed ≡ mid.engine.failed) → MakesPlace r old waited marks new learned later
-room_then (Ok x) old mid new waited learned marks later first rests works = λ start s text was.
-    rests_serving start mid new rests works s text (notes learned later) (first start s text was)
-room_then (Err e) old mid new waited learned marks later first rests works = λ start s text was.
-    over_rests start mid new rests s.script text learned
-    (over_here start mid s text (notes learned later) (first start s text was))
+-- ---- a place for a request
 
 -- entries are learnt, and then dropped
-pub drops_then : {D T E : Type 0} (r : Result T E) (element upto : ℕ) (old new : SessionState D)
-    (waited learned : List Waited) (marks later : List Mark)
+pub drops_then : {D E : Type 0} (r : Result Outcome E) (element upto : ℕ) (old new : SessionState D)
+    (waited learned : List Waited) (marks later : List Mark) → IsDue old.engine.memory element upto
     → ((start : SessionStart D) (s : Standing) (text : List OutputLine)
     → IsServing start old s text (notes waited marks)
     → IsServing start old s text (learnt learned later element upto))
-    → OnOk r ((o : Outcome) × CommandServed old (Confirm element upto) o new)
+    → IfOk r (λ o. CommandServed old (Confirm element upto) o new)
     → OnErr r (CommandRefused old (Confirm element upto) new) → MakesPlace r old waited marks new learned later
-drops_then (Ok x) element upto old new waited learned marks later first served refused = λ start s text was.
-    confirm_serving start old new element upto served.0 served.1 s text learned later (first start s text was)
-drops_then (Err e) element upto old new waited learned marks later first served refused = λ start s text was.
-    confirm_over start old new element upto refused s text (learnt learned later element upto) (first start s text was)
+drops_then (Ok o) element upto old new waited learned marks later is first served refused = λ start s text was.
+    confirm_serving start old new element upto is o served s text learned later (first start s text was)
+drops_then (Err e) element upto old new waited learned marks later is first served refused = λ start s text was.
+    confirm_over start old new element upto is refused s text (learnt learned later element upto)
+    (first start s text was)
 
 -- nothing changes, and it is ended
 pub unprepared : {D : Type 0} (T : Type 0) {E : Type 0} (e : E) (t : SessionState D) (waited : List Waited) (marks : List Mark)
     → MakesPlace {T = T} (Err e) t waited marks t waited marks
 unprepared T e t waited marks = λ start s text was. over_here start t s text (notes waited marks) was
-
--- what a window is found to be, unless the engine has failed
-pub window_found : {X : Type 0} (failed : Bool) (result found : Result X Refusal) (x : X)
-    → (failed ≡ true → result ≡ Err Failed) → (failed ≡ false → result ≡ found) → result ≡ Ok x → found ≡ Ok x
-window_found true result found x dead alive is = let none = dead refl in absurd (cc)
-window_found false result found x dead alive is = sym (alive refl) ∙ is
 
 -- ---- servers, one after another
 
@@ -526,13 +508,6 @@ module _ {D : Type 0} where
     serves = tt;
     ends = ends_here wanted wanted before before s s
         (passes_refl wanted before s);
-  }
-
-  pub unasked : {E : Type 0} (e : E) (element : ℕ) (op : Op) (s : ScriptServer D) → HasAsked element op (Err e) s s
-  unasked e element op s = record {
-    serves = tt;
-    ends = λ w before is asks. ends_here (w ∷ []) (w ∷ []) before before s
-        s (passes_refl (w ∷ []) before s);
   }
 
   -- a request of the script was asked
@@ -742,7 +717,7 @@ module _ {D : Type 0} where
             (stands_first m c))
             (subst (λ (l : List Wanted). HasNamed m (standing (Some c) c.first l) []) (sym (append-nil c.wanted))
             (named_first m c))
-            recorded;
+            tt recorded;
         printed = prints_none held lines styled pending;
       }
 
@@ -842,6 +817,7 @@ module _ {D : Type 0} where
               leads = leads_here t.start t s g.text (notes noted marks) it;
               all = λ z. refl;
             };
+            confirmed = due_here t.start t s g.text (notes noted marks) it;
             few = (over_here t.start t s g.text (notes noted marks) it).few;
             works = works;
             printed = printed g.text (over_here t.start t s g.text (notes noted marks) it) g.printed (λ z. (
@@ -856,6 +832,7 @@ module _ {D : Type 0} where
         closed = at_end;
         kept = kept;
         asked = record { left = ended.over.left; leads = ended.over.leads; all = λ z. absurd (omega arith) };
+        confirmed = ended.over.due;
         few = ended.over.few;
         works = works;
         printed = printed ended.text ended.over ended.printed (λ z. absurd (omega arith));

@@ -1,9 +1,12 @@
 -- Commands put while a script is served. (Own.)
-use Rattle.std.proofs.Common.{◌≡◌, ℕ, ◌-◌, Bool, true, false, ◌||◌, List, [], ◌∷◌, length, if◌then◌else◌, nat_lt}
-use Rattle.std.proofs.Common.{slice_get, None, Ok, Err, Result, sym, refl, ap, ◌∙◌, subst, arith}
-use Rattle.im_types.specs.Types.{Request, Outcome, Judged, Asks, Fresh, Refusal, Gap, Forgotten, WindowFull, WINDOW}
-use Rattle.im_types.specs.Types.{LAST, Contents, next_number, judge_number, judge_window, judge, bounds, step_request}
-use Rattle.im_types.specs.Types.{step, is_fresh, is_accepted}
+use Rattle.std.proofs.Common.{◌≡◌, ℕ, ◌-◌, Bool, true, false, ◌||◌, List, [], ◌∷◌, length, IfOk, if◌then◌else◌, OnErr}
+use Rattle.std.proofs.Common.{nat_lt, slice_get, None, Ok, Err, Result, sym, refl, ap, ◌∙◌, subst, arith}
+use Rattle.im_types.specs.Types.{Request, Command, Outcome, Judged, Asks, Fresh, Refusal, Gap, Forgotten, WindowFull}
+use Rattle.im_types.specs.Types.{WINDOW, LAST, Contents, next_number, judge_number, judge_window, judge, bounds}
+use Rattle.im_types.specs.Types.{step_request, step, is_fresh, is_accepted}
+use Rattle.{im_engine.specs.Answered.Answered, im_session.specs.Kept.SessionState}
+use Rattle.im_session.proofs.ServedLemmas.{command_refused, command_served, refused_behind, served_behind}
+use Rattle.im_session.specs.Serving.{CommandRefused, CommandServed, Rests, served_one}
 use Rattle.im_text.proofs.WindowLemmas.{bounds_found, HasBounds, not_below}
 
 -- ---- new requests
@@ -37,3 +40,18 @@ next_is_new m r base o is answer =
     by_tests true room answer same = absurd (cc)
     by_tests false true answer same = sym same
     by_tests false false answer same = absurd (cc)
+
+-- ---- one command, behind the turns that made room for it
+
+module _ {D : Type 0} (old mid new : SessionState D) (c : Command) where
+  pub one_served : (a : Result Outcome Refusal) → Rests old mid → Answered mid.engine c a new.engine
+      → new ≡ served_one mid c a new.engine → IfOk a (λ o. CommandServed old c o new)
+  one_served (Ok o) rests it put =
+      served_behind old mid new rests c o (command_served mid new c (Ok o) it put o refl)
+  one_served (Err e) rests it put = tt
+
+  pub one_refused : (a : Result Outcome Refusal) → Rests old mid → Answered mid.engine c a new.engine
+      → new ≡ served_one mid c a new.engine → OnErr a (CommandRefused old c new)
+  one_refused (Ok o) rests it put = tt
+  one_refused (Err e) rests it put =
+      refused_behind old mid new rests c (command_refused mid new c (Err e) it put e refl)

@@ -4,10 +4,10 @@ use Rattle.std.specs.Prelude.{Ok, Option, Result, option_map, option_and_then}
 use Rattle.std.specs.Option.{option_map_or}
 use Rattle.im_types.specs.Types.{Waiter, Answered, Base, Request, Command, Outcome, Asks, Confirm, Tells, Refusal}
 use Rattle.im_types.specs.Types.{Contents, next_number, step, after}
+use Rattle.{im_asks.specs.Windows.IsDue, im_script.specs.Places.action_op}
 use Rattle.im_script.specs.declared.{Action.Action, Action.TheVariants.Alloc, Said.Said}
 use Rattle.im_script.specs.declared.Heard.{Heard, TheVariants.Glances, TheVariants.Says}
 use Rattle.im_script.specs.declared.Said.TheVariants.{Asks as Line, Begins, Block, Nothing}
-use Rattle.im_script.specs.Places.{action_op}
 use Rattle.im_script.specs.Script.{Draft, heard, lines_of, new_draft}
 
 -- ---- what a script asks for
@@ -91,6 +91,14 @@ bases_after m bases wanted (Confirm element upto ∷ put) =
 bases_after m bases [] (Asks r ∷ put) = bases
 bases_after m bases (w ∷ wanted) (Asks r ∷ put) = bases_after (step m (Asks r)).contents
     (bases ++ option_map_or (λ more. more) (bases_by w (step m (Asks r)).answer) []) wanted put
+
+-- Each confirmation among these commands is of a full window in its turn: of its entries up to the first that isn't
+-- answered, and there is one.
+abbrev pub AreDue : Contents → List Command → Type 0
+AreDue m [] = Unit {0}
+AreDue m (Confirm element upto ∷ put) =
+    IsDue m element upto × AreDue (step m (Confirm element upto)).contents put
+AreDue m (Asks r ∷ put) = AreDue (step m (Asks r)).contents put
 
 -- ---- where a script stands
 

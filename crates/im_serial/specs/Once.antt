@@ -9,7 +9,7 @@ use Rattle.im_session.specs.Kept.{IsFresh, Kept as SessionKept, SessionStart, Se
 use Rattle.im_text.specs.declared.OutputLine.{OutputLine, TheVariants.Done as IsDone}
 use Rattle.im_text.specs.Said.{IsLast, nows, Output, Prints, PrintsMore, PrintsOn, replied, replies, SaysSome}
 use Rattle.im_text.specs.Said.{SaysWhole, waits, waits_if, who_of}
-use Rattle.im_serial.specs.Asked.{Course, IsAsked, standing, Wanted, wanted_of}
+use Rattle.im_serial.specs.Asked.{AreDue, Course, IsAsked, standing, Wanted, wanted_of}
 use Rattle.im_serial.specs.{Begun.HasComeTo, Begun.HasGoneOn, declared.waits.Mark.Mark, Fitting.FitsScript}
 use Rattle.im_serial.specs.declared.meeting.Met.{Met, TheVariants.Done, TheVariants.Kept, TheVariants.New}
 use Rattle.im_serial.specs.Had.{bases_had, has_block, has_next, left_of, met, news, next_had, numbers_had, who_next}
@@ -268,10 +268,10 @@ pub record ToldOnce (m : Contents) (script : List Wanted) (put : List Command) (
       × SaysWhole was is (had ++ replies m put ++ nows waited (length waited))
 
 -- The image was opened, and a session with it put these commands: with those in doubt, at most one, they are those
--- requests of this script that its memory didn't have, in their order, and confirmations; with status 0 all of those,
--- and no call of the disk failed. Nothing was put if a block of the setup that the memory had wasn't made, or what it
--- had doesn't fit the script. If each file that was left meant what runs of the script come to, those runs and this one
--- are one run from a new image on.
+-- requests of this script that its memory didn't have, in their order, and confirmations, each of a full window; with
+-- status 0 all of those, and no call of the disk failed. Nothing was put if a block of the setup that the memory had
+-- wasn't made, or what it had doesn't fit the script. If each file that was left meant what runs of the script come to,
+-- those runs and this one are one run from a new image on.
 pub record ServedOnce {D : Type 0} (disk : Ghosts D) (text : List ℕ) (old new : D) (was : Output)
     (is : Option (List ℕ)) (status : ℕ) : Type 0 where
   pub session : SessionState D
@@ -279,6 +279,7 @@ pub record ServedOnce {D : Type 0} (disk : Ghosts D) (text : List ℕ) (old new 
   pub closed : new ≡ session.engine.disk
   pub kept : SessionKept disk session
   pub asked : IsAskedOnce session.start.memory (wanted_of text) (session.put ++ session.doubt) status
+  pub confirmed : AreDue session.start.memory (session.put ++ session.doubt)
   pub few : length session.doubt ≤ 1
   pub works : status ≡ 0 → session.engine.failed ≡ false
   pub made : HasMade session.start.memory (wanted_of text) ⊎ ((session.put ++ session.doubt ≡ []) × (status ≡ 0 → ⊥))

@@ -8,8 +8,8 @@ use Rattle.im_script.specs.Places.{action_op}
 use Rattle.im_text.specs.declared.{Lines.Lines, OutputLine.OutputLine, Waited.Waited}
 use Rattle.im_text.specs.Said.{IsLast, nows, Output, output, Prints, replies, SaysLast, SaysSome, SaysWhole, waits}
 use Rattle.im_text.specs.Said.{who_of}
-use Rattle.im_serial.specs.Asked.{bases_by, Course, earlier_in, HasNamed, HasReached, IsAsked, LeadsIf, Standing}
-use Rattle.im_serial.specs.Asked.{standing, Wanted, wanted_of}
+use Rattle.im_serial.specs.Asked.{AreDue, bases_by, Course, earlier_in, HasNamed, HasReached, IsAsked, LeadsIf}
+use Rattle.im_serial.specs.Asked.{Standing, standing, Wanted, wanted_of}
 use Rattle.im_serial.specs.declared.{server.Server.Server as Whole, waits.Mark.Mark}
 use Rattle.im_serial.specs.Noted.{AreKnown, AreLast, AreNoted, Notes, notes}
 
@@ -26,8 +26,8 @@ AreWaited script waited names = map who_of waited ≡ earlier_in script ++ names
 
 module _ {D : Type 0} (start : SessionStart D) (t : SessionState D) where
   -- What is known while it goes on, by a session that began there. Nothing is in doubt, and the text has the lines of
-  -- the commands that were put. Where the script stands after them, with its names; those that had to wait; and, if
-  -- there is a script, that the notes of these are right.
+  -- the commands that were put. Where the script stands after them, with its names; those that had to wait; that no
+  -- window was confirmed early; and, if there is a script, that the notes of those that had to wait are right.
   pub record IsServing (s : Standing) (text : List OutputLine) (n : Notes) : Type 0 where
     pub start_is : t.start ≡ start
     pub works : t.engine.failed ≡ false
@@ -37,6 +37,7 @@ module _ {D : Type 0} (start : SessionStart D) (t : SessionState D) where
     pub names : AreWaited s.script n.waited (waits start.memory t.put)
     pub reached : HasReached start.memory s t.put
     pub named : HasNamed start.memory s t.put
+    pub due : AreDue start.memory t.put
     pub recorded : IfSome s.script (λ _. IsRecorded start.memory t.put n)
 
   -- What is known when it has ended, or goes on. The text has the lines of the first commands that were put. With those
@@ -53,6 +54,7 @@ module _ {D : Type 0} (start : SessionStart D) (t : SessionState D) where
     pub few : length t.doubt ≤ 1
     pub left : List Wanted
     pub leads : LeadsIf start.memory script (t.put ++ t.doubt) left
+    pub due : AreDue start.memory (t.put ++ t.doubt)
     pub known : IfSome script (λ _. AreKnown start.memory t.put waited)
 
 -- The call makes a place for the next request, if it succeeds: the requests that had to wait and their marks may
@@ -159,8 +161,8 @@ pub record Told (m : Contents) (put : List Command) (was : Output) (is : Option 
       × SaysWhole was is (replies m put ++ nows waited (length waited))
 
 -- The image was opened, and a session with it put these commands of a script. With those in doubt, at most one, they
--- are the script's first requests, in their order, and confirmations; with status 0 all its requests, and no call of
--- the disk failed.
+-- are the script's first requests, in their order, and confirmations, each of a full window; with status 0 all its
+-- requests, and no call of the disk failed.
 pub record ServedScript {D : Type 0} (disk : Ghosts D) (text : List ℕ) (old new : D) (was : Output)
     (is : Option (List ℕ)) (status : ℕ) : Type 0 where
   pub session : SessionState D
@@ -168,6 +170,7 @@ pub record ServedScript {D : Type 0} (disk : Ghosts D) (text : List ℕ) (old ne
   pub closed : new ≡ session.engine.disk
   pub kept : Kept disk session
   pub asked : IsAsked session.start.memory [] (wanted_of text) (session.put ++ session.doubt) status
+  pub confirmed : AreDue session.start.memory (session.put ++ session.doubt)
   pub few : length session.doubt ≤ 1
   pub works : status ≡ 0 → session.engine.failed ≡ false
   pub printed : Told session.start.memory session.put was is status

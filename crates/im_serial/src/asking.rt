@@ -1,41 +1,37 @@
 //! A server's requests, one after another: room is made for each, it is asked, and its line is printed.
-ghost use Rattle.std.specs.Prelude.{◌≡◌, ℕ, [], ◌∷◌, ◌++◌, OnOk, Ok};
+ghost use Rattle.std.specs.Prelude.{◌≡◌, ℕ, [], ◌∷◌, ◌++◌, IfOk, OnOk, Ok};
 ghost use Rattle.im_types.specs.Types.{bounds};
+ghost use Rattle.im_asks.specs.{declared.WindowPlace.TheVariants.Confirm as DueTo, Windows.IsWindowPlace};
 ghost use Rattle.im_serial.specs.Asked.{wanted_by, wanted_of};
 ghost use Rattle.im_serial.specs.Serving.{HasAsked, MakesPlace, seen_by, ServedBy};
 
 use crate::hearing::hear;
-use crate::room::{confirm, first_waiting, next_number, reason_of};
+use crate::room::{next_number, reason_of, serve_one};
 use crate::server::Server;
 use crate::waits::learn;
+use im_asks::{WindowPlace, next_place};
 use im_disk::Disk;
 use im_script::{Allocation, Reader, Said, Script, ScriptFault, ScriptLine, split_line};
 use im_text::{News, Progress, Reason};
-use im_types::{Command, Entry, Observer, Op, Outcome, Refusal, Reply, Request, WINDOW};
+use im_types::{Command, Entry, Observer, Op, Outcome, Refusal, Reply, Request};
 use std::alloc::Global;
 use std::io::Write;
 
 impl<D: Disk> Server<D> {
-    // If an element's window is full, confirms its entries before the first that still waits.
+    // Learns an element's answers within these numbers, which are due to be confirmed, and confirms them.
     fn make_place<N: Observer<News>>(
         &mut self,
         element: u16,
+        numbers: (u64, u64),
         observer: &mut N,
-    ) -> Result<(), Refusal>
+    ) -> Result<Outcome, Refusal>
+        requires due { IsWindowPlace self.old.session.engine.memory element (DueTo numbers.0 numbers.1) }
         ensures goes { MakesPlace result self.old.session self.old.waited.items self.old.places.marks.items
             self.new.session self.new.waited.items self.new.places.marks.items }
         ensures lines { self.new.lines ≡ self.old.lines }
         ensures bases { self.new.bases.items ≡ self.old.bases.items }
     {
-        let engine = self.session.engine();
-        let (base, next) = match engine.window(element) {
-            Ok(bounds) => bounds,
-            Err(refusal) => return Err(refusal),
-        };
-        if next.saturating_sub(base) < WINDOW {
-            return Ok(());
-        }
-        let upto = first_waiting(engine, element, base, next);
+        let (base, upto) = numbers;
         learn(
             self.waited.as_mut_slice(),
             &mut self.places,
@@ -43,18 +39,34 @@ impl<D: Disk> Server<D> {
             (element, base, upto),
             observer,
         );
-        confirm(&mut self.session, &mut self.progress, element, upto)
+        serve_one(
+            &mut self.session,
+            &mut self.progress,
+            &Command::Confirm { element, upto },
+        )
     }
 
-    // Makes a place in an element's window, and room in the journal, for its next request.
-    fn prepare<N: Observer<News>>(&mut self, element: u16, observer: &mut N) -> Result<(), Refusal>
+    // Returns the number of an element's next request. If its window is full, and only then, confirms its entries
+    // before the first that isn't answered yet.
+    fn number<N: Observer<News>>(&mut self, element: u16, observer: &mut N) -> Result<u64, Refusal>
         ensures goes { MakesPlace result self.old.session self.old.waited.items self.old.places.marks.items
             self.new.session self.new.waited.items self.new.places.marks.items }
+        ensures next { IfOk result (λ next. (base : ℕ)
+            × (bounds self.new.session.engine.memory.windows element ≡ Ok (base, next))) }
         ensures lines { self.new.lines ≡ self.old.lines }
         ensures bases { self.new.bases.items ≡ self.old.bases.items }
     {
-        self.make_place(element, observer)?;
-        self.session.make_room(1, &mut self.progress)
+        match next_place(self.session.memory(), element) {
+            Ok(WindowPlace::Next(number)) => Ok(number),
+            Ok(WindowPlace::Confirm { base, upto }) => {
+                match self.make_place(element, (base, upto), observer) {
+                    Ok(_outcome) => next_number(self.session.engine(), element),
+                    Err(refusal) => Err(refusal),
+                }
+            }
+            Ok(WindowPlace::Full) => Err(Refusal::WindowFull),
+            Err(refusal) => Err(refusal),
+        }
     }
 
     // Serves an element's request, which has its next number, and prints what is kept for it.
@@ -66,7 +78,11 @@ impl<D: Disk> Server<D> {
         ensures bases { self.new.bases.items ≡ self.old.bases.items }
     {
         let who = (request.element, request.number);
-        match self.session.serve(&Command::Request(request)) {
+        match serve_one(
+            &mut self.session,
+            &mut self.progress,
+            &Command::Request(request),
+        ) {
             Ok(Outcome::Entry(entry)) => match self.print(who, entry, out) {
                 Ok(()) => match self.note(who, entry) {
                     Ok(()) => Ok(entry),
@@ -76,25 +92,6 @@ impl<D: Disk> Server<D> {
             },
             Ok(Outcome::Confirmed) => Err(Reason::Request(who.0, Refusal::Failed)), // No request is answered so.
             Err(refusal) => Err(reason_of(self.session.engine(), who.0, refusal)),
-        }
-    }
-
-    // Serves an element's next request, for which there is room, and prints what is kept for it.
-    fn ask_next<W: Write>(&mut self, element: u16, op: Op, out: &mut W) -> Result<Entry, Reason>
-        ensures serves { HasAsked element op result
-            (seen_by self.old (W.contents out.old)) (seen_by self.new (W.contents out.new)) }
-        ensures bases { self.new.bases.items ≡ self.old.bases.items }
-    {
-        match next_number(self.session.engine(), element) {
-            Ok(number) => self.ask(
-                Request {
-                    element,
-                    number,
-                    op,
-                },
-                out,
-            ),
-            Err(refusal) => Err(Reason::Request(element, refusal)),
         }
     }
 
@@ -110,16 +107,21 @@ impl<D: Disk> Server<D> {
             (seen_by self.old (W.contents out.old)) (seen_by self.new (W.contents out.new)) }
         ensures bases { self.new.bases.items ≡ self.old.bases.items }
     {
-        match self.prepare(element, observer) {
-            Ok(()) => {
+        match self.number(element, observer) {
+            Ok(number) => {
                 follow(
                     &mut self.progress.told,
                     self.session.engine().room(),
                     observer,
                 );
-                self.ask_next(element, op, out)
+                let request = Request {
+                    element,
+                    number,
+                    op,
+                };
+                self.ask(request, out)
             }
-            Err(refusal) => Err(Reason::Request(element, refusal)),
+            Err(refusal) => Err(reason_of(self.session.engine(), element, refusal)),
         }
     }
 

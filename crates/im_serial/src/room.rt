@@ -1,6 +1,6 @@
-//! Makes room for the next request: in the journal, and in its element's window. A server does so before each request.
-ghost use Rattle.std.specs.Prelude.{◌≡◌, ℕ, ◌≤◌, IfOk, OnOk, OnErr, Ok};
-ghost use Rattle.im_types.specs.Types.{Outcome, Confirm, bounds};
+//! One command by itself: room is made for it in the journal, and it is served. Why a request is refused.
+ghost use Rattle.std.specs.Prelude.{◌≡◌, ℕ, IfOk, OnErr, Ok};
+ghost use Rattle.im_types.specs.Types.{bounds};
 ghost use Rattle.im_session.specs.Serving.{CommandRefused, CommandServed};
 
 use im_checkpoint::TurnDone;
@@ -8,7 +8,7 @@ use im_disk::Disk;
 use im_engine::Engine;
 use im_session::Session;
 use im_text::{Progress, Reason};
-use im_types::{Command, Entry, Observer, Refusal};
+use im_types::{Command, Entry, Observer, Outcome, Refusal};
 
 /// How far a server has come. It counts the checkpoints that come into force.
 #[derive(Drop)]
@@ -24,37 +24,20 @@ impl Observer<TurnDone> for ServerProgress {
     }
 }
 
-/// Makes room, and then confirms an element's entries below a number.
-pub fn confirm<D: Disk>(
+/// Makes room for a command by turns of a checkpoint, and serves it.
+pub fn serve_one<D: Disk>(
     session: &mut Session<D>,
     progress: &mut ServerProgress,
-    element: u16,
-    upto: u64,
-) -> Result<(), Refusal>
-    ensures served { OnOk result ((outcome : Outcome)
-        × CommandServed session.old (Confirm element upto) outcome session.new) }
-    ensures refused { OnErr result (CommandRefused session.old (Confirm element upto) session.new) }
+    command: &Command,
+) -> Result<Outcome, Refusal>
+    ensures served { IfOk result (λ outcome. CommandServed session.old command.now outcome session.new) }
+    ensures refused { OnErr result (CommandRefused session.old command.now session.new) }
 {
     match session.make_room(1, progress) {
-        Ok(()) => {}
-        Err(refusal) => return Err(refusal),
-    }
-    match session.serve(&Command::Confirm { element, upto }) {
-        Ok(_) => Ok(()),
+        // A crash in this call leaves the command on the disk, whole, or not at all. It isn't answered before.
+        Ok(()) => session.serve_kept(command),
         Err(refusal) => Err(refusal),
     }
-}
-
-/// Returns the first number, from `base` on and before `next`, whose entry still waits. Returns `next` if none does.
-pub fn first_waiting<D: Disk>(engine: &Engine<D>, element: u16, base: u64, next: u64) -> u64
-    ensures { base ≤ next → base ≤ result }
-{
-    for number in base..next {
-        if engine.collect(element, number) == Ok(Entry::Waiting) {
-            return number;
-        }
-    }
-    next
 }
 
 // Returns how many entries of these numbers wait.

@@ -50,6 +50,7 @@ pub struct StyledScript<'a> {
 /// - `served`, what was put, with the one command that may be in doubt: the script's first requests, in their order,
 ///   each with its element's next number, and confirmations. Element 0 asks for the blocks of the setup, and a name
 ///   stands for the base in its block's answer. With status 0 they are all the script's requests, and none is in doubt.
+/// - `served`, what was confirmed: a full window alone, and of it the entries up to the first that isn't answered.
 /// - `served`, a crash: a session's record says it of the commands that were put, and of the one in doubt. From the
 ///   opening on it leaves the memory after a prefix of them. At the end it leaves the memory after all that were put,
 ///   with or without the one in doubt.

@@ -18,6 +18,14 @@ fn commands_of(words: &[&str]) -> Option<ArrayVec<Command, MAX_GROUP>> {
     Some(members)
 }
 
+// Reads what is put ahead: commands that are written so, or `none`.
+fn next_of(call: &Phrase) -> Option<ArrayVec<Command, MAX_GROUP>> {
+    match call.word(1) {
+        "none" => Some(ArrayVec::new()),
+        _ => commands_of(call.rest(1)),
+    }
+}
+
 /// Returns these requests as a group. There is none if a confirmation is among them, or two of one element.
 pub fn group_of(commands: &[Command]) -> Option<Group> {
     let mut members = ArrayVec::new();
@@ -48,8 +56,7 @@ fn event_of(call: &Phrase, more: u64) -> Option<Event> {
     match (call.form(), call.word(0)) {
         ("turn" | "_ turns", _) => Some(Event::Turn),
         ("sweep _", _) => Some(Event::Sweep(call.address(0))),
-        ("none behind", _) => Some(Event::Ahead(group_of(&[])?)),
-        (_, "behind") => Some(Event::Ahead(group_of(&commands_of(call.rest(1))?)?)),
+        (_, "behind") => Some(Event::Ahead(group_of(&next_of(call)?)?)),
         (_, "together") => Some(Event::Group(group_of(&commands_of(call.rest(1))?)?)),
         _ => Some(Event::Command(command_of(call, more)?)),
     }
@@ -125,13 +132,7 @@ fn serve_group(engines: &mut Engines, call: &Phrase, said: &mut Saying) {
 
 // Puts commands ahead behind the group that is. Tells how many are ahead, and the answers of that group.
 fn advance(engines: &mut Engines, call: &Phrase, said: &mut Saying) {
-    let is_last = call.form() == "none behind";
-    let next = if is_last {
-        Some(ArrayVec::new())
-    } else {
-        commands_of(call.rest(1))
-    };
-    let (Some(engine), Some(next)) = (&mut engines.file.engine, next) else {
+    let (Some(engine), Some(next)) = (&mut engines.file.engine, next_of(call)) else {
         return said.fail("no engine, or no commands");
     };
     let mut served = ArrayVec::new();
@@ -247,7 +248,7 @@ pub fn tell(engines: &mut Engines, call: &Phrase, said: &mut Saying) {
             })
         }
         (_, "plan") => plan(engines, call, said),
-        ("none behind", _) | (_, "behind") => advance(engines, call, said),
+        (_, "behind") => advance(engines, call, said),
         (_, "together" | "commands") => serve_group(engines, call, said),
         _ => act_each(engines, call, said),
     }

@@ -24,7 +24,7 @@ doesn't ask again. A refusal raises a subclass of `Refused`. A reply which says 
 impossible raises a subclass of `Answered`. A file's errors are `OSError`. `version()` says which library it is, and
 whether it was proved.
 """
-from ._helpers import Block, Counter, Queue, fetch_bytes, fetch_range, layout, store_bytes
+from ._helpers import Counter, Queue, fetch_bytes, fetch_range, layout, store_bytes
 from ._library import version
 from ._memories import Deferred, Element, ElementAnew, Image, Memory, answered, create, inspect, open, open_or_create
 from ._requests import Lanes
@@ -37,6 +37,8 @@ from ._words import (
     BadLimits,
     BadPage,
     BadRecord,
+    Block,
+    Cell,
     Clash,
     Device,
     Failed,
@@ -56,6 +58,8 @@ from ._words import (
     Refused,
     Reply,
     Request,
+    Stat,
+    State,
     StillWaiting,
     SyncFailed,
     Tag,
@@ -69,11 +73,11 @@ from ._words import (
 )
 
 __all__ = [
-    "Answer", "Answered", "BadHeader", "BadLength", "BadLimits", "BadPage", "BadRecord", "Block", "Clash",
+    "Answer", "Answered", "BadHeader", "BadLength", "BadLimits", "BadPage", "BadRecord", "Block", "Cell", "Clash",
     "Counter", "Deferred", "Device", "Element", "ElementAnew", "Failed", "Forgotten", "Gap", "Image", "JournalFull",
     "Lanes", "Memory", "Mismatch", "NoBlock", "NoCall", "NoCell", "NoElement", "NoHeader", "NoMemory", "NoSpace",
     "NotAnswered", "OldVersion", "Queue", "Refused", "Reply", "Request", "Shared", "SharedElement",
-    "SharedElementAnew", "StillWaiting", "SyncFailed", "Tag", "Unserved", "Waiting", "Window", "WindowFull", "Work",
-    "WrongKind", "WrongLength", "answered", "create", "fetch_bytes", "fetch_range", "inspect", "layout", "open",
-    "open_or_create", "store_bytes", "version",
+    "SharedElementAnew", "Stat", "State", "StillWaiting", "SyncFailed", "Tag", "Unserved", "Waiting", "Window",
+    "WindowFull", "Work", "WrongKind", "WrongLength", "answered", "create", "fetch_bytes", "fetch_range", "inspect",
+    "layout", "open", "open_or_create", "store_bytes", "version",
 ]

@@ -100,6 +100,33 @@ class lt_outcome(c.Structure):
     value: Any
 
 
+class lt_state(enum.IntEnum):
+    """What a cell holds, by `state`."""
+
+    NOWHERE = 0  # the address lies in no block
+    EMPTY = 1
+    AWAITED = 2  # requests wait for it
+    FULL = 3  # it has `value`
+    CLASHED = 4  # it had `value` when it was written once more
+
+
+class lt_presence(c.Structure):
+    """A cell, and the block that it lies in. If it lies in none, all is 0."""
+
+    _fields_ = [
+        ("kind", c.c_uint8),
+        ("state", c.c_uint8),
+        ("base", c.c_uint32),
+        ("length", c.c_uint32),
+        ("value", c.c_uint64),
+    ]
+    kind: Any
+    state: Any
+    base: Any
+    length: Any
+    value: Any
+
+
 class lt_memory(c.Structure):
     """A handle of a memory. Zero bytes hold nothing."""
 
@@ -164,6 +191,31 @@ class lt_waiter(c.Structure):
     ]
     element: Any
     number: Any
+
+
+class lt_figures(c.Structure):
+    """The numbers of an image."""
+
+    _fields_ = [
+        ("blocks", c.c_uint64),
+        ("empty", c.c_uint64),
+        ("awaited", c.c_uint64),
+        ("full", c.c_uint64),
+        ("clashed", c.c_uint64),
+        ("kept", c.c_uint64),
+        ("waiting", c.c_uint64),
+        ("full_windows", c.c_uint64),
+        ("stuck", c.c_uint64),
+    ]
+    blocks: Any
+    empty: Any
+    awaited: Any
+    full: Any
+    clashed: Any
+    kept: Any
+    waiting: Any
+    full_windows: Any
+    stuck: Any
 
 
 class lt_kind(enum.IntEnum):
@@ -240,6 +292,7 @@ CALLS: dict[str, tuple[Any, ...]] = {
     "lt_memory_new": (c.c_uint8, c.c_uint32, c.c_uint16, c.POINTER(lt_memory)),
     "lt_memory_step": (c.c_uint8, lt_memory, c.POINTER(lt_command), c.POINTER(lt_memory), c.POINTER(lt_outcome)),
     "lt_memory_collect": (c.c_uint8, c.POINTER(lt_memory), c.c_uint16, c.c_uint64, c.POINTER(lt_outcome)),
+    "lt_memory_cell": (lt_presence, c.POINTER(lt_memory), c.c_uint32),
     "lt_memory_free": (None, lt_memory),
     "lt_image_length": (c.c_uint64, c.c_uint32, c.c_uint16, c.c_uint32),
     "lt_limits": (c.c_uint8, c.c_char_p, c.c_size_t, c.POINTER(lt_sizes)),
@@ -275,6 +328,10 @@ CALLS: dict[str, tuple[Any, ...]] = {
     "lt_collect": (c.c_uint8, c.POINTER(lt_image), c.c_uint16, c.c_uint64, c.POINTER(lt_outcome)),
     "lt_entry": (lt_command, c.POINTER(lt_image), c.c_uint16, c.c_uint64),
     "lt_waiters": (c.c_size_t, c.POINTER(lt_image), c.c_uint32, c.POINTER(lt_waiter), c.c_size_t),
+    "lt_cell": (lt_presence, c.POINTER(lt_image), c.c_uint32),
+    "lt_cells": (c.c_size_t, c.POINTER(lt_image), c.c_uint32, c.POINTER(lt_presence), c.c_size_t),
+    "lt_stat": (lt_figures, c.POINTER(lt_image)),
+    "lt_stuck": (c.c_size_t, c.POINTER(lt_image), c.POINTER(lt_waiter), c.c_size_t),
     "lt_window": (c.c_uint8, c.POINTER(lt_image), c.c_uint16, c.POINTER(lt_bounds)),
     "lt_room": (c.c_uint32, c.POINTER(lt_image)),
     "lt_count": (c.c_uint64, c.POINTER(lt_image)),
@@ -311,9 +368,14 @@ CALLS: dict[str, tuple[Any, ...]] = {
     "ltf_entry": (lt_command, c.POINTER(ltf), c.c_uint16, c.c_uint64),
     "ltf_waiters": (c.c_size_t, c.POINTER(ltf), c.c_uint32, c.POINTER(lt_waiter), c.c_size_t),
     "ltf_window": (lt_bounds, c.POINTER(ltf), c.c_uint16),
+    "ltf_cell": (lt_presence, c.POINTER(ltf), c.c_uint32),
+    "ltf_cells": (c.c_size_t, c.POINTER(ltf), c.c_uint32, c.POINTER(lt_presence), c.c_size_t),
+    "ltf_stat": (lt_figures, c.POINTER(ltf)),
+    "ltf_stuck": (c.c_size_t, c.POINTER(ltf), c.POINTER(lt_waiter), c.c_size_t),
     "ltf_room": (c.c_uint32, c.POINTER(ltf)),
     "ltf_count": (c.c_uint64, c.POINTER(ltf)),
     "ltf_limits": (lt_sizes, c.POINTER(ltf)),
+    "ltf_backup": (c.c_int, c.POINTER(ltf), c.c_char_p),
     "ltf_work": (ltf_counts, c.POINTER(ltf)),
     "ltf_failure": (ltf_fault, c.POINTER(ltf)),
     "ltf_say": (c.c_size_t, c.c_int, c.c_char_p, c.c_size_t),

@@ -11,10 +11,12 @@ import shutil
 from typing import Awaitable, Callable, Optional, Union
 
 from ._requests import ALL_TAKEN, FOR_LEASES, FULL, KEPT, Asking, Awaited, Lanes, Left, give
-from ._words import Answer, NoElement, Reply, Request, SyncFailed, Tag, Waiting, Window, WindowFull, refusal, spelled
+from ._words import Answer, Block, Cell, NoElement, Reply, Request, Stat, State, SyncFailed, Tag, Waiting, Window
+from ._words import Refused, WindowFull, refusal, spelled
 
 Path = Union[str, "os.PathLike[str]"]
 ANSWERS = {it.name.lower().replace("_", ""): it for it in Answer}
+STATES = {"empty": State.EMPTY, "waiting": State.AWAITED, "full": State.FULL, "clashed": State.CLASHED}
 HERE = pathlib.Path(__file__).resolve()
 NONE = (
     "there is no imem: `make try` builds one with no proof in two or three minutes, and `make imem` a proved one; then "
@@ -335,12 +337,10 @@ class Served:
     async def _is_waiting(self, element: int) -> bool:
         """Whether a request of an element waits. Takes over what waited at the end of an earlier run."""
         kept = range(*await self.window(element))
-        entries = await asyncio.gather(*(self.line(f"entry {element}.{it}") for it in kept))
-        waiting = [(it, words[2], words[3]) for it, words in zip(kept, entries) if words[-1] == "waiting"]
+        waiting = await self._waiting(*((element, it) for it in kept))
         if element not in self._pool:
             self._pool.add(element)
-            for number, word, address in waiting:
-                asked = Request(Tag[word.upper()], element, number, int(address))
+            for asked in waiting:
                 self._lent.adopt(asked, self._asked(asked, True), self._back(asked))
         return bool(waiting)
 
@@ -364,14 +364,107 @@ class Served:
         self._use(number)
         return ServedElement(self, number, True)
 
+    async def _waiting(self, *asked: tuple[int, int]) -> list[Request]:
+        """Returns those of these requests, each an element and a number, that wait."""
+        told = await asyncio.gather(*(self.line(f"entry {element}.{number}") for element, number in asked))
+        found = (request_of(words) for words in told if words[-1] == "waiting")
+        return [it for it in found if it]
+
+    async def entry(self, element: int, number: int) -> Optional[Request]:
+        """Returns the request that is kept under an element's number, or None."""
+        return request_of(await self.line(f"entry {element}.{number}"))
+
+    async def collect(self, element: int, number: int) -> Reply:
+        """Returns the reply that is kept under an element's number."""
+        return self._told(await self.line(f"collect {element}.{number}"), f"{self.path}: {element}.{number}", number)
+
+    async def cell(self, address: int) -> Optional[Cell]:
+        """Returns what a cell holds, or None if it lies in no block."""
+        return cell_of(await self.line(f"cell {address}"))
+
+    async def cells(self, start: int, count: int) -> list[Optional[Cell]]:
+        """Returns what so many cells hold, one after another, from an address on: fewer at the end of the memory."""
+        cells, *_ = await self.limits
+        told = await asyncio.gather(*(self.line(f"cell {it}") for it in range(start, min(start + count, cells))))
+        return [cell_of(words) for words in told]
+
+    async def block(self, address: int) -> Optional[Block]:
+        """Returns the block that an address lies in, or None."""
+        words = await self.line(f"block {address}")
+        return None if words[2] == "noblock" else Block(int(words[1]), int(words[3]))
+
+    async def waiters(self, address: int) -> list[tuple[int, int]]:
+        """Returns the requests that wait at a cell, in the order in which they came: each an element and a number."""
+        words = await self.line(f"cell {address}")
+        told = words[4:] if words[3:4] == ["waiting"] else []
+        return [(int(element), int(number)) for element, number in (it.split(".") for it in told)]
+
+    async def stuck(self) -> list[Request]:
+        """Returns the oldest request of each element that is stuck: 64 of its requests are kept, and that one waits. It
+        asks nothing more before that is answered."""
+        return await self._waiting(*await self._full())
+
+    async def _full(self) -> list[tuple[int, int]]:
+        """Returns the elements whose windows are full, each with the number of its oldest request."""
+        windows = await asyncio.gather(*(self.window(it) for it in range(self.elements)))
+        return [(element, base) for element, (base, after) in enumerate(windows) if after - base >= KEPT]
+
+    async def stat(self) -> Stat:
+        """Returns the numbers of the image: its blocks, cells, entries, and elements that are stuck."""
+        words = await self.line("stat")
+        told = dict(zip(words[1::2], map(int, words[2::2])))
+        names = ("blocks", "empty", "waiting", "full", "clashed", "kept", "deferred")
+        full = await self._full()
+        return Stat(*(told[it] for it in names), len(full), len(await self._waiting(*full)))
+
+    async def _about(self, *names: str) -> list[int]:
+        words = await self.line("about")
+        return [int(words[words.index(it) + 1]) for it in names]
+
+    @property
+    def room(self) -> Awaitable[int]:
+        """The number of commands that the journal still has room for."""
+        return self._one("room")
+
+    @property
+    def count(self) -> Awaitable[int]:
+        """The number of commands that have been accepted since the image was made."""
+        return self._one("count")
+
+    async def _one(self, name: str) -> int:
+        return (await self._about(name))[0]
+
+    @property
+    def limits(self) -> Awaitable[tuple[int, int, int]]:
+        """The numbers of cells, elements, and journal slots."""
+        return self._limits()
+
+    async def _limits(self) -> tuple[int, int, int]:
+        cells, elements, slots = await self._about("cells", "elements", "slots")
+        return cells, elements, slots
+
+    async def backup(self, name: str) -> None:
+        """Copies the image into the folder for backups, under a name that no file there has. The copy is on the disk
+        before this returns."""
+        words = await self.line(f"backup {name}")
+        if words[2] != "count":
+            raise OSError(f"{self.path}: {' '.join(words)}")
+
     async def window(self, element: int) -> Window:
-        """Returns the window of an element: which of its numbers are kept."""
+        """Returns the window of an element: which of its numbers are kept. This and what follows makes no request."""
         words = await self.line(f"window {element}")
         if words[1] == "refused":
-            raise refusal(int(words[2]), f"{self.path}: element {element}", self._why(None, int(words[2])))
+            raise refusal(int(words[2]), f"{self.path}: element {element}", self._why(int(words[2])))
         return Window(int(words[2]), int(words[3]))
 
-    def _why(self, request: Optional[Request], refused: int) -> str:
+    def _told(self, words: list[str], of: str, number: int) -> Reply:
+        """Returns the reply of an answer, or raises the refusal."""
+        _, word, *value = words
+        if word == "refused":
+            raise refusal(int(value[0]), of, self._why(int(value[0])))
+        return Reply(ANSWERS[word], int(value[0]) if value else 0, of, number)
+
+    def _why(self, refused: int) -> str:
         if refused == NoElement.number:
             return f"its elements are 0 to {self.elements - 1}"
         return FULL if refused == WindowFull.number else ""
@@ -391,14 +484,12 @@ class Served:
                 give(reply, fault)
             elif done.result()[0] == "error":  # A line of requests is well-formed: it isn't allowed here.
                 give(reply, PermissionError(f"{self.path}: {' '.join(done.result()[2:])}"))
-            elif done.result()[1] == "refused":
-                number = int(done.result()[2])
-                give(reply, refusal(number, f"{self.path}: {request}", self._why(request, number)))
             else:
-                _, word, *value = done.result()
-                value = [] if is_confirm else value
-                said = f"{self.path}: {request}"
-                give(reply, Reply(ANSWERS[word], int(value[0]) if value else 0, said, request.number))
+                words = done.result()[:2] if is_confirm and done.result()[1] != "refused" else done.result()
+                try:
+                    give(reply, self._told(words, f"{self.path}: {request}", request.number))
+                except Refused as fault:
+                    give(reply, fault)
 
         asked.add_done_callback(tell)
 
@@ -475,6 +566,25 @@ class ServedElement(Asking["Awaitable[int]"]):
         return self._ask(Tag.CONFIRM, 0)
 
 
+def cell_of(words: list[str]) -> Optional[Cell]:
+    """Returns the cell of an answer such as `cell 3 i full 7`, or None if there is none."""
+    if words[2] == "nocell":
+        return None
+    state = STATES[words[3]]
+    return Cell(words[2], state, int(words[4]) if state in (State.FULL, State.CLASHED) else None)
+
+
+def request_of(words: list[str]) -> Optional[Request]:
+    """Returns the request of an answer such as `2.7 entry store 1 2 -> stored`, or None if none is kept."""
+    if words[1] == "refused":
+        return None
+    element, number = map(int, words[0].split("."))
+    word, *numbers = words[2 : words.index("->")]
+    if word == "alloc":
+        word = f"alloc_{numbers.pop(0)}"
+    return Request(Tag[word.upper()], element, number, *map(int, numbers))
+
+
 def awaited() -> Awaited:
     """Returns a future of a value, for a task of this loop."""
     return Awaited(loop=asyncio.get_running_loop())
@@ -512,12 +622,15 @@ async def make(program: str, name: str, sizes: list[str]) -> None:
         os.close(folder)
 
 
-async def begin(path: Path, imem: Optional[Path], cells: int, elements: int, slots: int) -> Served:
+async def begin(
+    path: Path, imem: Optional[Path], cells: int, elements: int, slots: int, backups: Optional[Path]
+) -> Served:
     """Starts the program on an image, which is made if nothing is at the path."""
     program, name = find_program(imem), os.fsdecode(path)
     if not os.path.exists(name):
         await make(program, name, ["--cells", str(cells), "--elements", str(elements), "--slots", str(slots)])
-    return await served_by(name, Program([program, "serve", name, "--watch", "--statuses", "--wait", "5"]))
+    kept = ["--backups", os.fsdecode(backups)] if backups else []
+    return await served_by(name, Program([program, "serve", name, "--watch", "--statuses", "--wait", "5", *kept]))
 
 
 async def served_by(name: str, dialogue: Dialogue) -> Served:
@@ -525,9 +638,8 @@ async def served_by(name: str, dialogue: Dialogue) -> Served:
     await dialogue.begin()
     served = Served(name, dialogue)
     try:
-        words = await served.line("about")
+        served.elements = await served._one("elements")
     except BaseException:
         await dialogue.end()
         raise
-    served.elements = int(words[words.index("elements") + 1])
     return served

@@ -9,30 +9,14 @@ from __future__ import annotations
 import asyncio
 import types
 from concurrent.futures import Future
-from dataclasses import dataclass
 from typing import Any, Generator, Iterable
 
 from ._memories import Deferred
 from ._requests import KEPT
+from ._words import Block
 
 Steps = Generator[Any, Any, Any]  # Gives what was asked, and is sent the values.
 AT_ONCE, WORD = 48, 8
-
-
-@dataclass(frozen=True)
-class Block:
-    """Cells in a row. `block[3]` is the address of its cell 3, and `len(block)` says how many there are."""
-
-    base: int
-    length: int
-
-    def __len__(self) -> int:
-        return self.length
-
-    def __getitem__(self, at: int) -> int:
-        if not 0 <= at < self.length:
-            raise IndexError(f"the block has the cells 0 to {self.length - 1}, and not {at}")
-        return self.base + at
 
 
 def settled(asked: Any) -> Any:

@@ -9,16 +9,40 @@ import os
 import threading
 from typing import Any, Iterable, Iterator, Optional, Sequence, Union
 
-from ._calls import LTF_UNSYNCED, lt_command, lt_memory, lt_outcome, ltf
+from ._calls import LTF_UNSYNCED, lt_command, lt_memory, lt_outcome, lt_presence, lt_waiter, ltf
 from ._library import LIB
 from ._requests import FULL, KEPT
-from ._words import Answer, BadLimits, Device, Forgotten, Gap, Mismatch, NoElement, Refused, Reply, Request, SyncFailed
-from ._words import Tag, Waiting, Window, WindowFull, Work, passed, refusal, spelled, told
+from ._words import Answer, BadLimits, Block, Cell, Device, Forgotten, Gap, Mismatch, NoElement, Refused, Reply, Request
+from ._words import Stat, SyncFailed, Tag, Waiting, Window, WindowFull, Work, passed, refusal, seen, spelled, told
 
 Path = Union[str, "os.PathLike[str]"]
 LIMITS = "there are 1 to 1048576 cells, 1 to 64 elements and 16 to 4096 slots"
 IN_USE = "the image is in use by another program"
 RULE = "a sync failed: mount the file system anew, or restart, before the image is opened again"
+
+
+def addressed(address: int) -> int:
+    """Returns an address, or raises why it is none."""
+    if not 0 <= address < 1 << 32:
+        raise ValueError(f"an address is at least 0 and below 2^32, and not {address}")
+    return address
+
+
+def named(path: Path) -> str:
+    """Returns the name of a path, or raises why it has none."""
+    name = os.fsdecode(path)
+    if "\0" in name:
+        raise ValueError("embedded null byte")
+    return name
+
+
+def opened(answer: int, name: str) -> None:
+    """Raises why a file isn't opened or made, if it isn't."""
+    if answer < 0:
+        raise OSError(-answer, IN_USE if answer == -errno.EWOULDBLOCK else os.strerror(-answer), name)
+    if answer == LTF_UNSYNCED:
+        raise SyncFailed(0, f"{RULE} (the note is {name}.unsynced)")
+    passed(answer, name, LIMITS if answer == BadLimits.number else "")
 
 
 class Held:
@@ -66,6 +90,13 @@ class Held:
         """Drops the entries of the element below the number. Their replies can't be asked for again."""
         self.ask(Request(Tag.CONFIRM, element, upto))
 
+    def cell(self, address: int) -> Optional[Cell]:
+        """Returns what a cell holds, or None if it lies in no block. This and what follows makes no request."""
+        return seen(self._cell(addressed(address)))
+
+    def _cell(self, address: int) -> lt_presence:
+        raise NotImplementedError
+
 
 class Memory(Held):
     """A memory with no disk. Its contents end with it."""
@@ -97,6 +128,12 @@ class Memory(Held):
             LIB.lt_memory_collect(self._handle, element, number, outcome)
         return told(outcome, lambda: f"{element}.{number}", number)
 
+    def _cell(self, address: int) -> lt_presence:
+        with self._lock:
+            self._check()
+            found: lt_presence = LIB.lt_memory_cell(self._handle, address)
+        return found
+
 
 class Image(Held):
     """A memory in an image file, which this program has for itself. Each reply is on the disk before it is returned.
@@ -108,18 +145,11 @@ class Image(Held):
     def __init__(self, call: str, path: Path, *limits: int) -> None:
         """Use `create`, `open` or `open_or_create` of this module instead."""
         super().__init__()
-        self._file, self.path = c.POINTER(ltf)(), os.fsdecode(path)
+        self._file, self.path = c.POINTER(ltf)(), named(path)
         self._elements: dict[int, Element] = {}
-        name = self.path
-        if "\0" in name:
-            raise ValueError("embedded null byte")
-        answer = getattr(LIB, call)(os.fsencode(name), *limits, c.byref(self._file))
+        answer = getattr(LIB, call)(os.fsencode(self.path), *limits, c.byref(self._file))
         self._is_closed = answer != 0
-        if answer < 0:
-            raise OSError(-answer, IN_USE if answer == -errno.EWOULDBLOCK else os.strerror(-answer), name)
-        if answer == LTF_UNSYNCED:
-            raise SyncFailed(0, f"{RULE} (the note is {name}.unsynced)")
-        passed(answer, name, LIMITS if answer == BadLimits.number else "")
+        opened(answer, self.path)
 
     def __enter__(self) -> Image:
         return self
@@ -204,6 +234,53 @@ class Image(Held):
         if not asked.tag:
             return None
         return Request(Tag(asked.tag), asked.element, asked.number, asked.address, asked.value)
+
+    def _look(self, name: str, *words: Any) -> Any:
+        """Makes a call that shows nothing after a lost step, and raises why then."""
+        with self._lock:
+            shown = self._call(name, *words)
+            self._carried_out(Device.number if self._call("ltf_failure").error else 0)
+        return shown
+
+    def _cell(self, address: int) -> lt_presence:
+        found: lt_presence = self._look("ltf_cell", address)
+        return found
+
+    def cells(self, start: int, count: int) -> list[Optional[Cell]]:
+        """Returns what so many cells hold, from an address on: fewer at the end of the memory."""
+        places = (lt_presence * min(count, self.limits[0]))()
+        return [seen(it) for it in places[: self._look("ltf_cells", addressed(start), places, len(places))]]
+
+    def block(self, address: int) -> Optional[Block]:
+        """Returns the block that an address lies in, or None."""
+        found = self._cell(addressed(address))
+        return Block(found.base, found.length) if found.kind else None
+
+    def waiters(self, address: int) -> list[tuple[int, int]]:
+        """Returns the requests that wait at a cell, in the order in which they came: each an element and a number."""
+        return self._waiters("ltf_waiters", addressed(address))
+
+    def stuck(self) -> list[Request]:
+        """Returns the oldest request of each element that is stuck: 64 of its requests are kept, and that one waits. It
+        asks nothing more before that is answered."""
+        found = (self.entry(*it) for it in self._waiters("ltf_stuck"))
+        return [it for it in found if it]
+
+    def _waiters(self, name: str, *words: Any) -> list[tuple[int, int]]:
+        room = KEPT * self.limits[1]
+        places = (lt_waiter * room)()
+        return [(it.element, it.number) for it in places[: self._look(name, *words, places, room)]]
+
+    def stat(self) -> Stat:
+        """Returns the numbers of the image: its blocks, cells, entries, and elements that are stuck."""
+        found = self._look("ltf_stat")
+        return Stat(*(getattr(found, it) for it in Stat._fields))
+
+    def backup(self, path: Path) -> None:
+        """Copies the image to a path where nothing exists, with all that was answered. The copy is on the disk, and was
+        seen to open as an image, before this returns."""
+        name = named(path)
+        opened(self._carried_out(self._call("ltf_backup", os.fsencode(name))), name)
 
     def make_room(self) -> bool:
         """Makes room in the journal, by a sweep or a turn of a checkpoint, if less than half of it is free. Returns

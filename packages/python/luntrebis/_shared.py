@@ -12,7 +12,8 @@ from typing import Any, Callable, NamedTuple, Optional, TypeVar, Union
 from . import _memories
 from ._memories import Image, Path
 from ._requests import ALL_TAKEN, FOR_LEASES, FULL, KEPT, Asking, Lanes, Left, give
-from ._words import Answer, Device, NoElement, Refused, Reply, Request, Tag, Waiting, Window, WindowFull, spelled
+from ._words import Answer, Block, Cell, Device, NoElement, Refused, Reply, Request, Stat, Tag, Waiting, Window
+from ._words import WindowFull, spelled
 
 T = TypeVar("T")
 MOST = 16  # The most members of a group.
@@ -194,9 +195,66 @@ class Shared:
         self._send(Called(call, future))
         return future
 
+    def _now(self, call: Callable[[Image], T]) -> T:
+        return self.call(call).result()
+
     def window(self, element: int) -> Window:
-        """Returns the window of an element: which of its numbers are kept."""
-        return self.call(lambda image: image.window(element)).result()
+        """Returns the window of an element: which of its numbers are kept. This and what follows makes no request. It
+        shows what is on the disk, once what was sent before is."""
+        return self._now(lambda image: image.window(element))
+
+    def entry(self, element: int, number: int) -> Optional[Request]:
+        """Returns the request that is kept under an element's number, or None."""
+        return self._now(lambda image: image.entry(element, number))
+
+    def collect(self, element: int, number: int) -> Reply:
+        """Returns the reply that is kept under an element's number."""
+        return self._now(lambda image: image.collect(element, number))
+
+    def cell(self, address: int) -> Optional[Cell]:
+        """Returns what a cell holds, or None if it lies in no block."""
+        return self._now(lambda image: image.cell(address))
+
+    def cells(self, start: int, count: int) -> list[Optional[Cell]]:
+        """Returns what so many cells hold at one time, from an address on: fewer at the end of the memory."""
+        return self._now(lambda image: image.cells(start, count))
+
+    def block(self, address: int) -> Optional[Block]:
+        """Returns the block that an address lies in, or None."""
+        return self._now(lambda image: image.block(address))
+
+    def waiters(self, address: int) -> list[tuple[int, int]]:
+        """Returns the requests that wait at a cell, in the order in which they came: each an element and a number."""
+        return self._now(lambda image: image.waiters(address))
+
+    def stuck(self) -> list[Request]:
+        """Returns the oldest request of each element that is stuck: 64 of its requests are kept, and that one waits. It
+        asks nothing more before that is answered."""
+        return self._now(Image.stuck)
+
+    def stat(self) -> Stat:
+        """Returns the numbers of the image: its blocks, cells, entries, and elements that are stuck."""
+        return self._now(Image.stat)
+
+    @property
+    def room(self) -> int:
+        """The number of commands that the journal still has room for."""
+        return self._now(lambda image: image.room)
+
+    @property
+    def count(self) -> int:
+        """The number of commands that have been accepted since the image was made."""
+        return self._now(lambda image: image.count)
+
+    @property
+    def limits(self) -> tuple[int, int, int]:
+        """The numbers of cells, elements, and journal slots."""
+        return self._now(lambda image: image.limits)
+
+    def backup(self, path: Path) -> None:
+        """Copies the image to a path where nothing exists, between two groups. Others may ask meanwhile. The copy is on
+        the disk, and was seen to open as an image, before this returns."""
+        self._now(lambda image: image.backup(path))
 
     def element(self, number: int) -> SharedElement:
         """Returns the element, whose requests are numbered here from the first that isn't confirmed on: a program that

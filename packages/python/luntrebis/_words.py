@@ -4,9 +4,10 @@ from __future__ import annotations
 from dataclasses import dataclass, field
 from typing import Callable, NamedTuple
 
-from ._calls import lt_answer, lt_command, lt_outcome, lt_tag
+from ._calls import lt_answer, lt_command, lt_outcome, lt_presence, lt_state, lt_tag
 
 Answer = lt_answer
+State = lt_state
 Tag = lt_tag
 
 
@@ -234,6 +235,45 @@ class Window(NamedTuple):
     next: int
 
 
+@dataclass(frozen=True)
+class Block:
+    """Cells in a row. `block[3]` is the address of its cell 3, and `len(block)` says how many there are."""
+
+    base: int
+    length: int
+
+    def __len__(self) -> int:
+        return self.length
+
+    def __getitem__(self, at: int) -> int:
+        if not 0 <= at < self.length:
+            raise IndexError(f"the block has the cells 0 to {self.length - 1}, and not {at}")
+        return self.base + at
+
+
+class Cell(NamedTuple):
+    """What a cell holds. `kind` is "i" or "m". It has a `value` in the states FULL and CLASHED."""
+
+    kind: str
+    state: State
+    value: int | None = None
+
+
+class Stat(NamedTuple):
+    """The numbers of an image: its blocks, their cells in each state, the entries that are kept and those that wait, the
+    elements whose windows are full, and those of them that are stuck, since their oldest entry waits."""
+
+    blocks: int
+    empty: int
+    awaited: int
+    full: int
+    clashed: int
+    kept: int
+    waiting: int
+    full_windows: int
+    stuck: int
+
+
 class Work(NamedTuple):
     """How many groups were served, a command alone being one, and how many syncs and writes were made. Sweeps and turns
     make room in the journal."""
@@ -262,6 +302,18 @@ class Reply:
         if self.answer in ERRORS:
             raise ERRORS[self.answer](self)
         return self.value
+
+
+def seen(cell: lt_presence) -> Cell | None:
+    """Returns a cell, or None if it lies in no block."""
+    if not cell.kind:
+        return None
+    state = State(cell.state)
+    return Cell(kind_of(cell.kind), state, cell.value if state in (State.FULL, State.CLASHED) else None)
+
+
+def kind_of(tag: int) -> str:
+    return "i" if tag == Tag.ALLOC_I else "m"
 
 
 def refusal(number: int, of: str = "", why: str = "") -> Refused:

@@ -22,13 +22,15 @@ from __future__ import annotations
 
 import asyncio
 import ssl
-from typing import Awaitable
+from typing import Awaitable, Callable, TypeVar
 
-from . import _connection
+from . import _connection, _memories
 from ._dialogue import Path, Served, awaited, begin, waited
 from ._requests import Asking, Lanes
 from ._shared import Shared, SharedElement, SharedElementAnew
-from ._words import Reply, Request, Tag, Window
+from ._words import Block, Cell, Reply, Request, Stat, Tag, Window
+
+T = TypeVar("T")
 
 
 class ElementAnew(Asking["Awaitable[int]"]):
@@ -80,9 +82,66 @@ class Image:
         """Drops the entries of the element below the number. It is sent at this call, and nobody has to await it."""
         return self.ask(Request(Tag.CONFIRM, element, upto))
 
-    async def window(self, element: int) -> Window:
-        """Returns the window of an element: which of its numbers are kept."""
-        return await asyncio.wrap_future(self.shared.call(lambda image: image.window(element)))
+    def _now(self, call: Callable[[_memories.Image], T]) -> Awaitable[T]:
+        return asyncio.wrap_future(self.shared.call(call))
+
+    def window(self, element: int) -> Awaitable[Window]:
+        """Gives the window of an element: which of its numbers are kept. This and what follows makes no request. It
+        shows what is on the disk, once what was sent before is."""
+        return self._now(lambda image: image.window(element))
+
+    def entry(self, element: int, number: int) -> Awaitable[Request | None]:
+        """Gives the request that is kept under an element's number, or None."""
+        return self._now(lambda image: image.entry(element, number))
+
+    def collect(self, element: int, number: int) -> Awaitable[Reply]:
+        """Gives the reply that is kept under an element's number."""
+        return self._now(lambda image: image.collect(element, number))
+
+    def cell(self, address: int) -> Awaitable[Cell | None]:
+        """Gives what a cell holds, or None if it lies in no block."""
+        return self._now(lambda image: image.cell(address))
+
+    def cells(self, start: int, count: int) -> Awaitable[list[Cell | None]]:
+        """Gives what so many cells hold at one time, from an address on: fewer at the end of the memory."""
+        return self._now(lambda image: image.cells(start, count))
+
+    def block(self, address: int) -> Awaitable[Block | None]:
+        """Gives the block that an address lies in, or None."""
+        return self._now(lambda image: image.block(address))
+
+    def waiters(self, address: int) -> Awaitable[list[tuple[int, int]]]:
+        """Gives the requests that wait at a cell, in the order in which they came: each an element and a number."""
+        return self._now(lambda image: image.waiters(address))
+
+    def stuck(self) -> Awaitable[list[Request]]:
+        """Gives the oldest request of each element that is stuck: 64 of its requests are kept, and that one waits. It
+        asks nothing more before that is answered."""
+        return self._now(_memories.Image.stuck)
+
+    def stat(self) -> Awaitable[Stat]:
+        """Gives the numbers of the image: its blocks, cells, entries, and elements that are stuck."""
+        return self._now(_memories.Image.stat)
+
+    @property
+    def room(self) -> Awaitable[int]:
+        """The number of commands that the journal still has room for."""
+        return self._now(lambda image: image.room)
+
+    @property
+    def count(self) -> Awaitable[int]:
+        """The number of commands that have been accepted since the image was made."""
+        return self._now(lambda image: image.count)
+
+    @property
+    def limits(self) -> Awaitable[tuple[int, int, int]]:
+        """The numbers of cells, elements, and journal slots."""
+        return self._now(lambda image: image.limits)
+
+    def backup(self, path: Path) -> Awaitable[None]:
+        """Copies the image to a path where nothing exists, between two groups. Others may ask meanwhile. The copy is on
+        the disk, and was seen to open as an image, before this is done."""
+        return self._now(lambda image: image.backup(path))
 
     def element(self, number: int) -> Element:
         """Returns the element, whose requests are numbered here from the first that isn't confirmed on: a program that
@@ -132,12 +191,19 @@ async def open(path: Path) -> Image:  # noqa: A001
 
 
 async def serve(
-    path: Path, imem: Path | None = None, *, cells: int = 4096, elements: int = 16, slots: int = 256
+    path: Path,
+    imem: Path | None = None,
+    *,
+    cells: int = 4096,
+    elements: int = 16,
+    slots: int = 256,
+    backups: Path | None = None,
 ) -> Served:
     """Starts `imem serve` on an image, which is made if nothing is at the path. It needs no library, and has the calls
     of `Image`. The program is the one that is named, the one in this package, `imem` on the PATH, or that in out/ of
-    this checkout. If it ends, it is started again, and asked again what isn't answered."""
-    return await begin(path, imem, cells, elements, slots)
+    this checkout. If it ends, it is started again, and asked again what isn't answered. `backups` is the folder of
+    `backup`."""
+    return await begin(path, imem, cells, elements, slots, backups)
 
 
 async def connect(address: str, *, tls: ssl.SSLContext | None = None, patience: float | None = None) -> Served:

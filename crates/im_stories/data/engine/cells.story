@@ -5,6 +5,7 @@
 -- together 0.1 alloc i 2 with 1.1 fetch 0 = base 0, waiting    requests of different elements as one group
 -- commands confirm 0 2 with 1.2 fetch 0 = confirmed, waiting   any commands as one group, which may end early
 -- behind 0.1 alloc i 2 with 1.1 fetch 0 = 2 ahead []           requests that are put ahead, behind the group that is
+-- behind none = 0 ahead [base 0, waiting]                      the group that is ahead, and none behind it
 -- 3 turns = began, page 0..1; room 0 x3
 -- sweep 64 = swept 16; room 16    closes at most 64 slots with one sync
 -- plan 1.1 fetch 0 = 1 events     what the next run does: commands, groups, turns, sweeps, or all commands as told

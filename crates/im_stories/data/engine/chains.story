@@ -20,6 +20,19 @@ open = opened
 count = 5
 collect 2.2 = stored
 
+# A group alone is put ahead, and then nothing is: it is on the disk, and nobody is answered twice
+format 4096 16 256 = formatted
+behind 0.1 alloc i 2 with 1.1 fetch 0 = 2 ahead []
+behind none = 0 ahead [base 0, waiting]
+count = 2
+room = 254
+behind none = 0 ahead []
+close = closed
+crash lost = crashed
+open = opened
+count = 2
+collect 1.1 = waiting
+
 # A group that is put ahead is forgotten where a command is put, and stays where none is
 format 4096 16 256 = formatted
 0.1 alloc i 2 = base 0

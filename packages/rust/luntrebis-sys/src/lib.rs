@@ -165,6 +165,35 @@ pub struct lt_outcome {
     pub value: u64,
 }
 
+/// The address lies in no block
+pub const LT_NOWHERE: u8 = 0;
+
+/// What a cell holds, by `state`.
+pub const LT_EMPTY: u8 = 1;
+
+/// Requests wait for it
+pub const LT_AWAITED: u8 = 2;
+
+/// It has `value`
+pub const LT_FULL: u8 = 3;
+
+/// It had `value` when it was written once more
+pub const LT_CLASHED: u8 = 4;
+
+/// A cell, and the block that it lies in. If it lies in none, all is 0.
+#[repr(C)]
+#[derive(Clone, Copy, Debug, Default, PartialEq, Eq)]
+pub struct lt_presence {
+    /// LT_ALLOC_I or LT_ALLOC_M, by which the block was made
+    pub kind: u8,
+    pub state: u8,
+    /// The address of the block's first cell
+    pub base: u32,
+    /// The number of its cells
+    pub length: u32,
+    pub value: u64,
+}
+
 /// A handle of a memory. Zero bytes hold nothing.
 #[repr(C)]
 #[derive(Clone, Copy, Debug)]
@@ -215,6 +244,29 @@ pub struct lt_sizes {
 pub struct lt_waiter {
     pub element: u16,
     pub number: u64,
+}
+
+/// The numbers of an image.
+#[repr(C)]
+#[derive(Clone, Copy, Debug, Default, PartialEq, Eq)]
+pub struct lt_figures {
+    pub blocks: u64,
+    /// Cells of blocks, by their state
+    pub empty: u64,
+    /// Cells of blocks, by their state
+    pub awaited: u64,
+    /// Cells of blocks, by their state
+    pub full: u64,
+    /// Cells of blocks, by their state
+    pub clashed: u64,
+    /// Entries
+    pub kept: u64,
+    /// Those of them that aren't answered
+    pub waiting: u64,
+    /// Elements that keep 64 entries
+    pub full_windows: u64,
+    /// Those of them whose oldest entry waits: lt_stuck says which
+    pub stuck: u64,
 }
 
 /// There is no such step
@@ -305,8 +357,8 @@ extern "C" {
     /// returns the refusal, and `next` is as it was.
     pub fn lt_memory_new(cells: u32, elements: u16, next: *mut lt_memory) -> u8;
 
-    /// Serves one command. Returns its refusal, and writes its outcome at `outcome`. This call and the next two take a
-    /// handle that holds a memory.
+    /// Serves one command. Returns its refusal, and writes its outcome at `outcome`. This call and the next three take
+    /// a handle that holds a memory.
     pub fn lt_memory_step(
         memory: lt_memory,
         command: *const lt_command,
@@ -317,6 +369,9 @@ extern "C" {
     /// Writes the entry that is kept under an element's number at `outcome`, or its refusal: LT_NO_ELEMENT,
     /// LT_FORGOTTEN or LT_GAP. Returns the refusal.
     pub fn lt_memory_collect(memory: *const lt_memory, element: u16, number: u64, outcome: *mut lt_outcome) -> u8;
+
+    /// Returns the cell at an address.
+    pub fn lt_memory_cell(memory: *const lt_memory, address: u32) -> lt_presence;
 
     /// Frees the memory.
     pub fn lt_memory_free(memory: lt_memory);
@@ -425,6 +480,22 @@ extern "C" {
     /// Writes the requests that wait at a cell at `waiters`, in their order of arrival, as many as there is room for.
     /// Returns how many it wrote, 0 after a lost step. A store answers all of them, a put the first.
     pub fn lt_waiters(image: *const lt_image, address: u32, waiters: *mut lt_waiter, room: usize) -> usize;
+
+    /// Returns the cell at an address, with its block. After a lost step it shows none, as the calls that follow up to
+    /// lt_stuck.
+    pub fn lt_cell(image: *const lt_image, address: u32) -> lt_presence;
+
+    /// Writes the cells from an address on at `cells`, as many as there is room for. Returns how many it wrote: fewer
+    /// at the end of the memory.
+    pub fn lt_cells(image: *const lt_image, from: u32, cells: *mut lt_presence, room: usize) -> usize;
+
+    /// Returns the numbers of the image. It looks at each cell several times.
+    pub fn lt_stat(image: *const lt_image) -> lt_figures;
+
+    /// Writes the oldest entry of each element that is stuck: 64 entries are kept, and the oldest waits, so that
+    /// nothing can be confirmed or asked before it is answered. Writes as many as there is room for, of 64 at most.
+    /// Returns how many it wrote. lt_entry says for which cell each waits.
+    pub fn lt_stuck(image: *const lt_image, stuck: *mut lt_waiter, room: usize) -> usize;
 
     /// Writes the window of an element at `window`, or its refusal: LT_NO_ELEMENT, or LT_DEVICE after a lost step.
     /// Returns the refusal.
@@ -558,12 +629,28 @@ extern "C" {
 
     pub fn ltf_window(file: *const ltf, element: u16) -> lt_bounds;
 
+    /// Show cells with their blocks, the numbers of the image, and who is stuck, as the calls of luntrebis.h. They make
+    /// no request, and show what is on the disk: what is ahead hasn't acted.
+    pub fn ltf_cell(file: *const ltf, address: u32) -> lt_presence;
+
+    pub fn ltf_cells(file: *const ltf, from: u32, cells: *mut lt_presence, room: usize) -> usize;
+
+    pub fn ltf_stat(file: *const ltf) -> lt_figures;
+
+    pub fn ltf_stuck(file: *const ltf, stuck: *mut lt_waiter, room: usize) -> usize;
+
     /// Return how many more commands there is room for, how many were accepted since the image was made, and its sizes.
     pub fn ltf_room(file: *const ltf) -> u32;
 
     pub fn ltf_count(file: *const ltf) -> u64;
 
     pub fn ltf_limits(file: *const ltf) -> lt_sizes;
+
+    /// Copies the image to a path where nothing exists, with all that was served, and returns once the copy is on the
+    /// disk. The copy is formed as PATH.new, is seen to open as an image, and gets its name once it is whole. What is
+    /// ahead isn't in it. Returns -EEXIST if something has the name, LT_DEVICE after a lost step, or why there is no
+    /// copy.
+    pub fn ltf_backup(file: *const ltf, path: *const core::ffi::c_char) -> core::ffi::c_int;
 
     pub fn ltf_work(file: *const ltf) -> ltf_counts;
 

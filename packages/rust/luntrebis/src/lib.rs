@@ -15,7 +15,7 @@ pub use lanes::Lanes;
 pub use memories::{inspect, Image, Limits, Memory, Work};
 pub use pending::{Pending, Value};
 pub use shared::{Element, ElementAnew, Shared};
-pub use words::{Error, Of, Op, Refusal, Reply, Request, Result};
+pub use words::{Cell, Error, Kind, Of, Op, Refusal, Reply, Request, Result, Stat, State};
 
 /// Returns what the library says of its own making, such as `0.1.0, commit 3f2a91c07d1b, all proved`.
 pub fn version() -> &'static str {

@@ -1,7 +1,8 @@
 //! A memory without a disk, and an image in its file.
 
-use crate::words::{answered, confirmation, passed, request_of, spelled, told};
-use crate::words::{Error, Of, Refusal, Reply, Request, Result};
+use crate::helpers::Block;
+use crate::words::{answered, confirmation, passed, request_of, seen, spelled, told};
+use crate::words::{Cell, Error, Of, Refusal, Reply, Request, Result, Stat};
 use luntrebis_sys as sys;
 use std::ffi::{c_int, CString};
 use std::fs::File;
@@ -90,6 +91,12 @@ impl Memory {
         told(&outcome).map_err(|it| it.of(format_args!("{element}.{number}")))
     }
 
+    /// Returns what a cell holds, or `None` if it lies in no block.
+    pub fn cell(&self, address: u32) -> Option<Cell> {
+        // SAFETY: the handle is held.
+        seen(&unsafe { sys::lt_memory_cell(&self.handle, address) })
+    }
+
     fn step(&mut self, command: &sys::lt_command) -> sys::lt_outcome {
         let (mut outcome, handle) = (sys::lt_outcome::default(), self.handle);
         // SAFETY: the handle is handed over once, and held again as it comes back.
@@ -144,7 +151,7 @@ impl Image {
     }
 
     fn made(path: &Path, make: impl FnOnce(*const std::ffi::c_char, *mut *mut sys::ltf) -> c_int) -> Result<Image> {
-        let name = CString::new(path.as_os_str().as_bytes()).map_err(io::Error::from)?;
+        let name = name_of(path)?;
         let mut file = ptr::null_mut();
         answered(make(name.as_ptr(), &mut file)).map_err(|it| it.of(path.display()))?;
         Ok(Image { file, path: path.to_owned() })
@@ -242,6 +249,69 @@ impl Image {
         Ok(window.base..window.next)
     }
 
+    /// Returns what a cell holds, or `None` if it lies in no block. This and what follows makes no request.
+    pub fn cell(&self, address: u32) -> Result<Option<Cell>> {
+        Ok(self.cells(address, 1)?.pop().flatten())
+    }
+
+    /// Returns what so many cells hold, from an address on: fewer at the end of the memory.
+    pub fn cells(&self, start: u32, count: u32) -> Result<Vec<Option<Cell>>> {
+        let mut cells = vec![sys::lt_presence::default(); count.min(self.limits().cells) as usize];
+        // SAFETY: as above, and there are so many cells.
+        let shown = unsafe { sys::ltf_cells(self.file, start, cells.as_mut_ptr(), cells.len()) };
+        self.check(0)?;
+        Ok(cells[..shown].iter().map(seen).collect())
+    }
+
+    /// Returns the block that an address lies in.
+    pub fn block(&self, address: u32) -> Result<Option<Block>> {
+        // SAFETY: as above.
+        let sys::lt_presence { kind, base, length, .. } = unsafe { sys::ltf_cell(self.file, address) };
+        self.check(0)?;
+        Ok((kind > 0).then_some(Block { base, length }))
+    }
+
+    /// Returns the requests that wait at a cell, in the order in which they came: each an element and a number.
+    pub fn waiters(&self, address: u32) -> Result<Vec<(u16, u64)>> {
+        // SAFETY: as above, and there is so much room.
+        self.listed(|places, room| unsafe { sys::ltf_waiters(self.file, address, places, room) })
+    }
+
+    /// Returns the oldest request of each element that is stuck: 64 of its requests are kept, and that one waits. It asks
+    /// nothing more before that is answered.
+    pub fn stuck(&self) -> Result<Vec<Request>> {
+        // SAFETY: as above, and there is so much room.
+        let stuck = self.listed(|places, room| unsafe { sys::ltf_stuck(self.file, places, room) })?;
+        Ok(stuck.into_iter().filter_map(|(element, number)| self.entry(element, number)).collect())
+    }
+
+    fn listed(&self, list: impl FnOnce(*mut sys::lt_waiter, usize) -> usize) -> Result<Vec<(u16, u64)>> {
+        let mut places = vec![sys::lt_waiter::default(); KEPT as usize * usize::from(self.limits().elements)];
+        let listed = list(places.as_mut_ptr(), places.len());
+        self.check(0)?;
+        Ok(places[..listed].iter().map(|it| (it.element, it.number)).collect())
+    }
+
+    /// Returns the numbers of the image: its blocks, cells, entries, and elements that are stuck.
+    pub fn stat(&self) -> Result<Stat> {
+        // SAFETY: as above.
+        let sys::lt_figures { blocks, empty, awaited, full, clashed, kept, waiting, full_windows, stuck } =
+            unsafe { sys::ltf_stat(self.file) };
+        self.check(0)?;
+        Ok(Stat { blocks, empty, awaited, full, clashed, kept, waiting, full_windows, stuck })
+    }
+
+    /// Copies the image to a path where nothing exists, with all that was answered. The copy is on the disk, and was seen
+    /// to open as an image, before this returns.
+    pub fn backup(&self, path: impl AsRef<Path>) -> Result<()> {
+        let path = path.as_ref();
+        let name = name_of(path)?;
+        // SAFETY: as above, and the path is ended by a zero.
+        let answer = unsafe { sys::ltf_backup(self.file, name.as_ptr()) };
+        self.check(0)?;
+        answered(answer).map_err(|it| it.of(path.display()))
+    }
+
     /// Returns how many more commands there is room for in the journal.
     pub fn room(&self) -> u32 {
         // SAFETY: as above.
@@ -306,6 +376,10 @@ impl Drop for Image {
         // SAFETY: the handle is held, and handed over for the last time.
         unsafe { sys::ltf_close(self.file) }
     }
+}
+
+fn name_of(path: &Path) -> io::Result<CString> {
+    Ok(CString::new(path.as_os_str().as_bytes())?)
 }
 
 extern "C" {

@@ -1,10 +1,11 @@
 //! An image for any number of threads. A thread of its own makes all calls, and answers are futures.
 
+use crate::helpers::Block;
 use crate::lanes::Lanes;
 use crate::memories::{Image, Limits};
 use crate::owner::{waiting, Message, Owner};
 use crate::pending::{Home, Key, Left, Pending, Teller, Told, Value};
-use crate::words::{confirmation, Error, Of, Op, Refusal, Reply, Request, Result};
+use crate::words::{confirmation, Cell, Error, Of, Op, Refusal, Reply, Request, Result, Stat};
 use std::collections::{HashMap, HashSet};
 use std::ops::Range;
 use std::path::Path;
@@ -154,9 +155,73 @@ impl Shared {
         told.recv().map_err(|_| Error::Closed)
     }
 
-    /// Returns the numbers of an element that are kept. The range's end is the number of its next new request.
+    /// Returns the numbers of an element that are kept. The range's end is the number of its next new request. This and
+    /// what follows makes no request. It shows what is on the disk, once what was sent before is.
     pub fn window(&self, element: u16) -> Result<Range<u64>> {
         self.call(move |image| image.window(element))?
+    }
+
+    /// Returns the request that is kept under an element's number.
+    pub fn entry(&self, element: u16, number: u64) -> Result<Option<Request>> {
+        self.call(move |image| image.entry(element, number))
+    }
+
+    /// Returns the reply that is kept under an element's number.
+    pub fn collect(&self, element: u16, number: u64) -> Result<Reply> {
+        self.call(move |image| image.collect(element, number))?
+    }
+
+    /// Returns what a cell holds, or `None` if it lies in no block.
+    pub fn cell(&self, address: u32) -> Result<Option<Cell>> {
+        self.call(move |image| image.cell(address))?
+    }
+
+    /// Returns what so many cells hold at one time, from an address on: fewer at the end of the memory.
+    pub fn cells(&self, start: u32, count: u32) -> Result<Vec<Option<Cell>>> {
+        self.call(move |image| image.cells(start, count))?
+    }
+
+    /// Returns the block that an address lies in.
+    pub fn block(&self, address: u32) -> Result<Option<Block>> {
+        self.call(move |image| image.block(address))?
+    }
+
+    /// Returns the requests that wait at a cell, in the order in which they came: each an element and a number.
+    pub fn waiters(&self, address: u32) -> Result<Vec<(u16, u64)>> {
+        self.call(move |image| image.waiters(address))?
+    }
+
+    /// Returns the oldest request of each element that is stuck: 64 of its requests are kept, and that one waits. It asks
+    /// nothing more before that is answered.
+    pub fn stuck(&self) -> Result<Vec<Request>> {
+        self.call(|image| image.stuck())?
+    }
+
+    /// Returns the numbers of the image: its blocks, cells, entries, and elements that are stuck.
+    pub fn stat(&self) -> Result<Stat> {
+        self.call(|image| image.stat())?
+    }
+
+    /// Returns how many more commands there is room for in the journal.
+    pub fn room(&self) -> Result<u32> {
+        self.call(|image| image.room())
+    }
+
+    /// Returns how many commands have been accepted since the image was made.
+    pub fn count(&self) -> Result<u64> {
+        self.call(|image| image.count())
+    }
+
+    /// Returns the sizes of the image.
+    pub fn limits(&self) -> Result<Limits> {
+        self.call(|image| image.limits())
+    }
+
+    /// Copies the image to a path where nothing exists, between two groups. Others may ask meanwhile. The copy is on the
+    /// disk, and was seen to open as an image, before this returns.
+    pub fn backup(&self, path: impl AsRef<Path>) -> Result<()> {
+        let path = path.as_ref().to_owned();
+        self.call(move |image| image.backup(path))?
     }
 
     /// Returns the element, whose requests are numbered here from the first that isn't confirmed on: a program that was

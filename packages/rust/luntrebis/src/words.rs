@@ -112,6 +112,72 @@ impl fmt::Display for Request {
     }
 }
 
+/// The kind of a block.
+#[derive(Clone, Copy, Debug, PartialEq, Eq)]
+pub enum Kind {
+    /// Its cells are fetched and stored.
+    I,
+    /// Its cells are taken and put.
+    M,
+}
+
+/// What a cell holds.
+#[derive(Clone, Copy, Debug, PartialEq, Eq)]
+pub enum State {
+    /// Nothing.
+    Empty,
+    /// Nothing, and requests wait for it.
+    Awaited,
+    /// This value.
+    Full(u64),
+    /// This value, when it was written once more.
+    Clashed(u64),
+}
+
+/// A cell of a block.
+#[derive(Clone, Copy, Debug, PartialEq, Eq)]
+pub struct Cell {
+    /// The kind of its block.
+    pub kind: Kind,
+    /// What it holds.
+    pub state: State,
+}
+
+/// The numbers of an image.
+#[derive(Clone, Copy, Debug, PartialEq, Eq)]
+pub struct Stat {
+    /// How many blocks there are.
+    pub blocks: u64,
+    /// How many cells of blocks are empty, and nobody waits for them.
+    pub empty: u64,
+    /// For how many cells requests wait.
+    pub awaited: u64,
+    /// How many cells are full.
+    pub full: u64,
+    /// How many cells clashed.
+    pub clashed: u64,
+    /// How many entries are kept.
+    pub kept: u64,
+    /// How many of them wait.
+    pub waiting: u64,
+    /// How many elements keep 64 entries.
+    pub full_windows: u64,
+    /// How many of them are stuck: their oldest entry waits.
+    pub stuck: u64,
+}
+
+/// Returns a cell, or `None` if it lies in no block.
+pub(crate) fn seen(cell: &sys::lt_presence) -> Option<Cell> {
+    let state = match cell.state {
+        sys::LT_EMPTY => State::Empty,
+        sys::LT_AWAITED => State::Awaited,
+        sys::LT_FULL => State::Full(cell.value),
+        sys::LT_CLASHED => State::Clashed(cell.value),
+        _ => return None,
+    };
+    Some(Cell { kind: if cell.kind == sys::LT_ALLOC_I { Kind::I } else { Kind::M }, state })
+}
+
 /// Which request of which file an error is of, and what else there is to say.
 #[derive(Clone, Default, PartialEq, Eq)]
 pub struct Of(String);

@@ -1,6 +1,6 @@
 //! An image through its whole life, and one for many threads.
 
-use luntrebis::{fetch_bytes, layout, store_bytes, Cells, Counter, Queue};
+use luntrebis::{fetch_bytes, layout, store_bytes, Block, Cell, Cells, Counter, Kind, Queue, State};
 use luntrebis::{Error, Image, Limits, Memory, Op, Refusal, Reply, Request, Shared};
 use std::future::Future;
 use std::path::PathBuf;
@@ -319,6 +319,95 @@ fn helpers_go_on_where_they_were() {
         store_bytes(&shared.element(3), letters, stored, &text).unwrap();
         assert_eq!(fetch_bytes(&shared.lease(2).unwrap(), letters).unwrap(), text);
     }
+    std::fs::remove_file(path).unwrap();
+}
+
+#[test]
+fn what_it_holds_is_shown_and_copied() {
+    let (path, copy) = (place("looks"), place("looks-copy"));
+    let mut image = Image::create(&path, Limits { cells: 128, elements: 4, slots: 256 }).unwrap();
+    let mut requests = vec![
+        asked(0, 1, Op::AllocI(3)),
+        asked(0, 2, Op::AllocM(64)),
+        asked(0, 3, Op::Store(0, 7)),
+        asked(0, 4, Op::Put(3, 8)),
+        asked(0, 5, Op::Put(3, 9)),
+        asked(2, 1, Op::Fetch(2)),
+        asked(3, 1, Op::Fetch(2)),
+    ];
+    requests.extend((0..64).map(|it| asked(1, it + 1, Op::Take(4 + (it % 63) as u32))));
+    image.ask_all(&requests).unwrap();
+    let (full, clashed) = (cell(Kind::I, State::Full(7)), cell(Kind::M, State::Clashed(8)));
+    assert_eq!(image.cells(0, 4).unwrap(), [full, cell(Kind::I, State::Empty), cell(Kind::I, State::Awaited), clashed]);
+    assert_eq!((image.cells(126, 9).unwrap().len(), image.cells(128, 1).unwrap().len()), (2, 0));
+    assert_eq!((image.cell(66).unwrap(), image.cell(67).unwrap()), (cell(Kind::M, State::Awaited), None));
+    assert_eq!(image.block(66).unwrap(), Some(Block { base: 3, length: 64 }));
+    assert_eq!(image.block(u32::MAX).unwrap(), None);
+    assert_eq!(image.waiters(4).unwrap(), [(1, 1), (1, 64)]);
+    assert_eq!(image.stuck().unwrap(), [asked(1, 1, Op::Take(4))]);
+    let stat = image.stat().unwrap();
+    assert_eq!((stat.blocks, stat.empty, stat.awaited, stat.full, stat.clashed), (2, 1, 64, 1, 1));
+    assert_eq!((stat.kept, stat.waiting, stat.full_windows, stat.stuck), (71, 66, 1, 1));
+    image.backup(&copy).unwrap();
+    assert!(matches!(image.backup(&copy), Err(Error::Io(_))), "it replaces no file");
+    drop(image);
+    for path in [path, copy] {
+        let shared = Shared::open(&path).unwrap();
+        assert_eq!((shared.stat().unwrap(), shared.cell(0).unwrap()), (stat, full));
+        assert_eq!((shared.stuck().unwrap().len(), shared.count().unwrap()), (1, requests.len() as u64));
+        assert_eq!(shared.entry(0, 3).unwrap(), Some(requests[2]));
+        assert_eq!((shared.entry(0, 9).unwrap(), shared.collect(0, 2).unwrap()), (None, Reply::Base(3)));
+        assert_eq!((shared.limits().unwrap().cells, shared.waiters(2).unwrap()), (128, vec![(2, 1), (3, 1)]));
+        assert_eq!((shared.block(2).unwrap().unwrap().base, shared.cells(100, 99).unwrap().len()), (0, 28));
+        assert!((1..256).contains(&shared.room().unwrap()));
+        drop(shared);
+        std::fs::remove_file(path).unwrap();
+    }
+    let mut memory = Memory::new(128, 4).unwrap();
+    for request in &requests {
+        memory.ask(request).unwrap();
+    }
+    assert_eq!((memory.cell(0), memory.cell(127), memory.cell(128)), (full, None, None));
+}
+
+fn cell(kind: Kind, state: State) -> Option<Cell> {
+    Some(Cell { kind, state })
+}
+
+#[test]
+fn copies_are_made_while_others_ask() {
+    let path = place("copies");
+    let shared = Shared::create(&path, Limits { cells: 16, elements: 6, slots: 64 }).unwrap();
+    let counter = shared.element(0).alloc_m(1).wait().unwrap() as u32;
+    shared.element(0).put(counter, 0).wait().unwrap();
+    thread::scope(|scope| {
+        for number in 1..6 {
+            let one = shared.element(number);
+            scope.spawn(move || {
+                for _ in 0..200 {
+                    let value = one.take(counter).wait().unwrap();
+                    one.put(counter, value + 1).wait().unwrap();
+                    one.done().wait().unwrap();
+                }
+            });
+        }
+        let mut before = 0;
+        for at in 0..20 {
+            let copy = place(&format!("copies-{at}"));
+            shared.backup(&copy).unwrap();
+            let image = Image::open(&copy).unwrap();
+            let done: u64 = (1..6).map(|it| image.window(it).unwrap().start / 2).sum();
+            assert!(before <= done && done <= 1000, "{before} and {done} units");
+            if let Some(Cell { state: State::Full(value), .. }) = image.cell(counter).unwrap() {
+                assert!(done <= value && value <= done + 5, "{value} by {done} units");
+            }
+            before = done;
+            drop(image);
+            std::fs::remove_file(copy).unwrap();
+        }
+    });
+    assert_eq!(shared.cell(counter).unwrap(), cell(Kind::M, State::Full(1000)));
+    drop(shared);
     std::fs::remove_file(path).unwrap();
 }
 

@@ -1,10 +1,8 @@
 use mir.Raw.{raw}
 use base.Shift.{Keyless}
-use denote.Memory.{lone}
-use denote.RawPtr.{Ptr}
-use denote.Struct.Struct.{exits_of}
-use denote.Struct.Owning.{shape, fields, to}
 use denote.Param.Send.{IsSend, AllSend, owning_send, struct_send, sendable}
+use denote.{Memory.lone, RawPtr.Ptr, Struct.Struct.exits_of, Struct.Owning.shape, Struct.Owning.fields}
+use denote.Struct.Owning.{to}
 use Rattle.std.{proofs.Common.Some, proofs.Common.None, proofs.Common.Global, specs.declared.option.Option.Option}
 use Rattle.std_alloc.proofs.SendSync.{lies, quiet}
 use Rattle.im_c.proofs.Crosses.{Image-row-send}

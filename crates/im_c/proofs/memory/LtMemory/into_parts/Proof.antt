@@ -1,37 +1,24 @@
 -- `into_parts` moves two fields, and what they own goes with them.
-use mathlib.Core.Path.{refl, sym, subst}
-use mathlib.Core.List.{List, [], ◌∷◌, ◌++◌}
+use mathlib.{Core.Path.refl, Core.Path.sym, Core.Path.subst, Core.Path.◌≡◌, Core.List.List, Core.List.[], Core.List.◌∷◌}
+use mathlib.Core.List.{◌++◌}
 use seplogic.Ra.Ura.{Ura}
 use mir.Val.{Val}
-use base.Logic.{SProp, ent, id⊢}
-use base.Fml.{ftrue, fsep}
-use prog.Memory.{Memory}
-use prog.Routine.{Routine}
-use prog.Wp.{WpFn, Tables}
-use types.Logic.{Logic}
-use contract.Monad.{Fun}
-use contract.Running.{tables, tables_of}
-use sound.WpLaws.{WpFn-mono}
+use base.{Logic.SProp, Logic.ent, Logic.id⊢, Fml.ftrue, Fml.fsep}
+use prog.{Memory.Memory, Routine.Routine, Wp.WpFn, Wp.Tables}
 use types.Kit.{Item, ‵, raw, ◌⊛◌, ◌$◌, ◌∵◌, !, qed, by, move, drop, use1, join, split, fsplit, fjoin, suffices, done}
-use types.Part.{whole, sub, agg}
 use types.Run.{stop, fld, no_more, and_then, of_opd, returns, enter}
 use types.ByLocal.{alloc_all, pass_all, free_all, look_at, get, get_in, sets}
-use denote.Exit.{yes}
-use denote.Signature.{type_at}
-use denote.Steps.{nothing}
-use denote.Triple.Spec.{triple_of}
-use denote.Triple.Table.{entered}
+use types.{Logic.Logic, Logic.sem, Part.whole, Part.sub, Part.agg}
+use contract.{Monad.Fun, Monad.fact, Running.tables, Running.tables_of}
+use sound.WpLaws.{WpFn-mono}
 use denote.Triple.Walked.{says, Stays, stay_dropped, walk_of, ends_at, Goes-dropped, walk_Meets}
+use denote.{Exit.yes, Signature.type_at, Steps.nothing, Steps.heard, Triple.Spec.triple_of, Triple.Table.entered}
+use denote.RawPtr.{Ptr}
 use Rattle.std.proofs.{Common.IsSome, Common.Some, Common.None, Common.Global, lemmas.Bool.false≢true}
 use Rattle.std.specs.declared.option.Option.{Option}
 use Rattle.std_alloc.proofs.BoxSteps.{Form.B, Form.box_typed, Form.D, Form.word, Steps.box_in, Steps.box_out}
 use Rattle.im_c.proofs.AsMemory.{E, FromHandle as From}
 use Rattle.im_c.specs.contracts.memory.LtMemory.into_parts.Key.{name as #self}
-use mathlib.Core.Path.{◌≡◌}
-use denote.Steps.{heard}
-use denote.RawPtr.{Ptr}
-use types.Logic.{sem}
-use contract.Monad.{fact}
 use Rattle.im_c.specs.contracts.memory.LtMemory as Handle
 use Rattle.im_c.specs.contracts.memory.LtMemory.into_parts as F
 use Rattle.im_c.proofs.memory.LtMemory.into_parts.Statement as stated

@@ -1,6 +1,5 @@
-use Rattle.std.proofs.Common.{◌≡◌, ℕ, List, [], ◌∷◌, ◌++◌, length, slice_get, Some, Ok, sym, ap, ◌∙◌, subst}
-use Rattle.im_types.specs.Types.{Waiting, Asks, Tells, asker}
-use Rattle.im_session.{proofs.ServedLemmas.command_refused, proofs.ServedLemmas.command_served, specs.Kept.SessionState}
+use Rattle.std.proofs.Common.{◌≡◌, ℕ, List, [], ◌∷◌, ◌++◌, length, slice_get, Some, sym, ap, ◌∙◌, subst}
+use Rattle.{im_types.specs.Types.Waiting, im_types.specs.Types.asker, im_session.specs.Kept.SessionState}
 use Rattle.im_text.specs.declared.{Lines.Lines, Waited.Waited}
 use Rattle.im_serial.proofs.NotedLemmas.{noted_names}
 use Rattle.im_serial.proofs.ScriptedLemmas.{as_of, asked_passes, refused_ends, told_ends, unnoted_ends, unprinted_ends}
@@ -13,14 +12,14 @@ returns-in-Ok-note-clause-serves g c =
     let r = c.args.request in
     let entry = c.in-Ok-Entry.entry in
     let was = c.args.self.now in
+    let mid = c.serve_one.new.session in
     let held = g.W.Write.contents c.args.out.now in
     let later = g.W.Write.contents c.print.new.out in
     let n = c.note.new.self in
     let noted = n.waited.items in
     let marked = n.places.marks.items in
     let sessions = c.note.ensures.session ∙ c.print.ensures.session in
-    let it = command_served was.session c.serve.new.self (Asks r) c.serve.result c.serve.ensures.answered
-    c.serve.ensures.put (Tells entry) (c.in-Ok-Entry.is ∙ ap Ok c.in-Ok-Entry.field-0-is) in
+    let it = rw c.in-Ok-Entry.field-0-is at c.in-Ok-Entry.ensures.served in
     let pushed = c.in-Ok-note.ensures.pushed ∙ ap (λ (l : List Waited). l ++ noted_if (asker r) entry)
     c.print.ensures.names in
     let names = noted_names r entry was.waited.items noted pushed in
@@ -32,15 +31,15 @@ returns-in-Ok-note-clause-serves g c =
     c.print.ensures.names in
     record {
       serves = λ w before added element op made. as_of (λ (t : SessionState g.row.D.Denot) (l : Lines). Passes
-          (w ∷ []) before [] (before ++ added) (seen_by was held) (server_of t later l noted marked)) c.serve.new.self
+          (w ∷ []) before [] (before ++ added) (seen_by was held) (server_of t later l noted marked)) mid
           n.session c.print.new.self.lines n.lines sessions c.note.ensures.lines
-          (asked_passes was.session c.serve.new.self r c.requires.next.0 c.requires.next.1 w before element op
+          (asked_passes was.session mid r c.requires.next.0 c.requires.next.1 w before element op
           was.waited.items was.places.marks.items held later was.lines c.print.new.self.lines entry it
           c.in-Ok.ensures.more noted marked pushed others mark names added made);
       ends = λ w before element op. as_of (λ (t : SessionState g.row.D.Denot) (l : Lines). EndsAt (w ∷ []) before
-          (seen_by was held) (server_of t later l noted marked)) c.serve.new.self n.session c.print.new.self.lines
+          (seen_by was held) (server_of t later l noted marked)) mid n.session c.print.new.self.lines
           n.lines sessions c.note.ensures.lines
-          (told_ends was.session c.serve.new.self r c.requires.next.0 c.requires.next.1 w before element op
+          (told_ends was.session mid r c.requires.next.0 c.requires.next.1 w before element op
           was.waited.items was.places.marks.items held later was.lines c.print.new.self.lines entry it
           c.in-Ok.ensures.more noted marked pushed others mark names);
     }
@@ -50,20 +49,20 @@ returns-in-Err-note-clause-serves g c =
     let r = c.args.request in
     let entry = c.in-Ok-Entry.entry in
     let was = c.args.self.now in
+    let mid = c.serve_one.new.session in
     let held = g.W.Write.contents c.args.out.now in
     let later = g.W.Write.contents c.print.new.out in
     let n = c.note.new.self in
     let marked = n.places.marks.items in
-    let it = command_served was.session c.serve.new.self (Asks r) c.serve.result c.serve.ensures.answered
-    c.serve.ensures.put (Tells entry) (c.in-Ok-Entry.is ∙ ap Ok c.in-Ok-Entry.field-0-is) in
+    let it = rw c.in-Ok-Entry.field-0-is at c.in-Ok-Entry.ensures.served in
     record {
       serves = tt;
       ends = λ w before element op. as_of (λ (t : SessionState g.row.D.Denot) (l : Lines). EndsAt (w ∷ []) before
-          (seen_by was held) (server_of t later l n.waited.items marked)) c.serve.new.self n.session
+          (seen_by was held) (server_of t later l n.waited.items marked)) mid n.session
           c.print.new.self.lines n.lines (c.note.ensures.session ∙ c.print.ensures.session) c.note.ensures.lines
-          (subst (λ (l : List Waited). EndsAt (w ∷ []) before (seen_by was held) (server_of c.serve.new.self later
+          (subst (λ (l : List Waited). EndsAt (w ∷ []) before (seen_by was held) (server_of mid later
           c.print.new.self.lines l marked)) (sym (c.in-Err-note.ensures.pushed ∙ c.print.ensures.names))
-          (unnoted_ends was.session c.serve.new.self r c.requires.next.0 c.requires.next.1 w before element op
+          (unnoted_ends was.session mid r c.requires.next.0 c.requires.next.1 w before element op
           was.waited.items was.places.marks.items held later was.lines c.print.new.self.lines entry it
           c.in-Ok.ensures.more marked));
     }
@@ -73,18 +72,18 @@ returns-in-Err-print-clause-serves g c =
     let r = c.args.request in
     let entry = c.in-Ok-Entry.entry in
     let was = c.args.self.now in
+    let mid = c.serve_one.new.session in
     let held = g.W.Write.contents c.args.out.now in
     let later = g.W.Write.contents c.print.new.out in
     let n = c.print.new.self in
     let marked = n.places.marks.items in
-    let it = command_served was.session c.serve.new.self (Asks r) c.serve.result c.serve.ensures.answered
-    c.serve.ensures.put (Tells entry) (c.in-Ok-Entry.is ∙ ap Ok c.in-Ok-Entry.field-0-is) in
+    let it = rw c.in-Ok-Entry.field-0-is at c.in-Ok-Entry.ensures.served in
     record {
       serves = tt;
       ends = λ w before element op. as_of (λ (t : SessionState g.row.D.Denot) (l : List Waited). EndsAt (w ∷ []) before
-          (seen_by was held) (server_of t later n.lines l marked)) c.serve.new.self n.session was.waited.items
+          (seen_by was held) (server_of t later n.lines l marked)) mid n.session was.waited.items
           n.waited.items c.print.ensures.session c.print.ensures.names
-          (unprinted_ends was.session c.serve.new.self r c.requires.next.0 c.requires.next.1 w before element op
+          (unprinted_ends was.session mid r c.requires.next.0 c.requires.next.1 w before element op
           was.waited.items was.places.marks.items held later was.lines n.lines entry it marked
           c.in-Err-print.ensures.more);
     }
@@ -92,11 +91,11 @@ returns-in-Err-print-clause-serves g c =
 pub returns-in-Err-clause-serves : goal.returns-in-Err-clause-serves
 returns-in-Err-clause-serves g c =
     let was = c.args.self.now in
+    let mid = c.serve_one.new.session in
     let held = g.W.Write.contents c.args.out.now in
     record {
       serves = tt;
-      ends = λ w before element op. refused_ends was.session c.serve.new.self c.args.request c.requires.next.0
+      ends = λ w before element op. refused_ends was.session mid c.args.request c.requires.next.0
           c.requires.next.1 w before element op was.waited.items was.places.marks.items held held was.lines was.lines
-          (command_refused was.session c.serve.new.self (Asks c.args.request) c.serve.result c.serve.ensures.answered
-          c.serve.ensures.put c.in-Err.refusal c.in-Err.is);
+          c.in-Err.ensures.refused;
     }

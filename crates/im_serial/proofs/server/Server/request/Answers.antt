@@ -6,12 +6,12 @@ use Rattle.im_serial.proofs.server.Server.request.Goals as goal
 pub returns-in-Ok-clause-serves : goal.returns-in-Ok-clause-serves
 returns-in-Ok-clause-serves g c =
     let old = c.args.self.now in
-    let mid = c.prepare.new.self in
-    asked_then c.ask_next.result c.args.element c.args.op _ _ _
+    let mid = c.number.new.self in
+    asked_then c.ask.result c.args.element c.args.op _ _ _
     (prepared_goes old.session mid.session old.waited.items mid.waited.items old.places.marks.items
     mid.places.marks.items (g.W.Write.contents c.args.out.now) old.lines mid.lines c.in-Ok.ensures.goes
-    c.prepare.ensures.lines)
-    c.ask_next.ensures.serves
+    c.number.ensures.lines)
+    c.ask.ensures.serves
 
 pub returns-in-Err-clause-serves : goal.returns-in-Err-clause-serves
 returns-in-Err-clause-serves g c = record {
@@ -20,6 +20,6 @@ returns-in-Err-clause-serves g c = record {
     text = going.text;
     over = c.in-Err.ensures.goes start (standing script before (w ∷ rest)) going.text going.serving;
     printed = subst (λ (l : Lines). Prints from (g.W.Write.contents c.args.out.now) l going.text)
-        (sym c.prepare.ensures.lines) going.printed;
+        (sym c.number.ensures.lines) going.printed;
   };
 }

@@ -1,0 +1,8 @@
+//! What an element asks next of a memory: a request with its number, or before it the confirmation of a full window.
+#![tactic(auto)]
+
+mod places;
+mod window_place;
+
+pub use places::next_place;
+pub use window_place::WindowPlace;
