@@ -74,10 +74,8 @@ fn start<
     match read_words(place.rt.alloc(), texts.as_slice()) {
         Ok(line) => {
             let starts = openings.starts(line.wait);
-            let (status, out, disk, old) = work_on::<R, S, T, I, W, Brand>(
-                place, &line, out, input, starts,
-            );
-            (ExitCode::from(status), out, disk, old)
+            let done = work_on::<R, S, T, I, W, Brand>(place, &line, out, input, starts);
+            (ExitCode::from(done.0), done.1, done.2, done.3)
         }
         Err(WordFault::NoMemory) => {
             let status = refuse(place.rt.alloc(), Style::Text, Refusal::NoMemory, &mut out);

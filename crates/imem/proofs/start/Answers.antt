@@ -11,7 +11,7 @@ returns-in-Ok-read_words-clause-ended g c = ended_as _ _ _ _ _ _ _ _ _ _ _ _ _
     (ap (λ (l : List (Bor (List ℕ))). map (λ w. w.now) l) c.as_slice.ensures.value ∙ c.in-Ok.ensures)
     c.from-in-Ok-read_words.ensures
     (ended_by _ _ _ _ _ _ _ _ (map (λ w. w.now) c.as_slice.result.now) c.in-Ok-read_words.line _ _
-    c.in-Ok-read_words.ensures.work c.in-Ok-read_words.ensures.statuses c.work_on-status.ensures.ended)
+    c.in-Ok-read_words.ensures.work c.in-Ok-read_words.ensures.statuses c.work_on-done.ensures.ended)
 
 pub returns-in-Err-NoMemory-clause-ended : goal.returns-in-Err-NoMemory-clause-ended
 returns-in-Err-NoMemory-clause-ended g c = refused_by _ _ _ _ _ _ _ _ (map string_bytes c.args.words.now)
