@@ -1,10 +1,10 @@
 -- What was said over a session, line by line.
-use Rattle.std.proofs.Common.{◌≡◌, ℕ, suc, ◌+◌, ◌≤◌, Bool, true, false, ◌&&◌, List, [], ◌∷◌, ◌++◌, length, take, IfSome}
-use Rattle.std.proofs.Common.{if◌then◌else◌, OnOk, Some, None, Ok, Err, Option, Result, MatchResult, sym, refl, ap, ◌∙◌}
-use Rattle.std.proofs.Common.{subst, ap₂, inl, inr, ⊎_elim, append_assoc, append-nil, arith, length-append}
+use Rattle.std.proofs.Common.{◌≡◌, ℕ, suc, ◌+◌, ◌≤◌, Bool, true, false, ◌&&◌, ◌⊎◌, List, [], ◌∷◌, ◌++◌, length, take}
+use Rattle.std.proofs.Common.{IfSome, if◌then◌else◌, OnOk, Some, None, Ok, Err, Option, Result, MatchResult, sym, refl}
+use Rattle.std.proofs.Common.{ap, ◌∙◌, subst, ap₂, inl, inr, ⊎_elim, append_assoc, append-nil, arith, length-append}
 use Rattle.std.{proofs.KnownBytes.Appends-nil, proofs.KnownBytes.Appends-trans, specs.Io.KnownBytes.Appends}
-use Rattle.im_types.specs.Types.{Command, Outcome, Refusal, JournalFull, Device, MAX_GROUP, Contents, step, is_accepted}
-use Rattle.im_types.specs.Types.{after}
+use Rattle.im_types.specs.Types.{Command, Outcome, Refusal, JournalFull, Device, Failed, MAX_GROUP, Contents, step}
+use Rattle.im_types.specs.Types.{is_accepted, after}
 use Rattle.im_laws.proofs.{RunLemmas.after-append, Tests.true_or_false}
 use Rattle.im_checkpoint.{proofs.Fitting.none_or_some, specs.declared.TurnDone.TurnDone}
 use Rattle.im_engine.{proofs.Accepting.accepted_answers, specs.State.EngineState, specs.State.with_command}
@@ -12,7 +12,7 @@ use Rattle.im_engine.specs.Answered.{Answered, is_device, TurnAnswered}
 use Rattle.{im_turning.proofs.TurningLemmas.turn_leads, im_session.proofs.ServedLemmas.undoubted}
 use Rattle.{im_session.proofs.ServedLemmas.unsure, im_session.specs.Kept.session_of, im_session.specs.Kept.SessionState}
 use Rattle.im_turning.specs.Turning.{HasMadeRoom, IsSpent, Point, point_of, TurnsLead}
-use Rattle.im_session.proofs.RoomLemmas.{rests_none, rests_then, turn_works}
+use Rattle.im_session.proofs.RoomLemmas.{broken, rests_none, rests_then, turn_works}
 use Rattle.im_session.specs.{Put.doubted_by, Put.sure_by, Serving.Rests, Serving.served_one}
 use Rattle.im_text.{proofs.PrintingLemmas.true_false, specs.Printing.Begins}
 use Rattle.im_dialogue.proofs.HearingLemmas.{heard_some, hears_as, hears_none, hears_on, hears_some_on, none_heard}
@@ -22,9 +22,9 @@ use Rattle.im_dialogue.specs.{Asking.asked_of, Backups.Backup, declared.asking.Q
 use Rattle.im_dialogue.specs.declared.answers.LineAnswer.{LineAnswer, TheVariants.Served, TheVariants.Turned}
 use Rattle.im_dialogue.specs.Hearing.{Hears, HearsSome, is_quit, questions_left}
 use Rattle.im_dialogue.specs.Talk.{AnswersQuestion, AreAnswered, AreKept, backup_by, backups_of, Exchange, exchange_at}
-use Rattle.im_dialogue.specs.Talk.{Halts, HasEnded, HasSaid, is_end, IsOutcomeOf, OnlyTurned, Outputs, outputs}
-use Rattle.im_dialogue.specs.Talk.{point_behind, put_by, put_of, questions_of, SaysLine, SaysNow, stands_behind}
-use Rattle.im_dialogue.specs.Talk.{TalkEnds, Talking, TalksOn, texts_of, with_left}
+use Rattle.im_dialogue.specs.Talk.{Halts, HasEnded, HasSaid, IsOutcomeOf, OnlyTurned, Outputs, outputs, point_behind}
+use Rattle.im_dialogue.specs.Talk.{put_by, put_of, questions_of, SaysLine, SaysNow, stands_behind, TalkEnds, Talking}
+use Rattle.im_dialogue.specs.Talk.{TalksOn, texts_of, with_left}
 use Rattle.im_dialogue.specs.declared.asking.Question.TheVariants as asks
 
 -- what an input still asks for, where that is known
@@ -46,17 +46,6 @@ not_quit m n turns here asks.Quit answer it = absurd it
 
 pub ok_no_device : (outcome : Outcome) → (a : Result Outcome Refusal) → a ≡ Ok outcome → a ≡ Err Device → ⊥
 ok_no_device outcome a is e = absurd (cc)
-
--- what doesn't end the dialogue is no failed call
-pub no_device : (refusal : Refusal) (b : Bool) → b ≡ is_end refusal → b ≡ false → (a : Result Outcome Refusal)
-    → a ≡ Err refusal → a ≡ Err Device → ⊥
-no_device refusal b is not a told e = by_refusal refusal (err_same a refusal told e) (sym is ∙ not)
-  where
-    err_same : (a : Result Outcome Refusal) (r : Refusal) → a ≡ Err r → a ≡ Err Device → r ≡ Device
-    err_same a r told e = cc
-
-    by_refusal : (r : Refusal) → r ≡ Device → is_end r ≡ false → ⊥
-    by_refusal r same f = true_false (is_end r) (ap is_end same) f
 
 -- the beginning of a text, and so many bytes of what follows
 take-past : {A : Type 0} (xs ys : List A) (n : ℕ) → take (length xs + n) (xs ++ ys) ≡ xs ++ take n ys
@@ -126,7 +115,8 @@ module _ {D : Type 0} (old new : EngineState D) (c : Command) (a : Result Outcom
         works = ap (λ (s : EngineState D). s.failed) same ∙ f;
       }
 
-  command_said : (a ≡ Err Device → ⊥) → (old.room ≡ 0 → IsSpent (point_of old)) → CommandSaid old new c a
+  command_said : (a ≡ Err Device → new.failed ≡ true → ⊥) → (old.room ≡ 0 → IsSpent (point_of old))
+      → CommandSaid old new c a
   command_said unless spent = ⊎_elim
       (λ accepted. ⊎_elim
       (λ none. let full = it.full f accepted none in
@@ -135,12 +125,47 @@ module _ {D : Type 0} (old new : EngineState D) (c : Command) (a : Result Outcom
       ∙ ap (λ (b : Bool). if b && is_device JournalFull then c ∷ [] else []) accepted) full.1)
       (λ some. ⊎_elim
       (λ done. put_by_it accepted done.0 done.1)
-      (λ fault. absurd (unless fault.0))
+      (λ fault. absurd (unless fault.0 (ap (λ (s : EngineState D). s.failed) fault.1)))
       (it.put f accepted some))
       (none_or_some old.room))
       (λ un. let same = it.unaccepted f un in
       stayed_by (inl same.0) (unsure old.memory c a un) (undoubted old.memory c a un) same.1)
       (true_or_false (is_accepted old.memory c))
+
+-- whether an engine works, as it was looked at
+pub failed_as : {D : Type 0} (seen s : EngineState D) (told is : Bool) → seen ≡ s → told ≡ seen.failed → told ≡ is
+    → s.failed ≡ is
+failed_as {D} seen s told is same looked so = ap (λ (e : EngineState D). e.failed) (sym same) ∙ sym looked ∙ so
+
+-- an engine that works hasn't failed
+pub works_still : {D : Type 0} (s : EngineState D) → s.failed ≡ false → s.failed ≡ true → ⊥
+works_still s works failed = true_false s.failed failed works
+
+-- a command was refused, and the engine doesn't work: a call of the disk failed, now or before
+command_broke : {D : Type 0} (old new : EngineState D) (c : Command) (a : Result Outcome Refusal) → Answered old c a new
+    → (e : Refusal) → a ≡ Err e → new.failed ≡ true → (e ≡ Device) ⊎ (e ≡ Failed)
+command_broke {D} old new c a it e is failed = ⊎_elim
+    (λ dead. inr (err_same a e Failed is (it.dead dead).0))
+    (λ f. ⊎_elim
+    (λ accepted. ⊎_elim
+    (λ none. stays f (it.full f accepted none).1)
+    (λ some. ⊎_elim
+    (λ done. let o = accepted_answers old.memory c accepted in absurd (ok_no_err o.0 e a (done.0 ∙ o.1) is))
+    (λ fault. inl (err_same a e Device is fault.0))
+    (it.put f accepted some))
+    (none_or_some old.room))
+    (λ un. stays f (it.unaccepted f un).1)
+    (true_or_false (is_accepted old.memory c)))
+    (true_or_false old.failed)
+  where
+    err_same : (a : Result Outcome Refusal) (e r : Refusal) → a ≡ Err e → a ≡ Err r → e ≡ r
+    err_same a e r told is = cc
+
+    ok_no_err : (o : Outcome) (e : Refusal) (a : Result Outcome Refusal) → a ≡ Ok o → a ≡ Err e → ⊥
+    ok_no_err o e a told is = absurd (cc)
+
+    stays : old.failed ≡ false → new ≡ old → (e ≡ Device) ⊎ (e ≡ Failed)
+    stays f same = absurd (true_false new.failed failed (ap (λ (s : EngineState D). s.failed) same ∙ f))
 
 -- ---- what was said, and then more
 
@@ -388,7 +413,7 @@ rests_halts {D} old new rests = λ f. record {
 module _ {D : Type 0} (old new : SessionState D) (c : Command) (a : Result Outcome Refusal)
     (it : Answered old.engine c a new.engine) (put : new ≡ served_one old c a new.engine) where
   -- a command was answered
-  pub serve_says : (told : Result Outcome Refusal) → a ≡ told → (a ≡ Err Device → ⊥)
+  pub serve_says : (told : Result Outcome Refusal) → a ≡ told → (a ≡ Err Device → new.engine.failed ≡ true → ⊥)
       → (old.engine.room ≡ 0 → IsSpent (point_of old.engine)) → SaysLine old new (Some (asks.Serve c)) (Served c told)
   serve_says told is unless spent = λ f line name asked.
       let said = command_said old.engine new.engine c a f it unless spent in
@@ -415,6 +440,11 @@ module _ {D : Type 0} (old new : SessionState D) (c : Command) (a : Result Outco
               works = said.works;
             }),
       )
+
+  -- where the engine doesn't work, the refusal says so
+  pub serve_broke : (refusal : Refusal) → a ≡ Err refusal → new.engine.failed ≡ true
+      → ((refusal ≡ Device) ⊎ (refusal ≡ Failed)) × (new.engine.failed ≡ true)
+  serve_broke refusal is failed = (command_broke old.engine new.engine c a it refusal is failed, failed)
 
   -- it was refused, and may be in doubt
   pub serve_halts : (refusal : Refusal) → a ≡ Err refusal → Halts old new
@@ -467,6 +497,12 @@ pub quiet : {D : Type 0} (s : SessionState D) (asked : Option Question) (answer 
     → SaysNow s asked answer
 quiet s asked answer none answers = λ f line name read.
     let rest = nothing_said s f in quiet_said s s rest asked answer none (answers f rest.turns) line name read
+
+-- a turn was refused: a call of the disk failed, now or before
+pub turn_broke : {D : Type 0} (old new : SessionState D) (a : Result TurnDone Refusal) (e : Refusal)
+    → TurnAnswered old.engine a new.engine → a ≡ Err e
+    → ((e ≡ Device) ⊎ (e ≡ Failed)) × (new.engine.failed ≡ true)
+turn_broke old new a e it is = broken old.engine new.engine a e it is
 
 -- a turn that was asked for, and what it did
 pub turn_says : {D : Type 0} (old new : SessionState D) (a : Result TurnDone Refusal) (done : TurnDone) → Rests old new

@@ -3,7 +3,7 @@ ghost use Rattle.std.specs.Prelude.{◌≡◌, ◌≤◌, true, ◌++◌, IfOk, 
 ghost use Rattle.{im_turning.specs.Turning.IsSpent, im_turning.specs.Turning.point_of, im_session.specs.Serving.Rests};
 ghost use Rattle.im_dialogue.specs.declared.asking.Question.TheVariants.{Backup, Count, Room, Serve, Turn, Window};
 ghost use Rattle.im_dialogue.specs.declared.look.Look.{Look};
-ghost use Rattle.im_dialogue.specs.Talk.{about_of, AnswersOrHalts, backup_by, is_end, KeepsAnswered, KeepsNone};
+ghost use Rattle.im_dialogue.specs.Talk.{about_of, AnswersOrHalts, backup_by, BreaksOff, KeepsAnswered, KeepsNone};
 ghost use Rattle.im_dialogue.specs.Talk.{OnlyTurned, SaysNow, SaysOrHalts};
 ghost use Rattle.im_dialogue.specs.declared.answers.LineAnswer.TheVariants as answer;
 
@@ -52,24 +52,18 @@ pub(crate) fn turn_while_quiet<D: Disk, E: Ear>(
     Ok(())
 }
 
-// Returns whether a refusal ends the dialogue, because a call of the disk has failed.
-fn ends(refusal: Refusal) -> bool
-    ensures { result ≡ is_end refusal }
-{
-    matches!(refusal, Refusal::Device | Refusal::Failed)
-}
-
 // Serves a command. If there is no room for it, no turn makes any.
 fn serve<D: Disk>(session: &mut Session<D>, command: Command) -> Result<LineAnswer, Refusal>
     requires spent { session.old.engine.room ≡ 0 → IsSpent (point_of session.old.engine) }
     ensures answered { SaysOrHalts session.old session.new (Some (Serve command)) result }
     ensures same { IfOk result (λ answer. KeepsNone answer) }
+    ensures refused { BreaksOff result session.new }
 {
     // A crash in this call leaves the memory with the command, or without it. It isn't answered yet.
     match session.serve(&command) {
         Ok(outcome) => Ok(LineAnswer::Served(command, Ok(outcome))),
         Err(refusal) => {
-            if ends(refusal) {
+            if session.engine().failed() {
                 Err(refusal)
             } else {
                 Ok(LineAnswer::Served(command, Err(refusal)))
@@ -85,6 +79,7 @@ fn serve_with_room<D: Disk>(
 ) -> Result<LineAnswer, Refusal>
     ensures answered { SaysOrHalts session.old session.new (Some (Serve command)) result }
     ensures same { IfOk result (λ answer. KeepsNone answer) }
+    ensures refused { BreaksOff result session.new }
 {
     match session.make_room(1, &mut Unobserved) {
         Ok(()) => serve(session, command),
@@ -96,6 +91,7 @@ fn serve_with_room<D: Disk>(
 fn turn<D: Disk>(session: &mut Session<D>) -> Result<LineAnswer, Refusal>
     ensures answered { SaysOrHalts session.old session.new (Some Turn) result }
     ensures same { IfOk result (λ answer. KeepsNone answer) }
+    ensures refused { BreaksOff result session.new }
 {
     // A crash in this call leaves the memory as it is.
     match session.turn() {
@@ -187,6 +183,7 @@ pub fn answer<D: Disk, B: Backups>(
     ensures answered { AnswersOrHalts session.old session.new asked result }
     ensures same { (look : Look) → asked ≡ Question.Look look → session.new ≡ session.old }
     ensures kept { KeepsAnswered session.old.engine.memory (B.kept backups.old) (B.kept backups.new) result }
+    ensures refused { BreaksOff result session.new }
 {
     match asked {
         Question::Serve(command) => match serve_with_room(session, command) {

@@ -1,5 +1,5 @@
 use Rattle.std.proofs.Common.{refl}
-use Rattle.im_dialogue.proofs.TalkLemmas.{rests_halts, turn_says}
+use Rattle.im_dialogue.proofs.TalkLemmas.{rests_halts, turn_broke, turn_says}
 use Rattle.im_dialogue.proofs.talk.turn.Goals as goal
 
 pub returns-in-Ok-clause-answered : goal.returns-in-Ok-clause-answered
@@ -11,3 +11,7 @@ returns-in-Err-clause-answered g c = rests_halts c.args.session.now c.turn.new.s
 
 pub returns-in-Ok-clause-same : goal.returns-in-Ok-clause-same
 returns-in-Ok-clause-same g c = λ m. refl
+
+pub returns-in-Err-clause-refused : goal.returns-in-Err-clause-refused
+returns-in-Err-clause-refused g c = turn_broke c.args.session.now c.turn.new.self c.turn.result c.in-Err.refusal
+    c.turn.ensures.answered c.in-Err.is
