@@ -1,14 +1,15 @@
 -- A dialogue from its opening to its end.
-use Rattle.std.proofs.Common.{◌≡◌, ℕ, ◌≤◌, Bool, false, List, [], ◌++◌, length, Option, sym, refl, ap, ◌∙◌, subst, inl}
-use Rattle.std.proofs.Common.{⊎_elim, arith}
-use Rattle.std.{proofs.KnownBytes.Appends-nil, specs.Io.KnownBytes.Appends}
+use Rattle.std.proofs.Common.{◌≡◌, ℕ, ◌≤◌, Bool, false, List, [], ◌++◌, length, Option, sym, ap, ◌∙◌, subst, ⊎_elim}
+use Rattle.std.proofs.Common.{arith}
+use Rattle.std.specs.Io.KnownBytes.{Appends}
 use Rattle.im_types.specs.Types.{Command, MAX_GROUP, layout_in_use, image_length}
 use Rattle.im_disk.proofs.SinceLemmas.{leaves_now, left_now}
 use Rattle.im_disk.specs.{declared.Disk.Ghosts, Moment.Left, Moment.Moment}
 use Rattle.im_disk.specs.Since.{Leaves, LeavesNow, LeavesWithin}
 use Rattle.im_engine.specs.State.{EngineState, MeansState}
 use Rattle.im_session.specs.Kept.{Kept, SessionStart, SessionState, start_at}
-use Rattle.im_text.{proofs.PrintingLemmas.take-all, specs.Printing.Begins, specs.Printing.IsLast}
+use Rattle.im_text.proofs.{PrintingLemmas.take-all, SaidLemmas.nothing_said}
+use Rattle.im_text.specs.{declared.Style.TheVariants.Text, Said.output, Said.SaysLast}
 use Rattle.im_dialogue.proofs.HearingLemmas.{heard_all, heard_not_all}
 use Rattle.im_dialogue.specs.{Backups.Backup, Hearing.asked_after}
 use Rattle.im_dialogue.specs.Dialogue.{BeginsNow, BeginsTalk, TalkClosed, Talked, WasOpened}
@@ -94,7 +95,7 @@ module _ {D : Type 0} (disk : Ghosts D) (watch : Bool) (first last : SessionStat
             length (texts_of watch first.engine.memory it.said),
             subst (Appends was.text is.text) (sym (take-all (texts_of watch first.engine.memory it.said))) it.printed,
           ),
-          ([], (inl refl, (0, Appends-nil is.text))),
+          nothing_said (output Text is.text),
         );
         whole = λ zero. (sure, it.printed);
         backups = it.backups;
@@ -104,7 +105,7 @@ module _ {D : Type 0} (disk : Ghosts D) (watch : Bool) (first last : SessionStat
   -- it was ended, and no more than a refusal printed then
   pub closed_by : (mid is : Option (List ℕ)) (backups : List Backup)
       → TalkEnds watch first was last (outputs mid backups)
-      → (end : List ℕ) × (IsLast end × Begins mid is end) → status ≡ 1
+      → SaysLast (output Text mid) is → status ≡ 1
       → TalkClosed disk watch first.engine new was (outputs is backups) status
   closed_by mid is backups ends end refused =
       let it = ends works in

@@ -1,7 +1,7 @@
 -- What was said by a group of lines.
 use Rattle.std.proofs.Common.{◌≡◌, ℕ, zero, suc, ◌+◌, ◌-◌, ◌<◌, ◌≤◌, Bool, true, false, ◌&&◌, List, [], ◌∷◌, ◌++◌}
-use Rattle.std.proofs.Common.{length, if◌then◌else◌, nat_lt, ◌==◌, Some, Ok, Err, Option, Result, sym, refl, ap, ◌∙◌}
-use Rattle.std.proofs.Common.{subst, ap₂, inl, ⊎_elim, append-nil, arith, length-append}
+use Rattle.std.proofs.Common.{length, if◌then◌else◌, nat_lt, ◌==◌, Some, Err, Option, Result, sym, refl, ap, ◌∙◌, subst}
+use Rattle.std.proofs.Common.{ap₂, inl, inr, ⊎_elim, append-nil, arith, length-append}
 use Rattle.std.{proofs.KnownBytes.Appends-nil, proofs.lemmas.Bool.Decides.nat_tests, specs.Io.KnownBytes.Appends}
 use Rattle.im_types.specs.Types.{Command, Outcome, Served, Refusal, JournalFull, MAX_GROUP, LAST, Contents, step}
 use Rattle.im_types.specs.Types.{is_accepted, after}
@@ -11,7 +11,7 @@ use Rattle.{im_groups.proofs.EnoughLemmas.at_most_members, im_engine.specs.State
 use Rattle.im_groups.specs.Commands.{answer_with, command_at, commands_at, contents_after_all, contents_with}
 use Rattle.im_groups.specs.Commands.{left_after, places, places_behind, takes_place}
 use Rattle.im_engine.specs.Commands.{after_commands, answers_in_turn, commands_put, CommandsAnswered}
-use Rattle.im_turning.specs.Turning.{Point, point_of, TurnsLead, with_one}
+use Rattle.im_turning.specs.Turning.{IsSpent, Point, point_of, TurnsLead, with_one}
 use Rattle.im_session.{proofs.GroupLemmas.one_command, specs.Put.doubted_of, specs.Put.sure_by, specs.Put.sure_of}
 use Rattle.im_session.specs.{Kept.session_of, Kept.SessionState, Serving.served_together}
 use Rattle.im_text.{proofs.PrintingLemmas.true_false, specs.Printing.Begins}
@@ -19,11 +19,10 @@ use Rattle.im_dialogue.proofs.{ReachLemmas.contents_behind, TalkLemmas.ended_her
 use Rattle.im_dialogue.specs.{Answers.answer_text, Asking.asked_of, Backups.Backup, declared.asking.Question.Question}
 use Rattle.im_dialogue.specs.{Hearing.Hears, Hearing.HearsSome, Telling.SaysAll, Watching.watch_text}
 use Rattle.im_dialogue.specs.declared.answers.LineAnswer.{LineAnswer, TheVariants.Served as ServedAs}
-use Rattle.im_dialogue.specs.Talk.{AnswersQuestion, backups_of, Exchange, exchange_at, Halts, HasSaid, IsOutcomeOf}
-use Rattle.im_dialogue.specs.Talk.{outputs, point_behind, put_of, questions_of, stands_behind, TalkEnds, TalksOn}
-use Rattle.im_dialogue.specs.Talk.{texts_of, with_left}
-use Rattle.im_dialogue.specs.Together.{group_start, GroupStart, IsKnownBehind, memory_between, places_between}
-use Rattle.im_dialogue.specs.Together.{point_between}
+use Rattle.im_dialogue.specs.Talk.{AnswersQuestion, Exchange, exchange_at, Halts, HasSaid, IsOutcomeOf, outputs}
+use Rattle.im_dialogue.specs.Talk.{point_behind, put_of, questions_of, stands_behind, TalkEnds, TalksOn, texts_of}
+use Rattle.im_dialogue.specs.Talk.{with_left}
+use Rattle.im_dialogue.specs.Together.{group_start, GroupStart, memory_between, places_between, point_between}
 use Rattle.im_dialogue.specs.declared.asking.Question.TheVariants as asks
 
 second : (a b : Bool) → (a && b) ≡ true → b ≡ true
@@ -32,11 +31,16 @@ second false b is = absurd (true_false false is refl)
 
 -- ---- one member
 
-of_one : (m : Contents) (p : Point) (c : Command) (b z : Bool) → z ≡ false
-    → IsOutcomeOf m p c (if b && z then Err JournalFull else (step m c).answer)
-of_one m p c false z some = inl refl
-of_one m p c true true some = absurd (true_false true refl some)
-of_one m p c true false some = inl refl
+of_one : (m : Contents) (p : Point) (c : Command) (b : Bool) (left : ℕ) → is_accepted m c ≡ b
+    → (left ≡ 0 → (p.room ≡ 0) × IsSpent p)
+    → IsOutcomeOf m p c (if b && (left == 0) then Err JournalFull else (step m c).answer)
+of_one m p c false left is full = inl refl
+of_one m p c true left is full = by_test (left == 0) refl
+  where
+    by_test : (z : Bool) → (left == 0) ≡ z
+        → IsOutcomeOf m p c (if true && z then Err JournalFull else (step m c).answer)
+    by_test true e = let none : left ≡ 0 = grind (arith, nat_tests, e) in inr (is, (refl, full none))
+    by_test false e = inl refl
 
 -- ---- where the engine stands behind members
 
@@ -106,30 +110,6 @@ left_and_put m left (c ∷ cs) = by_test (takes_place m left c) refl
         let none = ap (λ (b : Bool). if b then left - 1 else left) is in
         omega (arith, all, none)
 
--- the room behind commands, at the last count and below it
-room_of : (k : ℕ) (p : Point) → suc k ≤ LAST - p.count
-    → (point_behind (suc k) p).room ≡ (if p.count + suc k == LAST then 0 else p.room - suc k)
-room_of k p low = ap (λ (q : Point). q.room) (moved_all k p low)
-
-pub room_at_last : (put : ℕ) (p : Point) → (put ≡ 0 → ⊥) → put ≤ LAST - p.count → p.count + put ≡ LAST
-    → 0 ≡ (point_behind put p).room
-room_at_last zero p some low last = absurd (some refl)
-room_at_last (suc k) p some low last = sym (room_of k p low
-    ∙ ap (λ (b : Bool). if b then 0 else p.room - suc k) there)
-  where
-    there : (p.count + suc k == LAST) ≡ true
-    there = grind (arith, nat_tests, last)
-
-pub room_below_last : (put : ℕ) (p : Point) → (put ≡ 0 → ⊥) → put ≤ LAST - p.count → (p.count + put ≡ LAST → ⊥)
-    → p.room - put ≡ (point_behind put p).room
-room_below_last zero p some low below = absurd (some refl)
-room_below_last (suc k) p some low below = sym (room_of k p low
-    ∙ ap (λ (b : Bool). if b then 0 else p.room - suc k) (not_there (p.count + suc k == LAST) refl))
-  where
-    not_there : (b : Bool) → (p.count + suc k == LAST) ≡ b → b ≡ false
-    not_there false is = refl
-    not_there true is = let same : p.count + suc k ≡ LAST = grind (arith, nat_tests, is) in absurd (below same)
-
 -- ---- what was said of a group, by the memory that it comes to
 
 module _ (watch : Bool) (b : GroupStart) where
@@ -173,7 +153,8 @@ module _ (watch : Bool) (b : GroupStart) where
         ∙ sym is
 
     module _ (c : Command) (asked : asked_of line ≡ Some (asks.Serve c))
-        (some : (places_between b ahead == 0) ≡ false) where
+        (full : places_between b ahead ≡ 0
+        → ((point_between b ahead).room ≡ 0) × IsSpent (point_between b ahead)) where
       abbrev answered_so : Result Outcome Refusal
       answered_so = answer_with (memory_between b ahead) (places_between b ahead) c
 
@@ -206,7 +187,7 @@ module _ (watch : Bool) (b : GroupStart) where
                   refl,
                   subst (λ (m : Contents). IsOutcomeOf m (point_between b ahead) c answered_so) told.memory
                       (of_one (memory_between b ahead) (point_between b ahead) c
-                      (is_accepted (memory_between b ahead) c) (places_between b ahead == 0) some),
+                      (is_accepted (memory_between b ahead) c) (places_between b ahead) refl full),
                 ),
             (told.lead, told.answered),
           ),
@@ -226,39 +207,6 @@ module _ (watch : Bool) (b : GroupStart) where
         backups = told.backups;
         asks = asks_on (ServedAs c answered_so) (Some (asks.Serve c)) asked;
       }
-
-    pub told_shown : (asked : Question) (answer : LineAnswer) → asked_of line ≡ Some asked
-        → IsKnownBehind b ahead asked answer
-        → (more : List ℕ) → more ≡ text ++ (answer_text name (memory_between b ahead) answer
-        ++ watch_text watch (memory_between b ahead) answer)
-        → SaysAll watch b ahead more (qs ++ Some asked ∷ [])
-    told_shown asked answer read shown more is =
-        let same : put_of b.memory (exchange answer ∷ told.said) ≡ put_of b.memory told.said
-        = ap (λ (l : List Command). put_of b.memory told.said ++ l) (shown.puts here)
-        ∙ append-nil (put_of b.memory told.said) in
-        record {
-          said = exchange answer ∷ told.said;
-          answered = (
-            told.turns,
-            (
-              subst (λ (o : Option Question). AnswersQuestion here (b.point.count + length (put_of b.memory told.said))
-                  told.turns (point_between b ahead) o answer) (sym read)
-                  (subst (λ (m : Contents). AnswersQuestion m (b.point.count + length (put_of b.memory told.said))
-                  told.turns (point_between b ahead) (Some asked) answer) told.memory
-                  (subst (λ (l : List Command). AnswersQuestion (memory_between b ahead) (b.point.count + length l)
-                  told.turns (point_between b ahead) (Some asked) answer) (sym told.put)
-                  (shown.answers told.turns))),
-              (told.lead, told.answered),
-            ),
-          );
-          turns = [];
-          lead = sym (ap (λ (l : List Command). point_behind (length l) (point_between b ahead)) (shown.puts here));
-          memory = told.memory ∙ ap (λ (l : List Command). after b.memory l) (sym same);
-          put = same ∙ told.put;
-          texts = texts_on answer more is;
-          backups = ap (λ (l : List Backup). l ++ backups_of b.memory told.said) (shown.keeps here) ∙ told.backups;
-          asks = asks_on answer (Some asked) read;
-        }
 
 -- ---- a group that was served
 

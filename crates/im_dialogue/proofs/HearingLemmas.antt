@@ -1,21 +1,18 @@
 -- What the lines of an input ask for, and what of it was heard.
 use Rattle.std.proofs.Common.{◌≡◌, ℕ, zero, suc, ◌+◌, ◌-◌, ◌<◌, ◌≤◌, Bool, true, false, ◌&&◌, List, [], ◌∷◌, ◌++◌, map}
-use Rattle.std.proofs.Common.{length, get_or, take, drop, IfSome, IfOk, if◌then◌else◌, OnOk, nat_lt, nat_le, ◌==◌}
-use Rattle.std.proofs.Common.{slice_index, Some, None, Ok, Err, Option, Result, option_map, sym, refl, ap, ◌∙◌, subst}
-use Rattle.std.proofs.Common.{append_assoc, append-nil, arith, length-append, take-append-drop, length-take-le}
-use Rattle.std.proofs.Common.{take_all}
-use Rattle.std.proofs.{KnownBytes.Consumes-kept, KnownBytes.Consumes-nil, lemmas.Bool.Decides.nat_tests}
-use Rattle.std.proofs.lemmas.List.{drop_more, Elements.All-append, Elements.All-nil, take-append-le}
+use Rattle.std.proofs.Common.{length, get_or, take, drop, IfSome, if◌then◌else◌, OnOk, nat_lt, nat_le, ◌==◌, Some, None}
+use Rattle.std.proofs.Common.{Ok, Err, Option, Result, option_map, sym, refl, ap, ◌∙◌, subst, append_assoc, append-nil}
+use Rattle.std.proofs.Common.{arith, take-append-drop, length-take-le, take_all}
+use Rattle.std.proofs.KnownBytes.{Consumes-kept, Consumes-nil}
+use Rattle.std.proofs.lemmas.{Bool.Decides.nat_tests, List.drop_more, List.Elements.All-append, List.Elements.All-nil}
 use Rattle.std.proofs.lemmas.List.Splits.{length-slice_split, slice_split_at, slice_split_none}
-use Rattle.std.specs.{Char.is_ascii, List.list_all}
-use Rattle.std.specs.Io.{BufRead.DropsConsumable, KnownBytes.Consumes, KnownBytes.IsAtEnd, KnownBytes.Keeps, StartsWith}
+use Rattle.std.specs.{Char.is_ascii, Io.KnownBytes.Consumes, Io.KnownBytes.IsAtEnd, Io.KnownBytes.Keeps, List.list_all}
 use Rattle.im_script.specs.{Grammar.words_of, Script.lines_of}
 use Rattle.im_dialogue.specs.Asking.{asked_in, asked_of}
 use Rattle.im_dialogue.specs.declared.{asking.Question.Question, line_part.LinePart.LinePart, lines.TheConstants.KEPT}
-use Rattle.im_dialogue.specs.Hearing.{AreLines, as_asked, asked_after, asking, but_last, end_at, EndLines, EndsHere}
-use Rattle.im_dialogue.specs.Hearing.{HasReadPart, Hears, HearsAll, HearsSome, is_quit, IsLinePart, left_at}
-use Rattle.im_dialogue.specs.Hearing.{left_behind, questions_in, questions_left, ReadsLine, ReadsMore, ReadsPart}
-use Rattle.im_dialogue.specs.Hearing.{ShowsText, StandsIn, TakesLine, until_quit}
+use Rattle.im_dialogue.specs.Hearing.{asked_after, asking, but_last, HasReadPart, Hears, HearsAll, HearsSome, is_quit}
+use Rattle.im_dialogue.specs.Hearing.{IsLinePart, left_behind, questions_in, questions_left, ReadsLine, ReadsMore}
+use Rattle.im_dialogue.specs.Hearing.{ReadsPart, until_quit}
 use Rattle.im_dialogue.specs.declared.line_part.LinePart.TheVariants as piece
 
 -- ---- what was heard
@@ -94,83 +91,6 @@ pub hears_quit : (asked : Option Question) (rest : Left) → is_quit asked ≡ t
 hears_quit asked None ends = tt
 hears_quit asked (Some others) ends =
     sym (ap (λ (b : Bool). Some (if b then [] else asked ∷ until_quit others)) ends)
-
--- the first of what a group asks for
-pub take_asked : (k : ℕ) (xs : List Question) → as_asked (take k xs) ≡ take k (as_asked xs)
-take_asked zero xs = refl
-take_asked (suc k) [] = refl
-take_asked (suc k) (x ∷ xs) = ap (λ (l : List (Option Question)). Some x ∷ l) (take_asked k xs)
-
-length_asked : (xs : List Question) → length (as_asked xs) ≡ length xs
-length_asked [] = refl
-length_asked (x ∷ xs) = ap (λ (n : ℕ). suc n) (length_asked xs)
-
-front_twice : (k m : ℕ) (xs : List (Option Question)) → k ≤ length (take m xs) → take k (take m xs) ≡ take k xs
-front_twice zero m xs few = refl
-front_twice (suc k) zero xs few = absurd (omega (arith, few))
-front_twice (suc k) (suc m) [] few = refl
-front_twice (suc k) (suc m) (x ∷ xs) few = ap (λ (l : List (Option Question)). x ∷ l) (front_twice k m xs (omega (arith, few)))
-
-front_length : (m : ℕ) (xs : List (Option Question)) → length (take m xs) ≤ length xs
-front_length zero xs = omega arith
-front_length (suc m) [] = omega arith
-front_length (suc m) (x ∷ xs) = let rest = front_length m xs in omega (arith, rest)
-
--- the same, of another name for what is asked
-pub asks_same : (parts : List (Option Question)) (asked others : List Question) (m : ℕ) → asked ≡ others
-    → parts ≡ take m (as_asked asked) → parts ≡ take m (as_asked others)
-asks_same parts asked others m same is = is ∙ ap (λ (l : List Question). take m (as_asked l)) same
-
--- so many parts of a group are so many of what is asked
-pub front_few : {P E : Type 0} (r : Result ℕ E) (asked : List Question) (f : P → Option Question) (parts : List P)
-    (m : ℕ) → map f parts ≡ take m (as_asked asked) → IfOk r (λ many. many ≤ length parts)
-    → IfOk r (λ many. many ≤ length asked)
-front_few (Ok many) asked f parts m is few =
-    let same = ap (λ (l : List (Option Question)). length l) is in
-    let long = front_length m (as_asked asked) in
-    let count = length_asked asked in
-    let all = map_length f parts in
-    omega (arith, few, same, long, count, all)
-  where
-    map_length : {X Y : Type 0} (f : X → Y) (xs : List X) → length (map f xs) ≡ length xs
-    map_length f [] = refl
-    map_length f (x ∷ xs) = ap (λ (n : ℕ). suc n) (map_length f xs)
-front_few (Err e) asked f parts m is few = tt
-
--- one more was taken into a group, or none
-pub taken_more : (asked : List Question) (i : ℕ) (d : Question) (old new : List (Option Question)) (taken : Bool)
-    → i < length asked → old ≡ take i (as_asked asked)
-    → new ≡ old ++ (if taken then Some (get_or asked i d) ∷ [] else []) → taken ≡ true
-    → new ≡ take (i + 1) (as_asked asked)
-taken_more asked i d old new taken inside before is was =
-    is ∙ ap (λ (b : Bool). old ++ (if b then Some (get_or asked i d) ∷ [] else [])) was
-    ∙ ap (λ (l : List (Option Question)). l ++ Some (get_or asked i d) ∷ []) before ∙ next i asked inside
-    ∙ ap (λ (n : ℕ). take n (as_asked asked)) more
-  where
-    more : suc i ≡ i + 1
-    more = omega arith
-
-    next : (i : ℕ) (xs : List Question) → i < length xs
-        → take i (as_asked xs) ++ Some (get_or xs i d) ∷ [] ≡ take (suc i) (as_asked xs)
-    next i [] within = absurd (omega (arith, within))
-    next zero (x ∷ xs) within = refl
-    next (suc i) (x ∷ xs) within = ap (λ (l : List (Option Question)). Some x ∷ l) (next i xs (omega (arith, within)))
-
-pub taken_still : (asked : Question) (old new : List (Option Question)) (taken : Bool)
-    → new ≡ old ++ (if taken then Some asked ∷ [] else []) → taken ≡ false → new ≡ old
-taken_still asked old new taken is wasnt =
-    is ∙ ap (λ (b : Bool). old ++ (if b then Some asked ∷ [] else [])) wasnt ∙ append-nil old
-
--- a group asks for the first of what is asked
-pub hears_front : (before : Left) (later : ℕ → Left) (asked parts : List (Option Question)) (m : ℕ)
-    → parts ≡ take m asked → ((k : ℕ) → k ≤ length asked → Hears before (later k) (take k asked))
-    → (k : ℕ) → k ≤ length parts → Hears before (later k) (take k parts)
-hears_front before later asked parts m is hears k few =
-    let within : k ≤ length (take m asked) = subst (λ (l : List (Option Question)). k ≤ length l) is few in
-    let long = front_length m asked in
-    subst (λ (l : List (Option Question)). Hears before (later k) l)
-    (sym (ap (λ (l : List (Option Question)). take k l) is ∙ front_twice k m asked within))
-    (hears k (omega (arith, within, long)))
 
 -- ---- whole lines
 
@@ -353,254 +273,17 @@ asked_line (Some bytes) b line (rest, there, is) =
     ∙ ap (λ (l : List (Option Question)). Some (until_quit l)) (sym is)
 
 pub asked_nothing : (a b : Option (List ℕ)) (line : List ℕ) → ReadsLine false a b line
-    → IfSome (questions_left a) (λ l. asked_after 0 b ≡ Some l)
+    → IfSome (questions_left a) (λ l. left_behind false (option_map questions_in b) ≡ Some l)
 asked_nothing None b line it = tt
 asked_nothing (Some bytes) b line (rest, there, is) =
-    ap (λ (o : Option (List ℕ)). asked_after 0 o) there
+    ap (λ (o : Option (List ℕ)). left_behind false (option_map questions_in o)) there
     ∙ ap (λ (l : List (Option Question)). Some (until_quit l)) (sym is)
 
 -- what is left, by whether the dialogue continues
-pub left_one : (b : Option (List ℕ)) → left_behind true (option_map questions_in b) ≡ asked_after 1 b
-left_one None = refl
-left_one (Some bytes) = refl
+pub left_goes : (b : Option (List ℕ)) → left_behind true (option_map questions_in b) ≡ questions_left b
+left_goes None = refl
+left_goes (Some bytes) = refl
 
 pub left_zero : (b : Option (List ℕ)) → left_behind false (option_map questions_in b) ≡ asked_after 0 b
 left_zero None = refl
 left_zero (Some bytes) = refl
-
-pub left_some : (many : ℕ) (b : Option (List ℕ)) → (many ≡ 0 → ⊥) → asked_after many b ≡ questions_left b
-left_some many None some = refl
-left_some many (Some bytes) some =
-    ap (λ (b : Bool). Some (if b then [] else until_quit (questions_in bytes))) nonzero
-  where
-    nonzero : (many == 0) ≡ false
-    nonzero = grind (arith, nat_tests, some)
-
--- ---- lines in a reader's buffer
-
-lines_none : AreLines [] []
-lines_none text = refl
-
--- a line more
-line_asks : (line : List ℕ) (found : Question) → IsLinePart line → asked_of line ≡ Some found
-    → is_quit (Some found) ≡ false → AreLines (line ++ 10 ∷ []) (Some found ∷ [])
-line_asks line found part asks goes text =
-    ap (λ (l : List ℕ). until_quit (questions_in l)) (append_assoc line (10 ∷ []) text)
-    ∙ ap until_quit (line_first line text part ∙ ap (λ (o : Option Question). o ∷ questions_in text) asks)
-    ∙ ap (λ (b : Bool). if b then [] else Some found ∷ until_quit (questions_in text)) goes
-
-lines_on : (a b : List ℕ) (xs ys : List (Option Question)) → AreLines a xs → AreLines b ys → AreLines (a ++ b) (xs ++ ys)
-lines_on a b xs ys one other text =
-    ap (λ (l : List ℕ). until_quit (questions_in l)) (append_assoc a b text) ∙ one (b ++ text)
-    ∙ ap (λ (l : List (Option Question)). xs ++ l) (other text)
-    ∙ sym (append_assoc xs ys (until_quit (questions_in text)))
-
--- where lines end
-end_same : (ends : List ℕ) (more : List ℕ) (k : ℕ) → k ≤ length ends → end_at (ends ++ more) k ≡ end_at ends k
-end_same ends more zero few = refl
-end_same ends more (suc k) few =
-    let before : suc k - 1 ≡ k = omega arith in
-    let inside : k < length ends = omega (arith, few) in
-    ap (λ (n : ℕ). if suc k == 0 then 0 else slice_index (ends ++ more) n) before
-    ∙ ap (λ (n : ℕ). if suc k == 0 then 0 else n) (front_index ends more k inside)
-    ∙ sym (ap (λ (n : ℕ). if suc k == 0 then 0 else slice_index ends n) before)
-  where
-    front_index : (xs ys : List ℕ) (i : ℕ) → i < length xs → slice_index (xs ++ ys) i ≡ slice_index xs i
-    front_index [] ys i within = absurd (omega (arith, within))
-    front_index (x ∷ xs) ys zero within = refl
-    front_index (x ∷ xs) ys (suc i) within = front_index xs ys i (omega (arith, within))
-
-end_new : (ends : List ℕ) (end k : ℕ) → k ≡ length ends → end_at (ends ++ end ∷ []) (k + 1) ≡ end
-end_new ends end k is =
-    let some : (k + 1 == 0) ≡ false = grind (arith, nat_tests) in
-    let there : (k + 1) - 1 ≡ length ends = omega (arith, is) in
-    ap (λ (b : Bool). if b then 0 else slice_index (ends ++ end ∷ []) ((k + 1) - 1)) some
-    ∙ ap (λ (n : ℕ). slice_index (ends ++ end ∷ []) n) there ∙ last_index ends
-  where
-    last_index : (xs : List ℕ) → slice_index (xs ++ end ∷ []) (length xs) ≡ end
-    last_index [] = refl
-    last_index (x ∷ xs) = last_index xs
-
-take_front : (xs ys : List ℕ) → take (length xs) (xs ++ ys) ≡ xs
-take_front [] ys = refl
-take_front (x ∷ xs) ys = ap (λ (l : List ℕ). x ∷ l) (take_front xs ys)
-
--- no line is taken yet
-pub stands_none : (text : List ℕ) (asked : List Question) (ends : List ℕ) → asked ≡ [] → ends ≡ []
-    → StandsIn text asked ends × EndsHere text asked ends text
-stands_none text asked ends no_asked no_ends =
-    subst (λ (l : List Question). StandsIn text l ends × EndsHere text l ends text) (sym no_asked)
-    (subst (λ (l : List ℕ). StandsIn text [] l × EndsHere text [] l text) (sym no_ends) (
-      record {
-        many = refl;
-        each = none;
-      },
-      (omega arith, refl),
-    ))
-  where
-    none : (k : ℕ) → k ≤ 0 → EndLines text (end_at [] k) (as_asked (take k []))
-    none zero few = (omega arith, lines_none)
-    none (suc k) few = absurd (omega (arith, few))
-
--- one line more
-module _ (text : List ℕ) (asked : List Question) (ends : List ℕ) (rest line later : List ℕ) (found : Question)
-    (stands : StandsIn text asked ends) (here : EndsHere text asked ends rest) (is : rest ≡ line ++ 10 ∷ later)
-    (part : IsLinePart line) (asks : asked_of line ≡ Some found) (goes : is_quit (Some found) ≡ false) where
-  abbrev start : ℕ
-  start = end_at ends (length asked)
-
-  abbrev end : ℕ
-  end = length text - length later
-
-  abbrev more : List Question
-  more = asked ++ found ∷ []
-
-  abbrev front : List ℕ
-  front = take start text
-
-  text_is : text ≡ (front ++ (line ++ 10 ∷ [])) ++ later
-  text_is = here.1 ∙ ap (λ (l : List ℕ). front ++ l) (is ∙ sym (append_assoc line (10 ∷ []) later))
-      ∙ sym (append_assoc front (line ++ 10 ∷ []) later)
-
-  front_end : length (front ++ (line ++ 10 ∷ [])) ≡ end
-  front_end =
-      let whole = ap (λ (l : List ℕ). length l) text_is ∙ length-append (front ++ (line ++ 10 ∷ [])) later in
-      omega (arith, whole)
-
-  taken : take end text ≡ front ++ (line ++ 10 ∷ [])
-  taken = ap (λ (n : ℕ). take n text) (sym front_end)
-      ∙ ap (λ (l : List ℕ). take (length (front ++ (line ++ 10 ∷ []))) l) text_is
-      ∙ take_front (front ++ (line ++ 10 ∷ [])) later
-
-  abbrev ends_now : List ℕ
-  ends_now = ends ++ end ∷ []
-
-  count : length more ≡ length asked + 1
-  count = length-append asked (found ∷ [])
-
-  new_end : end_at ends_now (length asked + 1) ≡ end
-  new_end = end_new ends end (length asked) (sym stands.many)
-
-  before : (k : ℕ) → k ≤ length asked → EndLines text (end_at ends_now k) (as_asked (take k more))
-  before k few =
-      let old = stands.each k few in
-      let same : end_at ends_now k ≡ end_at ends k = end_same ends (end ∷ []) k (omega (arith, few, stands.many)) in
-      let front_same : take k more ≡ take k asked = take-append-le k asked (found ∷ []) few in
-      subst (λ (n : ℕ). EndLines text n (as_asked (take k more))) (sym same)
-      (subst (λ (l : List Question). EndLines text (end_at ends k) (as_asked l)) (sym front_same) old)
-
-  last : EndLines text (end_at ends_now (length asked + 1)) (as_asked (take (length asked + 1) more))
-  last =
-      let all : take (length asked + 1) more ≡ more = take_all (length asked + 1) more (omega (arith, count)) in
-      let old = stands.each (length asked) (omega arith) in
-      let first : as_asked (take (length asked) asked) ≡ as_asked asked
-      = ap as_asked (take_all (length asked) asked (omega arith)) in
-      let asks_all : as_asked asked ++ Some found ∷ [] ≡ as_asked more = pushed asked in
-      subst (λ (n : ℕ). EndLines text n (as_asked (take (length asked + 1) more))) (sym new_end)
-      (subst (λ (l : List Question). EndLines text end (as_asked l)) (sym all)
-      (subst (λ (l : List (Option Question)). EndLines text end l) asks_all (
-        omega arith,
-        subst (λ (l : List ℕ). AreLines l (as_asked asked ++ Some found ∷ [])) (sym taken)
-            (lines_on front (line ++ 10 ∷ []) (as_asked asked) (Some found ∷ [])
-            (subst (λ (l : List (Option Question)). AreLines front l) first old.1)
-            (line_asks line found part asks goes)),
-      )))
-    where
-      pushed : (xs : List Question) → as_asked xs ++ Some found ∷ [] ≡ as_asked (xs ++ found ∷ [])
-      pushed [] = refl
-      pushed (x ∷ xs) = ap (λ (l : List (Option Question)). Some x ∷ l) (pushed xs)
-
-  each : (k : ℕ) → k ≤ length more → EndLines text (end_at ends_now k) (as_asked (take k more))
-  each k few = by_test (nat_le k (length asked)) refl
-    where
-      by_test : (b : Bool) → nat_le k (length asked) ≡ b → EndLines text (end_at ends_now k) (as_asked (take k more))
-      by_test true is = before k (grind (arith, nat_tests, is))
-      by_test false is =
-          let past : length asked < k = grind (arith, nat_tests, is) in
-          let same : length asked + 1 ≡ k = omega (arith, past, few, count) in
-          subst (λ (n : ℕ). EndLines text (end_at ends_now n) (as_asked (take n more))) same last
-
-  pub stands_more : StandsIn text more ends_now × EndsHere text more ends_now later
-  stands_more = (
-    record {
-      many = length-append ends (end ∷ []) ∙ ap (λ (n : ℕ). n + 1) stands.many ∙ sym count;
-      each = each;
-    },
-    subst (λ (n : ℕ). (end_at ends_now n + length later ≡ length text) × (text ≡ take (end_at ends_now n) text ++ later))
-        (sym count)
-        (subst (λ (n : ℕ). (n + length later ≡ length text) × (text ≡ take n text ++ later)) (sym new_end) (
-          omega (
-            arith,
-            ap (λ (l : List ℕ). length l) text_is,
-            length-append (front ++ (line ++ 10 ∷ [])) later,
-          ),
-          text_is ∙ ap (λ (l : List ℕ). l ++ later) (sym taken),
-        )),
-  )
-
--- the same, as it is taken
-pub stands_with : (text : List ℕ) (asked : List Question) (ends rest line later : List ℕ) (now : List Question)
-    (ends_now : List ℕ) → StandsIn text asked ends → EndsHere text asked ends rest → rest ≡ line ++ 10 ∷ later
-    → IsLinePart line → TakesLine line asked now true → ends_now ≡ ends ++ (length text - length later) ∷ []
-    → StandsIn text now ends_now × EndsHere text now ends_now later × (length later ≤ length text)
-stands_with text asked ends rest line later now ends_now stands here is part takes ends_are =
-    let more = stands_more text asked ends rest line later takes.0 stands here is part takes.2 takes.3 in
-    let both = subst (λ (l : List Question). StandsIn text l (ends ++ (length text - length later) ∷ [])
-    × EndsHere text l (ends ++ (length text - length later) ∷ []) later) (sym takes.1) more in
-    let all = subst (λ (l : List ℕ). StandsIn text now l × EndsHere text now l later) (sym ends_are) both in
-    (all.0, all.1, omega (arith, all.1.0))
-
--- ---- what is taken from a reader
-
-short : (n : ℕ) (shown all : List ℕ) → n ≤ length shown → StartsWith all shown → take n all ≡ take n shown
-short n shown all few starts = sym (take_take n (length shown) all few) ∙ ap (λ (l : List ℕ). take n l) starts
-  where
-    take_take : (n m : ℕ) (xs : List ℕ) → n ≤ m → take n (take m xs) ≡ take n xs
-    take_take zero m xs few = refl
-    take_take (suc n) zero xs few = absurd (omega (arith, few))
-    take_take (suc n) (suc m) [] few = refl
-    take_take (suc n) (suc m) (x ∷ xs) few = ap (λ (l : List ℕ). x ∷ l) (take_take n m xs (omega (arith, few)))
-
--- nothing is shown
-pub shows_nothing : (a b : Option (List ℕ)) (most : Option ℕ) → Keeps a b → ShowsText a b most []
-shows_nothing None b most kept = record { front = tt; kept = kept; fits = tt }
-shows_nothing (Some x) b None kept = record { front = refl; kept = kept; fits = tt }
-shows_nothing (Some x) b (Some n) kept = record { front = refl; kept = kept; fits = omega arith }
-
--- what is asked by the first lines that stand in a buffer
-pub queue_hears : (a b : Option (List ℕ)) (most : Option ℕ) (text : List ℕ) (asked : List Question) (ends : List ℕ)
-    → StandsIn text asked ends → ShowsText a b most text → (k : ℕ) → k ≤ length (as_asked asked)
-    → Hears (questions_left a) (left_at ends a k) (take k (as_asked asked))
-queue_hears None b most text asked ends stands shows k few = tt
-queue_hears (Some x) b most text asked ends stands shows k few =
-    let within : k ≤ length asked = omega (arith, few, length_asked asked) in
-    let it = stands.each k within in
-    let n = end_at ends k in
-    let lines : AreLines (take n x) (as_asked (take k asked))
-    = subst (λ (l : List ℕ). AreLines l (as_asked (take k asked))) (sym (short n text x it.0 shows.front)) it.1 in
-    ap (λ (l : List ℕ). until_quit (questions_in l)) (sym (take-append-drop n x)) ∙ lines (drop n x)
-    ∙ ap (λ (l : List (Option Question)). l ++ until_quit (questions_in (drop n x))) (take_asked k asked)
-
--- the lines that were served are taken, and no others
-pub queue_left : (a b c : Option (List ℕ)) (most : Option ℕ) (text : List ℕ) (asked : List Question) (ends : List ℕ)
-    (many n : ℕ) → StandsIn text asked ends → ShowsText a b most text → many ≤ length asked → n ≡ end_at ends many
-    → DropsConsumable b c most n → IfSome (left_at ends a many) (λ l. questions_left c ≡ Some l)
-queue_left None b c most text asked ends many n stands shows few is drops = tt
-queue_left (Some x) None c most text asked ends many n stands shows few is drops = absurd shows.kept
-queue_left (Some x) (Some y) c most text asked ends many n stands shows few is drops =
-    ap (λ (o : Option (List ℕ)). questions_left o) (drops (room most shows.fits))
-    ∙ ap (λ (l : List ℕ). Some (until_quit (questions_in l)))
-    (ap (λ (l : List ℕ). drop n l) shows.kept ∙ ap (λ (k : ℕ). drop k x) is)
-  where
-    within : n ≤ length text
-    within = subst (λ (k : ℕ). k ≤ length text) (sym is) (stands.each many few).0
-
-    room : (o : Option ℕ) → IfSome o (λ k. length text ≤ k) → IfSome o (λ k. n ≤ k)
-    room None h = tt
-    room (Some k) h = omega (arith, h, within)
-
--- nothing was taken
-pub kept_left : (a b : Option (List ℕ)) → Keeps a b → IfSome (questions_left a) (λ l. questions_left b ≡ Some l)
-kept_left None b kept = tt
-kept_left (Some x) None kept = absurd kept
-kept_left (Some x) (Some y) kept = ap (λ (l : List ℕ). Some (until_quit (questions_in l))) kept

@@ -2,11 +2,12 @@ pub mod BackupLemmas
 pub mod HearingLemmas
 pub mod TalkLemmas
 pub mod WatchLemmas
-pub mod LookLemmas
+pub mod StepLemmas
 pub mod ReachLemmas
 pub mod GroupTalk
-pub mod PartLemmas
-pub mod FitLemmas
+pub mod WatchedLemmas
+pub mod ToldLemmas
+pub mod ServeLemmas
 pub mod DialogueLemmas
 pub mod LineLemmas
 pub mod CountLemmas

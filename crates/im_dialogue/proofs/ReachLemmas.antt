@@ -11,8 +11,8 @@ use Rattle.im_laws.{proofs.AcceptLemmas.accepted-fresh, specs.Cells.MayChange}
 use Rattle.im_laws.proofs.{CellLemmas.step-other, EntryLemmas.judge-repeat, StepLemmas.judge-fresh}
 use Rattle.im_laws.proofs.Tests.{or_left, or_right, some_none, test-self, true_false}
 use Rattle.im_groups.specs.Commands.{answer_with, contents_after_all, contents_with, left_after, places_behind}
-use Rattle.im_dialogue.proofs.LookLemmas.{confirm_leaves, none_answers, noted, with_either, with_memory}
-use Rattle.im_dialogue.specs.Looks.{asks_for, may_reach, reaches}
+use Rattle.im_dialogue.proofs.StepLemmas.{confirm_leaves, none_answers, noted, with_either, with_memory}
+use Rattle.im_dialogue.specs.Firsts.{asks_for, may_reach, reaches}
 
 -- ---- a member more behind others
 

@@ -1,30 +1,24 @@
 -- What was said over a session, line by line.
-use Rattle.std.proofs.Common.{◌≡◌, ℕ, suc, ◌+◌, ◌≤◌, Bool, true, false, ◌&&◌, List, [], ◌∷◌, ◌++◌, length, take, IfSome}
-use Rattle.std.proofs.Common.{if◌then◌else◌, OnOk, Some, None, Ok, Err, Option, Result, MatchResult, sym, refl, ap, ◌∙◌}
-use Rattle.std.proofs.Common.{subst, ap₂, inl, inr, ⊎_elim, append_assoc, append-nil, arith, length-append}
+use Rattle.std.proofs.Common.{◌≡◌, ℕ, suc, ◌+◌, Bool, false, List, [], ◌∷◌, ◌++◌, length, take, IfSome, OnOk, Some}
+use Rattle.std.proofs.Common.{None, Ok, Err, Option, Result, MatchResult, sym, refl, ap, ◌∙◌, subst, ap₂, append_assoc}
+use Rattle.std.proofs.Common.{append-nil, arith, length-append}
 use Rattle.std.{proofs.KnownBytes.Appends-nil, proofs.KnownBytes.Appends-trans, specs.Io.KnownBytes.Appends}
-use Rattle.im_types.specs.Types.{Command, Outcome, Refusal, JournalFull, Device, MAX_GROUP, Contents, step, is_accepted}
-use Rattle.im_types.specs.Types.{after}
-use Rattle.im_laws.proofs.{RunLemmas.after-append, Tests.true_or_false}
-use Rattle.im_checkpoint.{proofs.Fitting.none_or_some, specs.declared.TurnDone.TurnDone}
-use Rattle.im_engine.{proofs.Accepting.accepted_answers, specs.State.EngineState, specs.State.with_command}
-use Rattle.im_engine.specs.Answered.{Answered, is_device, TurnAnswered}
-use Rattle.{im_turning.proofs.TurningLemmas.turn_leads, im_session.proofs.ServedLemmas.undoubted}
-use Rattle.{im_session.proofs.ServedLemmas.unsure, im_session.specs.Kept.session_of, im_session.specs.Kept.SessionState}
-use Rattle.im_turning.specs.Turning.{HasMadeRoom, IsSpent, Point, point_of, TurnsLead}
+use Rattle.im_types.specs.Types.{Command, Refusal, Contents, after}
+use Rattle.im_laws.proofs.RunLemmas.{after-append}
+use Rattle.{im_checkpoint.specs.declared.TurnDone.TurnDone, im_engine.specs.Answered.TurnAnswered}
+use Rattle.{im_turning.proofs.TurningLemmas.turn_leads, im_text.specs.Printing.Begins}
+use Rattle.im_turning.specs.Turning.{HasMadeRoom, Point, point_of, TurnsLead}
 use Rattle.im_session.proofs.RoomLemmas.{rests_none, rests_then, turn_works}
-use Rattle.im_session.specs.{Put.doubted_by, Put.sure_by, Serving.Rests, Serving.served_one}
-use Rattle.im_text.{proofs.PrintingLemmas.true_false, specs.Printing.Begins}
-use Rattle.im_dialogue.proofs.HearingLemmas.{heard_some, hears_as, hears_none, hears_on, hears_some_on, none_heard}
-use Rattle.im_dialogue.proofs.HearingLemmas.{on_default, same_left}
-use Rattle.im_dialogue.specs.Answers.{answer_text}
-use Rattle.im_dialogue.specs.{Asking.asked_of, Backups.Backup, declared.asking.Question.Question, Watching.watch_text}
-use Rattle.im_dialogue.specs.declared.answers.LineAnswer.{LineAnswer, TheVariants.Served, TheVariants.Turned}
-use Rattle.im_dialogue.specs.Hearing.{Hears, HearsSome, is_quit, questions_left}
+use Rattle.im_session.specs.{Kept.session_of, Kept.SessionState, Serving.Rests}
+use Rattle.im_dialogue.proofs.HearingLemmas.{heard_some, hears_as, hears_none, hears_on, hears_some_on, on_default}
+use Rattle.im_dialogue.proofs.HearingLemmas.{same_left}
+use Rattle.im_dialogue.specs.{Answers.answer_text, Asking.asked_of, Backups.Backup, declared.asking.Question.Question}
+use Rattle.im_dialogue.specs.{Hearing.Hears, Hearing.HearsSome, Hearing.is_quit, Watching.watch_text}
+use Rattle.im_dialogue.specs.declared.answers.LineAnswer.{LineAnswer, TheVariants.Turned}
 use Rattle.im_dialogue.specs.Talk.{AnswersQuestion, AreAnswered, AreKept, backup_by, backups_of, Exchange, exchange_at}
-use Rattle.im_dialogue.specs.Talk.{Halts, HasEnded, HasSaid, is_end, IsOutcomeOf, OnlyTurned, Outputs, outputs}
-use Rattle.im_dialogue.specs.Talk.{point_behind, put_by, put_of, questions_of, SaysLine, SaysNow, stands_behind}
-use Rattle.im_dialogue.specs.Talk.{TalkEnds, Talking, TalksOn, texts_of, with_left}
+use Rattle.im_dialogue.specs.Talk.{Halts, HasEnded, HasSaid, OnlyTurned, Outputs, outputs, point_behind, put_by, put_of}
+use Rattle.im_dialogue.specs.Talk.{questions_of, SaysLine, SaysNow, stands_behind, TalkEnds, Talking, TalksOn, texts_of}
+use Rattle.im_dialogue.specs.Talk.{with_left}
 use Rattle.im_dialogue.specs.declared.asking.Question.TheVariants as asks
 
 -- what an input still asks for, where that is known
@@ -44,103 +38,12 @@ not_quit m n turns here asks.About answer it = refl
 not_quit m n turns here (asks.Backup name) answer it = refl
 not_quit m n turns here asks.Quit answer it = absurd it
 
-pub ok_no_device : (outcome : Outcome) → (a : Result Outcome Refusal) → a ≡ Ok outcome → a ≡ Err Device → ⊥
-ok_no_device outcome a is e = absurd (cc)
-
--- what doesn't end the dialogue is no failed call
-pub no_device : (refusal : Refusal) (b : Bool) → b ≡ is_end refusal → b ≡ false → (a : Result Outcome Refusal)
-    → a ≡ Err refusal → a ≡ Err Device → ⊥
-no_device refusal b is not a told e = by_refusal refusal (err_same a refusal told e) (sym is ∙ not)
-  where
-    err_same : (a : Result Outcome Refusal) (r : Refusal) → a ≡ Err r → a ≡ Err Device → r ≡ Device
-    err_same a r told e = cc
-
-    by_refusal : (r : Refusal) → r ≡ Device → is_end r ≡ false → ⊥
-    by_refusal r same f = true_false (is_end r) (ap is_end same) f
-
 -- the beginning of a text, and so many bytes of what follows
-take-past : {A : Type 0} (xs ys : List A) (n : ℕ) → take (length xs + n) (xs ++ ys) ≡ xs ++ take n ys
+pub take-past : {A : Type 0} (xs ys : List A) (n : ℕ) → take (length xs + n) (xs ++ ys) ≡ xs ++ take n ys
 take-past [] ys n = ap (λ k. take k ys) (omega arith)
 take-past (x ∷ xs) ys n =
     let e : length (x ∷ xs) + n ≡ suc (length xs + n) = omega arith in
     ap (λ k. take k (x ∷ (xs ++ ys))) e ∙ ap (λ l. x ∷ l) (take-past xs ys n)
-
--- ---- a command
-
--- one command at most
-doubted_few : (m : Contents) (c : Command) (a : Result Outcome Refusal) → length (doubted_by m c a) ≤ MAX_GROUP
-doubted_few m c (Ok o) = omega arith
-doubted_few m c (Err r) = by_test (is_accepted m c && is_device r)
-  where
-    by_test : (b : Bool) → length (if b then c ∷ [] else []) ≤ MAX_GROUP
-    by_test true = omega arith
-    by_test false = omega arith
-
--- what an answer comes to that doesn't end the dialogue
-record CommandSaid {D : Type 0} (old new : EngineState D) (c : Command) (a : Result Outcome Refusal) : Type 0 where
-  outcome : IsOutcomeOf old.memory (point_of old) c a
-  doubt : doubted_by old.memory c a ≡ []
-  point : point_of new ≡ point_behind (length (sure_by old.memory c a)) (point_of old)
-  memory : new.memory ≡ after old.memory (sure_by old.memory c a)
-  count : new.count ≡ old.count + length (sure_by old.memory c a)
-  works : new.failed ≡ false
-
-module _ {D : Type 0} (old new : EngineState D) (c : Command) (a : Result Outcome Refusal) (f : old.failed ≡ false)
-    (it : Answered old c a new) where
-  -- nothing was put
-  stayed_by : IsOutcomeOf old.memory (point_of old) c a → sure_by old.memory c a ≡ [] → doubted_by old.memory c a ≡ []
-      → new ≡ old → CommandSaid old new c a
-  stayed_by outcome none doubt same = record {
-    outcome = outcome;
-    doubt = doubt;
-    point = ap (λ (s : EngineState D). point_of s) same
-        ∙ ap (λ (l : List Command). point_behind (length l) (point_of old)) (sym none);
-    memory = ap (λ (s : EngineState D). s.memory) same ∙ ap (λ (l : List Command). after old.memory l) (sym none);
-    count = omega (
-      arith,
-      ap (λ (s : EngineState D). s.count) same,
-      ap (λ (l : List Command). length l) none,
-    );
-    works = ap (λ (s : EngineState D). s.failed) same ∙ f;
-  }
-
-  -- it was put
-  put_by_it : is_accepted old.memory c ≡ true → a ≡ (step old.memory c).answer
-      → new ≡ record (with_command old c) { disk = new.disk; pages = new.pages } → CommandSaid old new c a
-  put_by_it accepted told same =
-      let o = accepted_answers old.memory c accepted in
-      let is : a ≡ Ok o.0 = told ∙ o.1 in
-      let sure : sure_by old.memory c a ≡ c ∷ []
-      = ap (sure_by old.memory c) is ∙ ap (λ (b : Bool). if b then c ∷ [] else []) accepted in
-      record {
-        outcome = inl told;
-        doubt = ap (doubted_by old.memory c) is;
-        point = ap (λ (s : EngineState D). point_of s) same
-            ∙ ap (λ (l : List Command). point_behind (length l) (point_of old)) (sym sure);
-        memory = ap (λ (s : EngineState D). s.memory) same ∙ ap (λ (l : List Command). after old.memory l) (sym sure);
-        count = omega (
-          arith,
-          ap (λ (s : EngineState D). s.count) same,
-          ap (λ (l : List Command). length l) sure,
-        );
-        works = ap (λ (s : EngineState D). s.failed) same ∙ f;
-      }
-
-  command_said : (a ≡ Err Device → ⊥) → (old.room ≡ 0 → IsSpent (point_of old)) → CommandSaid old new c a
-  command_said unless spent = ⊎_elim
-      (λ accepted. ⊎_elim
-      (λ none. let full = it.full f accepted none in
-      stayed_by (inr (accepted, (full.0, (none, spent none)))) (ap (sure_by old.memory c) full.0)
-      (ap (doubted_by old.memory c) full.0
-      ∙ ap (λ (b : Bool). if b && is_device JournalFull then c ∷ [] else []) accepted) full.1)
-      (λ some. ⊎_elim
-      (λ done. put_by_it accepted done.0 done.1)
-      (λ fault. absurd (unless fault.0))
-      (it.put f accepted some))
-      (none_or_some old.room))
-      (λ un. let same = it.unaccepted f un in
-      stayed_by (inl same.0) (unsure old.memory c a un) (undoubted old.memory c a un) same.1)
-      (true_or_false (is_accepted old.memory c))
 
 -- ---- what was said, and then more
 
@@ -385,48 +288,6 @@ rests_halts {D} old new rests = λ f. record {
 
 -- ---- one line
 
-module _ {D : Type 0} (old new : SessionState D) (c : Command) (a : Result Outcome Refusal)
-    (it : Answered old.engine c a new.engine) (put : new ≡ served_one old c a new.engine) where
-  -- a command was answered
-  pub serve_says : (told : Result Outcome Refusal) → a ≡ told → (a ≡ Err Device → ⊥)
-      → (old.engine.room ≡ 0 → IsSpent (point_of old.engine)) → SaysLine old new (Some (asks.Serve c)) (Served c told)
-  serve_says told is unless spent = λ f line name asked.
-      let said = command_said old.engine new.engine c a f it unless spent in
-      let here : Point = point_of old.engine in (
-        here,
-        subst (λ (x : Result Outcome Refusal). HasSaid old new (exchange_at line (Served c x) name here ∷ [])) is
-            (record {
-              answered = (
-                [],
-                (
-                  subst (λ (o : Option Question). AnswersQuestion old.engine.memory
-                      (old.engine.count + length (put_of old.engine.memory [])) [] here o (Served c a)) (sym asked)
-                      (a, refl, said.outcome),
-                  (refl, tt),
-                ),
-              );
-              turns = [];
-              lead = said.point;
-              same = put
-                  ∙ ap (λ (l : List Command). session_of old.start (old.put ++ sure_by old.engine.memory c a) l
-                  new.engine) (ap (λ (l : List Command). old.doubt ++ l) said.doubt ∙ append-nil old.doubt);
-              memory = said.memory;
-              count = said.count;
-              works = said.works;
-            }),
-      )
-
-  -- it was refused, and may be in doubt
-  pub serve_halts : (refusal : Refusal) → a ≡ Err refusal → Halts old new
-  serve_halts refusal is = λ f. record {
-    answered = tt;
-    doubt = doubted_by old.engine.memory c a;
-    few = doubted_few old.engine.memory c a;
-    same = put
-        ∙ ap (λ (x : Result Outcome Refusal). session_of old.start (old.put ++ sure_by old.engine.memory c x)
-        (old.doubt ++ doubted_by old.engine.memory c a) new.engine) is;
-  }
-
 -- a line that puts nothing was answered behind turns
 quiet_said : {D : Type 0} (old new : SessionState D) (rest : HasSaid old new []) (asked : Option Question)
     (answer : LineAnswer) → ((m : Contents) → put_by m answer ≡ [])
@@ -474,18 +335,6 @@ pub turn_says : {D : Type 0} (old new : SessionState D) (a : Result TurnDone Ref
 turn_says old new a done rests answered is = λ f line name read.
     quiet_said old new (taken_said old new (taken_more old old new a done (taken_none old) rests answered is) f)
     (Some asks.Turn) (Turned done) (λ m. refl) (done, (refl, ([], refl))) line name read
-
--- the answer of the last call, behind turns that made room
-pub then_says : {D : Type 0} (old mid new : SessionState D) (asked : Option Question)
-    (result : Result LineAnswer Refusal) → (old.engine.failed ≡ false → HasSaid old mid [])
-    → MatchResult result (λ answer. SaysLine mid new asked answer) (λ e. Halts mid new)
-    → MatchResult result (λ answer. SaysLine old new asked answer) (λ e. Halts old new)
-then_says old mid new asked (Ok answer) before it = λ f line name read.
-    let first = before f in
-    let said = it first.works line name read in
-    (said.0, said_on old mid new [] (exchange_at line answer name said.0 ∷ []) first said.1)
-then_says old mid new asked (Err refusal) before it = λ f.
-    let first = before f in ended_on old mid new [] [] first (it first.works)
 
 pub says_as : {D : Type 0} (old new : SessionState D) (asked other : Option Question) (answer : LineAnswer)
     → other ≡ asked → SaysLine old new asked answer → SaysLine old new other answer
@@ -682,14 +531,6 @@ module _ {D : Type 0} (watch : Bool) where
   to_left old new was is mid later same on =
       on_after old new new was (with_left mid is) (with_left later is) on (left_as new is mid later same)
 
-  -- nothing was said of what is left
-  pub nothing_heard : (s : SessionState D) (was : Outputs) (before : Left) (later : ℕ → Left)
-      (asked : List (Option Question))
-      → ((k : ℕ) → k ≤ length asked → Hears before (later k) (take k asked))
-      → On s (with_left before was) s (with_left (later 0) was)
-  nothing_heard s was before later asked hears =
-      left_as s was before (later 0) (none_heard before (later 0) (hears 0 (omega arith)))
-
   -- the end was asked for, and nothing was said
   pub quit_talk : (old new : SessionState D) (text : Option (List ℕ)) (was is : List Backup) (before later : Left)
       → new ≡ old → is ≡ was → IfSome before (λ l. later ≡ Some l)
@@ -699,12 +540,3 @@ module _ {D : Type 0} (watch : Bool) where
       (sym same)
       (subst (λ (l : List Backup). On old (with_left before (outputs text was)) old (with_left later (outputs text l)))
       (sym kept) (left_as old (outputs text was) before later left))
-
-  -- turns were taken while nobody asked, and the reader still has what it had
-  pub goes_quiet : (old new : SessionState D) (was : Outputs) (before later : Option (List ℕ))
-      → (old.engine.failed ≡ false → HasSaid old new []) → later ≡ before
-      → On old (with_left (questions_left before) was) new (with_left (questions_left later) was)
-  goes_quiet old new was before later done same =
-      subst (λ (o : Option (List ℕ)). On old (with_left (questions_left before) was) new
-      (with_left (questions_left o) was)) (sym same)
-      (goes_talk old new (with_left (questions_left before) was) done)

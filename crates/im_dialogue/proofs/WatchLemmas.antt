@@ -1,17 +1,19 @@
 -- What is told of those that waited.
 use Rattle.std.proofs.Common.{◌≡◌, ℕ, Bool, true, false, List, [], ◌++◌, take, drop, if◌then◌else◌, ◌==◌, Some, None}
-use Rattle.std.proofs.Common.{Ok, Err, Option, Result, sym, refl, ap, ◌∙◌, subst}
+use Rattle.std.proofs.Common.{Option, option_map, sym, refl, ap, ◌∙◌, subst, append-nil}
 use Rattle.std.specs.List.{list_any}
 use Rattle.im_types.specs.Types.{Kind, Op, Reply, Waiter, Block, Answered, I, M, Alloc, Release, Reset, Fetch, Store}
-use Rattle.im_types.specs.Types.{Take, Put, BadLength, WrongKind, Released, StillWaiting, Cleared, Outcome, Refusal}
-use Rattle.im_types.specs.Types.{CellState, Empty, Full, Clashed, Held, Contents, held_at, place, fill, change_each}
+use Rattle.im_types.specs.Types.{Take, Put, BadLength, WrongKind, Released, StillWaiting, Cleared, Command, CellState}
+use Rattle.im_types.specs.Types.{Empty, Full, Clashed, Held, Contents, bounds, held_at, place, fill, change_each}
 use Rattle.im_types.specs.Types.{ServedCell as Served, fetch, take_from, only_tells, same_kind, serve_cell, at_cell}
 use Rattle.im_types.specs.Types.{allocate_at, block_with_base, is_waiting_cell, unless_waited_for, emptied, act}
 use Rattle.{im_checkpoint.specs.declared.TurnDone.TurnDone, im_turning.specs.Turning.Point}
-use Rattle.im_dialogue.specs.{Answers.answer_text, Talk.AnswersQuestion}
-use Rattle.im_dialogue.specs.declared.answers.LineAnswer.{LineAnswer, TheVariants.Served as ServedAs}
+use Rattle.im_dialogue.specs.Answers.{answer_text, look_text}
+use Rattle.im_dialogue.specs.{Asking.command_in, Talk.about_of, Talk.AnswersQuestion, Watching.is_quiet, Watching.watch_text}
+use Rattle.im_dialogue.specs.declared.answers.LineAnswer.{LineAnswer}
+use Rattle.im_dialogue.specs.declared.answers.LineAnswer.TheVariants.{About as Facts, Backup as BackedUp, Count, Looked}
+use Rattle.im_dialogue.specs.declared.answers.LineAnswer.TheVariants.{Room, Turned, Window, Wrong}
 use Rattle.im_dialogue.specs.declared.{asking.Question.Question, look.Look.Look}
-use Rattle.im_dialogue.specs.Watching.{is_quiet, told_by, told_with, watch_text}
 use Rattle.im_dialogue.specs.declared.asking.Question.TheVariants as asks
 
 -- ---- who is resumed
@@ -76,76 +78,56 @@ quiet_resumes cells who (Take a) quiet = none_resumed M (take_from who) cells a 
 quiet_resumes cells who (Store a v) quiet = absurd (cc)
 quiet_resumes cells who (Put a v) quiet = absurd (cc)
 
--- ---- what is told behind an answer
+-- ---- the line of an answer
 
-told_is : (watch : Bool) (m : Contents) (n : ℕ) (turns : List TurnDone) (here : Point) (asked : Option Question)
-    (answer : LineAnswer) → AnswersQuestion m n turns here asked answer
-    → told_with answer (told_by watch m asked) ≡ watch_text watch m answer
-told_is watch m n turns here (Some (asks.Serve command)) answer (outcome, is, of) = by_answer answer outcome is
+-- Of a line that is no command: nothing is told behind it. It is the same on the memory after it, which is the same if
+-- the line only looks.
+pub alone_line : (watch : Bool) (name : List ℕ) (m now : Contents) (n : ℕ) (turns : List TurnDone) (here : Point)
+    (asked : Option Question) (answer : LineAnswer) → command_in asked ≡ None
+    → ((look : Look) → asked ≡ Some (asks.Look look) → now ≡ m) → AnswersQuestion m n turns here asked answer
+    → answer_text name now answer ≡ answer_text name m answer ++ watch_text watch m answer
+alone_line watch name m now n turns here asked answer none same = by_asked asked none same
   where
-    by_outcome : (o : Result Outcome Refusal)
-        → told_with (ServedAs command o) (told_by watch m (Some (asks.Serve command))) ≡ watch_text watch m (ServedAs command o)
-    by_outcome (Ok outcome) = refl
-    by_outcome (Err refusal) = refl
+    is_it : LineAnswer → Type 0
+    is_it x = answer_text name now x ≡ answer_text name m x ++ watch_text watch m x
 
-    by_answer : (a : LineAnswer) (o : Result Outcome Refusal) → a ≡ ServedAs command o
-        → told_with a (told_by watch m (Some (asks.Serve command))) ≡ watch_text watch m a
-    by_answer a o is = subst (λ (x : LineAnswer). told_with x (told_by watch m (Some (asks.Serve command))) ≡ watch_text watch m x) (sym is) (by_outcome o)
-told_is watch m n turns here (Some (asks.Look look)) answer is =
-    subst (λ (x : LineAnswer). told_with x [] ≡ watch_text watch m x) (sym is) refl
-told_is watch m n turns here (Some (asks.Window element)) answer is = subst
-    (λ (x : LineAnswer). told_with x [] ≡ watch_text watch m x) (sym is) refl
-told_is watch m n turns here (Some asks.Room) answer is =
-    subst (λ (x : LineAnswer). told_with x [] ≡ watch_text watch m x) (sym is) refl
-told_is watch m n turns here (Some asks.Turn) answer (done, (is, last)) = subst
-    (λ (x : LineAnswer). told_with x [] ≡ watch_text watch m x) (sym is) refl
-told_is watch m n turns here (Some asks.Count) answer is =
-    subst (λ (x : LineAnswer). told_with x [] ≡ watch_text watch m x) (sym is) refl
-told_is watch m n turns here (Some asks.About) answer (slots, is) =
-    subst (λ (x : LineAnswer). told_with x [] ≡ watch_text watch m x) (sym is) refl
-told_is watch m n turns here (Some (asks.Backup backup)) answer (kept, is, of) =
-    subst (λ (x : LineAnswer). told_with x [] ≡ watch_text watch m x) (sym is) refl
-told_is watch m n turns here (Some asks.Quit) answer none = absurd none
-told_is watch m n turns here None answer (number, (fault, is)) = subst
-    (λ (x : LineAnswer). told_with x [] ≡ watch_text watch m x) (sym is) refl
+    plain : (x : LineAnswer) → answer_text name now x ≡ answer_text name m x → watch_text watch m x ≡ [] → is_it x
+    plain x same none = same ∙ sym (append-nil (answer_text name m x))
+        ∙ ap (λ (l : List ℕ). answer_text name m x ++ l) (sym none)
 
--- the line of an answer, on the memory after it too, which is the same if the line only looks
-plain_line : (name : List ℕ) (m now : Contents) (n : ℕ) (turns : List TurnDone) (here : Point) (asked : Question)
-    (answer : LineAnswer) → ((look : Look) → asked ≡ asks.Look look → now ≡ m)
-    → AnswersQuestion m n turns here (Some asked) answer
-    → answer_text name now answer ≡ answer_text name m answer
-plain_line name m now n turns here (asks.Look look) answer same is =
-    ap (λ (x : Contents). answer_text name x answer) (same look refl)
-plain_line name m now n turns here (asks.Serve command) answer same (outcome, is, of) =
-    subst (λ (x : LineAnswer). answer_text name now x ≡ answer_text name m x) (sym is) refl
-plain_line name m now n turns here (asks.Window element) answer same is =
-    subst (λ (x : LineAnswer). answer_text name now x ≡ answer_text name m x) (sym is) refl
-plain_line name m now n turns here asks.Room answer same is =
-    subst (λ (x : LineAnswer). answer_text name now x ≡ answer_text name m x) (sym is) refl
-plain_line name m now n turns here asks.Turn answer same (done, (is, last)) =
-    subst (λ (x : LineAnswer). answer_text name now x ≡ answer_text name m x) (sym is) refl
-plain_line name m now n turns here asks.Count answer same is =
-    subst (λ (x : LineAnswer). answer_text name now x ≡ answer_text name m x) (sym is) refl
-plain_line name m now n turns here asks.About answer same (slots, is) =
-    subst (λ (x : LineAnswer). answer_text name now x ≡ answer_text name m x) (sym is) refl
-plain_line name m now n turns here (asks.Backup backup) answer same (kept, is, of) =
-    subst (λ (x : LineAnswer). answer_text name now x ≡ answer_text name m x) (sym is) refl
-plain_line name m now n turns here asks.Quit answer same none = absurd none
+    by_asked : (q : Option Question) → command_in q ≡ None → ((look : Look) → q ≡ Some (asks.Look look) → now ≡ m)
+        → AnswersQuestion m n turns here q answer → is_it answer
+    by_asked (Some (asks.Serve command)) none same it = absurd (cc)
+    by_asked (Some (asks.Look look)) none same is =
+        subst is_it (sym is) (plain (Looked look) (ap (λ (k : Contents). look_text name k look) (same look refl)) refl)
+    by_asked (Some (asks.Window element)) none same is = subst is_it (sym is) (plain (Window element (bounds m.windows element)) refl refl)
+    by_asked (Some asks.Room) none same is = subst is_it (sym is) (plain (Room here.room) refl refl)
+    by_asked (Some asks.Turn) none same (done, (is, last)) = subst is_it (sym is) (plain (Turned done) refl refl)
+    by_asked (Some asks.Count) none same is = subst is_it (sym is) (plain (Count n) refl refl)
+    by_asked (Some asks.About) none same (slots, is) = subst is_it (sym is) (plain (Facts (about_of m slots n here.room)) refl refl)
+    by_asked (Some (asks.Backup backup)) none same (kept, is, of) = subst is_it (sym is) (plain (BackedUp backup kept) refl refl)
+    by_asked (Some asks.Quit) none same it = absurd it
+    by_asked None none same (number, (fault, is)) = subst is_it (sym is) (plain (Wrong number fault) refl refl)
 
--- the line of an answer that was asked for, and what is told behind it
-pub line_is : (watch : Bool) (name : List ℕ) (m now : Contents) (n : ℕ) (turns : List TurnDone) (here : Point)
-    (asked : Question) (answer : LineAnswer) (told : List ℕ) → ((look : Look) → asked ≡ asks.Look look → now ≡ m)
-    → told ≡ told_with answer (told_by watch m (Some asked)) → AnswersQuestion m n turns here (Some asked) answer
-    → answer_text name now answer ++ told ≡ answer_text name m answer ++ watch_text watch m answer
-line_is watch name m now n turns here asked answer told same is answers =
-    ap (λ (t : List ℕ). t ++ told) (plain_line name m now n turns here asked answer same answers)
-    ∙ ap (λ (t : List ℕ). answer_text name m answer ++ t)
-    (is ∙ told_is watch m n turns here (Some asked) answer answers)
+pub not_command : (asked : Question) (c : Command) → command_in (Some asked) ≡ None → asked ≡ asks.Serve c → ⊥
+not_command asked c none is =
+    no_command (subst (λ (q : Question). command_in (Some q) ≡ None) is none)
+  where
+    no_command : Some c ≡ None → ⊥
+    no_command same = absurd (cc)
 
--- the line that says where a line goes wrong, with nothing behind it
-pub wrong_line_is : (watch : Bool) (name : List ℕ) (m now : Contents) (n : ℕ) (turns : List TurnDone) (here : Point)
-    (answer : LineAnswer) → now ≡ m
-    → AnswersQuestion m n turns here None answer
-    → answer_text name now answer ++ [] ≡ answer_text name m answer ++ watch_text watch m answer
-wrong_line_is watch name m now n turns here answer same (number, (fault, is)) =
-    subst (λ (x : LineAnswer). answer_text name now x ++ [] ≡ answer_text name m x ++ watch_text watch m x) (sym is) refl
+pub same_asked : (a b : Question) → Some a ≡ Some b → a ≡ b
+same_asked a b same = cc
+
+-- the command that is asked for
+pub command_some : (asked : Option Question) (c : Command) → command_in asked ≡ Some c → asked ≡ Some (asks.Serve c)
+command_some (Some (asks.Serve d)) c is = ap (λ (o : Option Command). option_map (λ (x : Command). asks.Serve x) o) is
+command_some (Some (asks.Look look)) c is = absurd (cc)
+command_some (Some (asks.Window element)) c is = absurd (cc)
+command_some (Some asks.Room) c is = absurd (cc)
+command_some (Some asks.Turn) c is = absurd (cc)
+command_some (Some asks.Count) c is = absurd (cc)
+command_some (Some asks.About) c is = absurd (cc)
+command_some (Some (asks.Backup backup)) c is = absurd (cc)
+command_some (Some asks.Quit) c is = absurd (cc)
+command_some None c is = absurd (cc)

@@ -2,7 +2,7 @@
 use Rattle.std.specs.Prelude.{ℕ, List, [], ◌∷◌, if◌then◌else◌, ◌==◌, Some, None, codes, bytes_eq, Option, option_map}
 use Rattle.std.specs.Prelude.{option_and_then}
 use Rattle.std.specs.{List.slice_split, Option.option_or}
-use Rattle.im_types.specs.Types.{Op, Waiter, Asks, Confirm}
+use Rattle.im_types.specs.Types.{Op, Waiter, Command, Asks, Confirm}
 use Rattle.im_script.specs.{Grammar.is_line, Grammar.number_up_to, Grammar.words_of, Lines.action_of, Places.action_op}
 use Rattle.im_dialogue.specs.{Backups.backup_name_of, declared.asking.Question.Question}
 use Rattle.im_dialogue.specs.declared.asking.Question.TheVariants.{About, Backup, Count, Look, Quit, Room, Serve, Turn}
@@ -84,3 +84,8 @@ asked_in _ = None
 -- what a line asks for, which has to be ASCII and not too long; none if it isn't in the grammar
 abbrev pub asked_of : List ℕ → Option Question
 asked_of line = if is_line line then asked_in (words_of line) else None
+
+-- the command that is asked for, if it is one
+abbrev pub command_in : Option Question → Option Command
+command_in (Some (Serve command)) = Some command
+command_in asked = None

@@ -3,9 +3,9 @@ use Rattle.std.specs.Prelude.{◌≡◌, ℕ, ◌≤◌, Bool, false, ◌⊎◌,
 use Rattle.std.specs.Io.KnownBytes.{Appends}
 use Rattle.im_types.specs.Types.{MAX_GROUP, AreLimits, Contents, layout_in_use, image_length}
 use Rattle.im_disk.specs.{declared.Disk.Ghosts, Moment.Left, Moment.Moment, Since.Leaves, Since.LeavesWithin}
-use Rattle.im_engine.specs.State.{EngineState, MeansState}
-use Rattle.{im_turning.specs.Turning.point_of, im_text.specs.Printing.Begins, im_text.specs.Printing.IsLast}
+use Rattle.{im_engine.specs.State.EngineState, im_engine.specs.State.MeansState, im_turning.specs.Turning.point_of}
 use Rattle.im_session.specs.Kept.{Kept, session_of, SessionState, start_at}
+use Rattle.im_text.specs.{declared.Style.TheVariants.Text, Printing.Begins, Said.output, Said.SaysLast}
 use Rattle.im_dialogue.specs.Hearing.{HearsAll}
 use Rattle.im_dialogue.specs.Talk.{AreAnswered, AreKept, Exchange, Outputs, put_of, questions_of, texts_of, with_input}
 
@@ -43,7 +43,7 @@ pub record TalkClosed {D : Type 0} (disk : Ghosts D) (watch : Bool) (first : Eng
   pub put : session.put ≡ put_of first.memory said
   pub few : length session.doubt ≤ MAX_GROUP
   pub printed : (mid : Option (List ℕ)) × Begins was.text mid (texts_of watch first.memory said)
-      × ((last : List ℕ) × (IsLast last × Begins mid is.text last))
+      × SaysLast (output Text mid) is.text
   pub whole : status ≡ 0 → (session.doubt ≡ []) × Appends was.text is.text (texts_of watch first.memory said)
   pub backups : AreKept first.memory was is said
   pub heard : HearsAll was.left (questions_of said) status
@@ -60,7 +60,7 @@ pub record Talked {D : Type 0} (disk : Ghosts D) (watch : Bool) (old new : D) (w
 pub record TalkUnopened {D : Type 0} (now : D → Moment) (past : D → List Moment) (old new : D) (was is : Outputs)
     (status : ℕ) : Type 0 where
   pub status_is : status ≡ 1
-  pub printed : (last : List ℕ) × (IsLast last × Begins was.text is.text last)
+  pub printed : SaysLast (output Text was.text) is.text
   pub backups : is.backups ≡ was.backups
   pub leaves : Leaves (now old) (now new) (past old) (past new) (Left (now old))
 

@@ -1,7 +1,7 @@
 -- What the lines of an input ask for, and what of it was heard. (Own.)
-use Rattle.std.specs.Prelude.{◌≡◌, ℕ, ◌+◌, ◌-◌, ◌≤◌, Bool, true, false, List, [], ◌∷◌, ◌++◌, map, length, take, drop}
-use Rattle.std.specs.Prelude.{IfSome, if◌then◌else◌, ◌==◌, slice_index, Some, None, All, Option, option_map}
-use Rattle.std.specs.Io.{KnownBytes.Consumes, KnownBytes.IsAtEnd, KnownBytes.Keeps, StartsWith}
+use Rattle.std.specs.Prelude.{◌≡◌, ℕ, Bool, true, false, List, [], ◌∷◌, ◌++◌, map, take, IfSome, if◌then◌else◌, ◌==◌}
+use Rattle.std.specs.Prelude.{Some, None, All, Option, option_map}
+use Rattle.std.specs.Io.KnownBytes.{Consumes, IsAtEnd}
 use Rattle.im_script.specs.Script.{lines_of}
 use Rattle.im_dialogue.specs.Asking.{asked_of}
 use Rattle.im_dialogue.specs.declared.{asking.Question.Question, line_part.LinePart.LinePart, lines.TheConstants.KEPT}
@@ -69,11 +69,6 @@ asked_after many known = option_map (λ bytes. if many == 0 then [] else until_q
 abbrev pub IsLinePart : List ℕ → Type 0
 IsLinePart bytes = All (λ byte. (byte == 10) ≡ false) bytes
 
--- whole lines that ask for this, up to `quit`
-abbrev pub AreLines : List ℕ → List (Option Question) → Type 0
-AreLines bytes asked =
-    (text : List ℕ) → until_quit (questions_in (bytes ++ text)) ≡ asked ++ until_quit (questions_in text)
-
 -- what was read of a line, given what the reader had and has: a part of it, the rest of it with its line feed, or the
 -- end of the input
 abbrev pub ReadsPart : LinePart → Option (List ℕ) → Option (List ℕ) → List ℕ → Type 0
@@ -95,43 +90,3 @@ HasReadPart was is line = IfSome was (λ bytes. (whole : List ℕ) × (rest : Li
 abbrev pub ReadsLine : Bool → Option (List ℕ) → Option (List ℕ) → List ℕ → Type 0
 ReadsLine is_line was is line = IfSome was (λ bytes. (rest : List ℕ) × (is ≡ Some rest)
     × (questions_in bytes ≡ (if is_line then asked_of line ∷ questions_in rest else [])))
-
--- ---- lines in a reader's buffer
-
--- these questions
-abbrev pub as_asked : List Question → List (Option Question)
-as_asked asked = map (λ a. Some a) asked
-
--- where so many of the lines end, given where each of them ends
-abbrev pub end_at : List ℕ → ℕ → ℕ
-end_at ends many = if many == 0 then 0 else slice_index ends (many - 1)
-
--- the first bytes of a text are whole lines that ask for this
-abbrev pub EndLines : List ℕ → ℕ → List (Option Question) → Type 0
-EndLines text many asked = (many ≤ length text) × AreLines (take many text) asked
-
--- the first lines of a text ask for these, and end there
-pub record StandsIn (text : List ℕ) (asked : List Question) (ends : List ℕ) : Type 0 where
-  pub many : length ends ≡ length asked
-  pub each : (k : ℕ) → k ≤ length asked → EndLines text (end_at ends k) (as_asked (take k asked))
-
--- a line was taken into the buffer's lines, if it may stand in a group
-abbrev pub TakesLine : List ℕ → List Question → List Question → Bool → Type 0
-TakesLine line old new true =
-    (found : Question) × (new ≡ old ++ found ∷ []) × (asked_of line ≡ Some found) × (is_quit (Some found) ≡ false)
-TakesLine line old new false = new ≡ old
-
--- the lines that stand in a text end here, where this is left of it
-abbrev pub EndsHere : List ℕ → List Question → List ℕ → List ℕ → Type 0
-EndsHere text asked ends rest = (end_at ends (length asked) + length rest ≡ length text)
-    × (text ≡ take (end_at ends (length asked)) text ++ rest)
-
--- what an input asks for behind so many lines, given where they end
-abbrev pub left_at : List ℕ → Option (List ℕ) → ℕ → Option (List (Option Question))
-left_at ends known many = option_map (λ bytes. until_quit (questions_in (drop (end_at ends many) bytes))) known
-
--- a reader shows this text, and still has what it had; of the text, so much may be taken
-pub record ShowsText (was is : Option (List ℕ)) (most : Option ℕ) (text : List ℕ) : Type 0 where
-  pub front : IfSome was (λ bytes. StartsWith bytes text)
-  pub kept : Keeps was is
-  pub fits : IfSome was (λ _. IfSome most (λ n. length text ≤ n))

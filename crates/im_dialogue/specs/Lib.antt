@@ -6,7 +6,7 @@ pub mod Answers
 pub mod Watching
 pub mod Hearing
 pub mod Talk
-pub mod Looks
+pub mod Firsts
 pub mod Together
 pub mod Telling
 pub mod Dialogue

@@ -1,6 +1,6 @@
 -- A dialogue over a session: what was asked, what it was answered, and what was put. (Own.)
-use Rattle.std.specs.Prelude.{◌≡◌, ℕ, zero, suc, ◌+◌, ◌≤◌, Bool, true, false, ◌⊎◌, List, [], ◌∷◌, ◌++◌, length, take}
-use Rattle.std.specs.Prelude.{IfOk, MatchOption, MatchResult, Some, None, Ok, Err, Option, Result}
+use Rattle.std.specs.Prelude.{◌≡◌, ℕ, zero, suc, ◌+◌, ◌≤◌, Bool, true, false, ◌⊎◌, List, [], ◌∷◌, ◌++◌, length, IfOk}
+use Rattle.std.specs.Prelude.{MatchOption, MatchResult, Some, None, Ok, Err, Option, Result}
 use Rattle.std.specs.Io.KnownBytes.{Appends}
 use Rattle.im_types.specs.Types.{Command, Outcome, Refusal, JournalFull, Device, Failed, MAX_GROUP, Contents, bounds}
 use Rattle.im_types.specs.Types.{step, is_accepted, after, layout_in_use}
@@ -13,7 +13,7 @@ use Rattle.im_dialogue.specs.{declared.backups.BackupFault.BackupFault, Watching
 use Rattle.im_dialogue.specs.declared.{about.About.About, answers.LineAnswer.LineAnswer, asking.Question.Question}
 use Rattle.im_dialogue.specs.declared.answers.LineAnswer.TheVariants.{About as Facts, Backup as BackedUp, Count, Looked}
 use Rattle.im_dialogue.specs.declared.answers.LineAnswer.TheVariants.{Room, Served, Turned, Window, Wrong}
-use Rattle.im_dialogue.specs.Hearing.{asking, Hears, HearsSome, left_behind, questions_left}
+use Rattle.im_dialogue.specs.Hearing.{Hears, HearsSome, questions_left}
 use Rattle.im_dialogue.specs.declared.asking.Question.TheVariants as asks
 
 -- ---- what was said
@@ -241,40 +241,3 @@ module _ {D : Type 0} (watch : Bool) (old : SessionState D) (was : Outputs) (new
   -- the same, and it was ended
   abbrev pub TalkEnds : Type 0
   TalkEnds = old.engine.failed ≡ false → Silent
-
-module _ {D : Type 0} (watch : Bool) where
-  -- What a call comes to that serves lines of no backup, and of an input that asks for something else: whatever is kept
-  -- and left stays as it is.
-  abbrev pub TalksThrough : {T E : Type 0} → SessionState D → Option (List ℕ) → Option (List (Option Question))
-      → SessionState D → Option (List ℕ) → (T → Option (List (Option Question))) → Result T E → Type 0
-  TalksThrough old was before new is later result = MatchResult result
-      (λ done. (backups : List Backup) → TalksOn watch old (with_left before (outputs was backups)) new
-      (with_left (later done) (outputs is backups)))
-      (λ e. (backups : List Backup) → TalkEnds watch old (with_left before (outputs was backups)) new
-      (outputs is backups))
-
-  -- What a call comes to that serves the first of these questions, and returns how many, whatever is left behind them.
-  abbrev pub TalksQueue : {E : Type 0} → List (Option Question) → SessionState D → Option (List ℕ) → SessionState D
-      → Option (List ℕ) → Result ℕ E → Type 0
-  TalksQueue asked old was new is result =
-      (before : Option (List (Option Question))) (later : ℕ → Option (List (Option Question)))
-      → ((k : ℕ) → k ≤ length asked → Hears before (later k) (take k asked))
-      → TalksThrough old was before new is later result
-
-  -- What a call comes to that serves this line, whatever is left behind it. It returns whether the dialogue continues.
-  abbrev pub TalksLine : {E : Type 0} → Option Question → SessionState D → Outputs → SessionState D → Outputs
-      → Result Bool E → Type 0
-  TalksLine asked old was new is result = (rest : Option (List (Option Question))) → MatchResult result
-      (λ goes_on. TalksOn watch old (with_left (asking asked rest) was) new (with_left (left_behind goes_on rest) is))
-      (λ e. TalkEnds watch old (with_left (asking asked rest) was) new is)
-
-  -- the same of a call that does what a line asks, if a line asks so
-  abbrev pub TalksAsked : {E : Type 0} → Question → SessionState D → Outputs → SessionState D → Outputs → Result Bool E
-      → Type 0
-  TalksAsked asked old was new is result =
-      (line : List ℕ) → asked_of line ≡ Some asked → TalksLine (Some asked) old was new is result
-
--- the same of a line that isn't in the grammar; the dialogue continues
-abbrev pub TalksWrong : {D T E : Type 0} → SessionState D → Option (List ℕ) → Option (List ℕ) → Result T E → Type 0
-TalksWrong s was is result = (watch : Bool) (rest : Option (List (Option Question)))
-    → TalksThrough watch s was (asking None rest) s is (λ _. left_behind true rest) result

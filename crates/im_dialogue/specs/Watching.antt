@@ -4,8 +4,6 @@ use Rattle.im_types.specs.Types.{Kind, Op, Reply, Waiter, Answered, Store, Put, 
 use Rattle.im_types.specs.Types.{same_kind, act, asker, is_accepted}
 use Rattle.im_text.specs.Printing.{now_line}
 use Rattle.im_dialogue.specs.declared.answers.LineAnswer.{LineAnswer, TheVariants.Served}
-use Rattle.im_dialogue.specs.declared.asking.Question.{Question}
-use Rattle.im_dialogue.specs.declared.asking.Question.TheVariants as asks
 
 -- E.N now REPLY: the answer to a request that waited
 abbrev pub told_now : Waiter × Reply → List ℕ
@@ -40,12 +38,7 @@ answers_nobody (Confirm element upto) = true
 
 -- ---- as it is made
 
--- what a command will tell those that watch, if it is put on the disk
-abbrev pub told_by : Bool → Contents → Option Question → List ℕ
-told_by watch m (Some (asks.Serve command)) = if watch then nows_text (resumed_by m command) else []
-told_by watch m asked = []
-
--- how much of it is told, given the line's answer
+-- how much of these lines is told, given the line's answer
 abbrev pub told_with : LineAnswer → List ℕ → List ℕ
 told_with (Served command (Ok outcome)) nows = nows
 told_with answer nows = []

@@ -1,5 +1,5 @@
 //! A dialogue on the image of a disk.
-ghost use Rattle.std.specs.Prelude.{◌≡◌, ◌≤◌, false};
+ghost use Rattle.std.specs.Prelude.{◌≡◌, ◌≤◌, false, [], string_bytes};
 ghost use Rattle.im_dialogue.specs.{Dialogue.BeginsNow, Dialogue.TalkedOn, Serving.ClosesDialogue, Talk.outputs};
 
 use crate::backups::Backups;
@@ -7,7 +7,7 @@ use crate::resting::open_with_slots;
 use crate::serving::{Dialogue, Setting};
 use im_disk::Disk;
 use im_listening::Ear;
-use im_text::{News, diagnose, end};
+use im_text::{News, Style, diagnose, end};
 use im_types::Observer;
 use std::alloc::Global;
 use std::io::{BufRead, Write};
@@ -62,7 +62,7 @@ pub fn dialogue_on<D: Disk, B: Backups, R: BufRead + Ear, W: Write, N: Observer<
         }
         Err((refusal, mut disk)) => {
             let reason = diagnose(alloc, &mut disk, refusal);
-            (end(alloc, Err(reason), out, observer), disk)
+            (end(alloc, Style::Text, Err(reason), out, observer), disk)
         }
     }
 }
@@ -75,8 +75,10 @@ fn talk_on<D: Disk, B: Backups, R: BufRead + Ear, W: Write, N: Observer<News>>(
     out: &mut W,
     observer: &mut N,
 ) -> (u8, D)
-    requires begins { BeginsNow dialogue.session }
-    requires works { dialogue.session.engine.failed ≡ false }
+    requires begins { BeginsNow dialogue.front.session }
+    requires works { dialogue.front.session.engine.failed ≡ false }
+    requires asked { dialogue.front.asked ≡ [] }
+    requires told { string_bytes dialogue.drafts.draft.text ≡ [] }
     ensures status { result.0 ≤ 1 }
     ensures closed { ClosesDialogue D.Disk dialogue (R.remaining input.old) result.1
         (outputs (W.contents out.old) (B.kept backups.old)) (outputs (W.contents out.new) (B.kept backups.new))
@@ -85,6 +87,9 @@ fn talk_on<D: Disk, B: Backups, R: BufRead + Ear, W: Write, N: Observer<News>>(
     let alloc = dialogue.alloc;
     match dialogue.serve_lines(backups, input, out) {
         Ok(()) => (0, dialogue.close()),
-        Err(reason) => (end(alloc, Err(reason), out, observer), dialogue.close()),
+        Err(reason) => (
+            end(alloc, Style::Text, Err(reason), out, observer),
+            dialogue.close(),
+        ),
     }
 }

@@ -1,9 +1,7 @@
 //! Room that is kept from line to line.
+ghost use Rattle.std.specs.Prelude.{◌≡◌, [], string_bytes};
 
-use crate::buffer::InBuffer;
-use crate::grouping::Gathered;
 use crate::saying::Draft;
-use arrayvec::ArrayVec;
 use std::alloc::Global;
 
 /// Room that is kept from line to line.
@@ -11,35 +9,21 @@ use std::alloc::Global;
 pub(crate) struct Drafts {
     /// A line that was read.
     pub(crate) line: Vec<u8>,
-    /// The text of its answer.
+    /// For each command of the next group, what those that watch are told behind its answer. Empty if nobody watches.
+    pub(crate) nows: Vec<String>,
+    /// The text of answers.
     pub(crate) draft: Draft,
-    /// The lines for those that watch, which follow it.
-    pub(crate) nows: String,
-    /// What the lines ask for that stand in the reader's buffer.
-    pub(crate) standing: InBuffer,
-    /// Those of them that are served as one group.
-    pub(crate) group: Gathered,
 }
 
 impl Drafts {
     /// Makes room for lines, in which nothing is yet.
-    pub(crate) fn new(alloc: Global) -> Drafts {
+    pub(crate) fn new(alloc: Global) -> Drafts
+        ensures { string_bytes result.draft.text ≡ [] }
+    {
         Drafts {
             line: Vec::new(alloc),
-            draft: Draft {
-                alloc,
-                text: String::new(alloc),
-            },
-            nows: String::new(alloc),
-            standing: InBuffer {
-                asked: Vec::new(alloc),
-                ends: Vec::new(alloc),
-            },
-            group: Gathered {
-                parts: Vec::new(alloc),
-                nows: Vec::new(alloc),
-                members: ArrayVec::new(),
-            },
+            nows: Vec::new(alloc),
+            draft: Draft::new(alloc),
         }
     }
 }

@@ -71,8 +71,20 @@ pub(crate) fn unread(kind: ErrorKind) -> Reason {
     Reason::Input(kind)
 }
 
-// Reads what is there of a line, up to its line feed.
-fn read_part<R: BufRead>(input: &mut R, line: &mut Vec<u8>) -> Result<LinePart, Reason>
+// Returns whether a whole line stands in a text behind so many of its bytes.
+fn has_line(text: &[u8], taken: usize) -> bool
+    requires within { taken ≤ length text.now }
+{
+    let rest = &text[taken..];
+    line_len(rest) < rest.len()
+}
+
+// Reads what is there of a line, up to its line feed. Notes whether another whole line is there behind it.
+fn read_part<R: BufRead>(
+    input: &mut R,
+    line: &mut Vec<u8>,
+    more: &mut bool,
+) -> Result<LinePart, Reason>
     requires few { length line.old.items ≤ KEPT }
     ensures few { length line.new.items ≤ KEPT }
     ensures read { IfOk result (λ part. ReadsMore part (R.remaining input.old) (R.remaining input.new)
@@ -93,21 +105,28 @@ fn read_part<R: BufRead>(input: &mut R, line: &mut Vec<u8>) -> Result<LinePart, 
     }
     let part = part_read(before, text.len());
     let taken = taken_to(before, text.len());
+    *more = has_line(text, taken);
     input.consume(taken);
     Ok(part)
 }
 
 /// Reads the next line, without its line feed. If the line is longer than [`MAX_LINE`], it keeps only the first
 /// [`KEPT`] bytes, and reads on to the line feed. Returns false at the end of the input. A line that ends without a
-/// line feed is no line: what was cut off isn't asked.
-pub(crate) fn next_line<R: BufRead>(input: &mut R, line: &mut Vec<u8>) -> Result<bool, Reason>
+/// line feed is no line: what was cut off isn't asked. Notes whether another whole line stands behind it in the reader's
+/// buffer, so that reading it doesn't wait.
+pub(crate) fn next_line<R: BufRead>(
+    input: &mut R,
+    line: &mut Vec<u8>,
+    more: &mut bool,
+) -> Result<bool, Reason>
     ensures few { length line.new.items ≤ KEPT }
     ensures read { IfOk result (λ is_line. ReadsLine is_line (R.remaining input.old) (R.remaining input.new)
         line.new.items) }
 {
     line.clear();
+    *more = false;
     for _part in 0..u64::MAX {
-        match read_part(input, line) {
+        match read_part(input, line, more) {
             Ok(LinePart::More) => {}
             Ok(LinePart::Last) => return Ok(true),
             Ok(LinePart::None) => return Ok(false),

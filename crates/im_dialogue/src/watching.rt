@@ -1,15 +1,19 @@
 //! The lines for those that watch. They follow an answer, and tell which waiting requests the line answered.
-ghost use Rattle.std.specs.Prelude.{◌≡◌, ◌++◌, OnOk, string_bytes};
-ghost use Rattle.im_types.specs.Types.{I, M, Value, held_at, store, put, at_cell, act, asker, is_accepted};
-ghost use Rattle.im_dialogue.specs.Watching.{answers_nobody, is_of_kind, is_quiet, nows_text, resumed_by, told_by};
-ghost use Rattle.im_dialogue.specs.Watching.{told_now, told_with};
+ghost use Rattle.std.specs.Prelude.{◌≡◌, ◌<◌, true, [], ◌∷◌, ◌++◌, map, length, take, IfOk, OnOk, string_bytes};
+ghost use Rattle.im_types.specs.Types.{I, M, Value, MAX_GROUP, held_at, store, put, at_cell, act, asker, is_accepted};
+ghost use Rattle.im_front.specs.Lists.{commands_asked};
+ghost use Rattle.im_dialogue.specs.Together.{GroupStart, TellsWatchers, TellWatchers};
+ghost use Rattle.im_dialogue.specs.Watching.{answers_nobody, is_of_kind, is_quiet, nows_text, resumed_by, told_now};
+ghost use Rattle.im_dialogue.specs.Watching.{told_with};
 
 use crate::answers::LineAnswer;
-use crate::asking::Question;
+use crate::firsts::is_first;
+use arrayvec::ArrayVec;
+use im_front::AskedCommand;
 use im_memory::Memory;
 use im_text::add_entry;
-use im_types::{Command, Entry, Kind, Op, Reply, Request, Waiter};
-use std::alloc::AllocError;
+use im_types::{Command, Entry, Kind, MAX_GROUP, Op, Reply, Request, Waiter};
+use std::alloc::{AllocError, Global};
 
 // Returns whether such an operation never answers a request that waits.
 fn is_quiet(op: Op) -> bool
@@ -18,8 +22,8 @@ fn is_quiet(op: Op) -> bool
     !matches!(op, Op::Store(_, _) | Op::Put(_, _))
 }
 
-/// Returns whether such a command never answers a request that waits.
-pub(crate) fn answers_nobody(command: Command) -> bool
+// Returns whether such a command never answers a request that waits.
+fn answers_nobody(command: Command) -> bool
     ensures { result ≡ answers_nobody command }
 {
     match command {
@@ -77,12 +81,8 @@ fn add_taker(out: &mut String, memory: &Memory, a: u32, value: u64) -> Result<()
     }
 }
 
-/// Adds the lines of the requests that a new request resumes.
-pub(crate) fn add_resumed(
-    out: &mut String,
-    memory: &Memory,
-    request: &Request,
-) -> Result<(), AllocError>
+// Adds the lines of the requests that a new request resumes.
+fn add_resumed(out: &mut String, memory: &Memory, request: &Request) -> Result<(), AllocError>
     ensures { OnOk result (string_bytes out.new ≡ string_bytes out.old
         ++ nows_text (act memory.now.contents.cells (asker request.now) request.now.op).resumed) }
 {
@@ -120,26 +120,133 @@ fn add_by_command(out: &mut String, memory: &Memory, command: &Command) -> Resul
     }
 }
 
-/// Makes the lines of the requests that wait on this memory and that what is asked resumes, if it is put on the disk.
-/// Makes none if the dialogue isn't watched.
-pub(crate) fn make_nows(
-    nows: &mut String,
+// Adds what those that watch are told of a request behind these members. Returns false if it isn't known before they
+// act whom the request answers.
+fn add_answered(
     memory: &Memory,
-    asked: Question,
-    watch: bool,
+    ahead: &[Command],
+    request: &Request,
+    now: &mut String,
+) -> Result<bool, AllocError>
+    requires empty { string_bytes now.old ≡ [] }
+    ensures { IfOk result (λ known. known ≡ true → (b : GroupStart) → b.memory ≡ memory.now.contents
+        → TellsWatchers true b ahead.now (Command.Request request.now) (string_bytes now.new)) }
+{
+    let _cells = memory.cells(); // So that it is known to be a memory.
+    if is_first(memory, ahead, request) {
+        add_resumed(now, memory, request)?;
+        Ok(true)
+    } else {
+        Ok(false)
+    }
+}
+
+// Adds what those that watch are told of a command behind these members, if there are any. Returns false if that isn't
+// known before they act.
+fn add_behind(
+    memory: &Memory,
+    ahead: &[Command],
+    command: &Command,
+    now: &mut String,
+) -> Result<bool, AllocError>
+    requires empty { string_bytes now.old ≡ [] }
+    ensures { IfOk result (λ known. known ≡ true → (b : GroupStart) → b.memory ≡ memory.now.contents
+        → TellsWatchers true b ahead.now command.now (string_bytes now.new)) }
+{
+    if answers_nobody(*command) {
+        return Ok(true);
+    }
+    match command {
+        Command::Request(request) => add_answered(memory, ahead, request, now),
+        Command::Confirm { .. } => Ok(false),
+    }
+}
+
+// Adds what those that watch are told of a command behind these members. Returns false if that isn't known before they
+// act. It is, if there are none.
+fn add_told(
+    memory: &Memory,
+    ahead: &[Command],
+    command: &Command,
+    now: &mut String,
+) -> Result<bool, AllocError>
+    requires empty { string_bytes now.old ≡ [] }
+    ensures known { IfOk result (λ known. known ≡ true → (b : GroupStart) → b.memory ≡ memory.now.contents
+        → TellsWatchers true b ahead.now command.now (string_bytes now.new)) }
+    ensures first { IfOk result (λ known. length ahead.now ≡ 0 → known ≡ true) }
+{
+    if ahead.is_empty() {
+        add_by_command(now, memory, command)?;
+        Ok(true)
+    } else {
+        add_behind(memory, ahead, command, now)
+    }
+}
+
+// Makes what those that watch are told behind each of the first commands that are asked, as far as it is known before
+// they act, at most of a group. Returns of how many it is.
+fn add_nows(
+    alloc: Global,
+    memory: &Memory,
+    asked: &[AskedCommand],
+    nows: &mut Vec<String>,
+) -> Result<usize, AllocError>
+    requires empty { nows.old.items ≡ [] }
+    ensures some { IfOk result (λ many. 0 < length asked.now → 0 < many) }
+    ensures known { IfOk result (λ many. (b : GroupStart) → b.memory ≡ memory.now.contents
+        → TellWatchers true b [] (take many (commands_asked asked.now)) (map string_bytes nows.new.items)) }
+{
+    let mut ahead = ArrayVec::new();
+    for one in asked {
+        if ahead.len() >= MAX_GROUP {
+            return Ok(ahead.len());
+        }
+        let mut now = String::new(alloc);
+        let known = add_told(memory, ahead.as_slice(), &one.command, &mut now)?;
+        if !known {
+            return Ok(ahead.len());
+        }
+        add_now_of(&mut ahead, nows, one.command, now)?;
+    }
+    Ok(ahead.len())
+}
+
+// Adds a command, and what those that watch are told behind it.
+fn add_now_of(
+    ahead: &mut ArrayVec<Command, MAX_GROUP>,
+    nows: &mut Vec<String>,
+    command: Command,
+    now: String,
 ) -> Result<(), AllocError>
-    ensures { OnOk result (string_bytes nows.new ≡ told_by watch memory.now.contents (Some asked)) }
+    requires room { length ahead.old.items < MAX_GROUP }
+    ensures ahead { ahead.new.items ≡ ahead.old.items ++ command ∷ [] }
+    ensures nows { OnOk result (map string_bytes nows.new.items
+        ≡ map string_bytes nows.old.items ++ string_bytes now ∷ []) }
+{
+    ahead.push(command);
+    nows.push(now)?;
+    Ok(())
+}
+
+/// Makes what those that watch are told behind each of the first commands that are asked: of as many as are one group at
+/// most, and if the dialogue is watched, as far as it is known before they act. Returns of how many it is, and of one at
+/// least.
+pub(crate) fn make_nows(
+    alloc: Global,
+    memory: &Memory,
+    watch: bool,
+    asked: &[AskedCommand],
+    nows: &mut Vec<String>,
+) -> Result<usize, AllocError>
+    ensures some { IfOk result (λ many. 0 < length asked.now → 0 < many) }
+    ensures known { IfOk result (λ many. (b : GroupStart) → b.memory ≡ memory.now.contents
+        → TellWatchers watch b [] (take many (commands_asked asked.now)) (map string_bytes nows.new.items)) }
 {
     nows.clear();
-    match asked {
-        Question::Serve(command) => {
-            if watch {
-                add_by_command(nows, memory, &command)
-            } else {
-                Ok(())
-            }
-        }
-        _ => Ok(()),
+    if watch {
+        add_nows(alloc, memory, asked, nows)
+    } else {
+        Ok(MAX_GROUP)
     }
 }
 

@@ -1,27 +1,26 @@
 -- How the program ends.
 use Rattle.std.proofs.Common.{◌≡◌, ℕ, Bool, List, Some, None, Option, unwrap_or, sym, refl, ap, ◌∙◌, subst, inl, arith}
 use Rattle.im_disk.specs.declared.{Disk.Ghosts as DiskGhosts, FileDisk.FileDisk, Start.Ghosts}
-use Rattle.{im_filters.specs.declared.Telling.Telling, im_words.specs.declared.CommandLine.CommandLine}
-use Rattle.im_words.specs.Words.{asks_statuses, asks_task, asks_telling, Task, task_of_work}
+use Rattle.im_words.specs.declared.{CommandLine.CommandLine, Work.Work}
+use Rattle.im_words.specs.Words.{asks_statuses, asks_work, texts_in}
 use Rattle.im_program.proofs.ToldLemmas.{nothing_done}
 use Rattle.im_program.specs.Ending.{Ended, EndedBy, EndedOn, EndsAs}
 
-same_task : (a b : Task) → Some a ≡ Some b → a ≡ b
-same_task a b is = ap (λ (o : Option Task). unwrap_or o a) is
+same_work : (a b : Work (List ℕ)) → Some a ≡ Some b → a ≡ b
+same_work a b is = ap (λ (o : Option (Work (List ℕ))). unwrap_or o a) is
 
 module _ {S T : Type 0} (start : Ghosts S) (other : Ghosts T) (d : DiskGhosts (FileDisk S start))
     (e : DiskGhosts (FileDisk T other)) (input was is : Option (List ℕ)) (result : ℕ) where
   -- what was read of the words was done
   pub ended_by : (words : List (List ℕ)) (line : CommandLine) (disk : Option (FileDisk S start))
-      (old : Option (FileDisk T other)) → asks_task words ≡ Some (task_of_work line.work)
-      → line.statuses ≡ asks_statuses words → line.telling ≡ asks_telling words
+      (old : Option (FileDisk T other)) → asks_work words ≡ Some (texts_in line.work)
+      → line.statuses ≡ asks_statuses words
       → EndedOn start other d e line input was is result disk old
       → EndedBy start other d e words input was is result disk old
-  ended_by words line disk old work statuses telling ended = λ taken waits task asks.
-      subst (λ (s : Bool). Ended start other d e s task (asks_telling words) input was is result disk old) statuses
-      (subst (λ (l : Telling). Ended start other d e line.statuses task l input was is result disk old) telling
-      (subst (λ (t : Task). Ended start other d e line.statuses t line.telling input was is result disk old)
-      (same_task (task_of_work line.work) task (sym work ∙ asks)) ended))
+  ended_by words line disk old is_work statuses ended = λ taken waits work asks.
+      subst (λ (s : Bool). Ended start other d e s work input was is result disk old) statuses
+      (subst (λ (w : Work (List ℕ)). Ended start other d e line.statuses w input was is result disk old)
+      (same_work (texts_in line.work) work (sym is_work ∙ asks)) ended)
 
   -- the same words, and the same status
   pub ended_as : (told words : List (List ℕ)) (came_to : ℕ) (disk : Option (FileDisk S start))
@@ -40,15 +39,15 @@ module _ {S T : Type 0} (start : Ghosts S) (other : Ghosts T) (d : DiskGhosts (F
   }
 
   -- whatever was asked was refused, and no file was opened
-  pub refused : (statuses : Bool) (task : Task) (telling : Telling) → result ≡ 1
-      → Ended start other d e statuses task telling input was is result None None
-  refused statuses task telling one = record {
+  pub refused : (statuses : Bool) (work : Work (List ℕ)) → result ≡ 1
+      → Ended start other d e statuses work input was is result None None
+  refused statuses work one = record {
     status = 1;
     ends = refused_as statuses one;
-    told = nothing_done start other d e input task telling was is 1 refl;
+    done = nothing_done start other d e work _ 1 refl;
   }
 
-  -- the same of the task of these words
+  -- the same of what these words ask for
   pub refused_by : (words : List (List ℕ)) → result ≡ 1
       → EndedBy start other d e words input was is result None None
-  refused_by words one = λ taken waits task asks. refused (asks_statuses words) task (asks_telling words) one
+  refused_by words one = λ taken waits work asks. refused (asks_statuses words) work one

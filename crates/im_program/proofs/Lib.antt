@@ -3,8 +3,5 @@ pub mod EndingLemmas
 pub mod Loads
 pub mod MovedLemmas
 pub mod OkLemmas
-pub mod RunLemmas
 pub mod SourceLemmas
 pub mod ToldLemmas
-pub mod TracedLemmas
-pub mod TransferLemmas

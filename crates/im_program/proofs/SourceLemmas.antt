@@ -1,9 +1,10 @@
 -- A text, and where it was read.
 use Rattle.std.proofs.Common.{◌≡◌, ℕ, Bool, true, false, ◌⊎◌, List, IfSome, IfOk, if◌then◌else◌, Some, None, Ok, Err}
 use Rattle.std.proofs.Common.{Option, Result, sym, subst, inl, inr}
-use Rattle.{im_disk.specs.declared.Disk.Ghosts as DiskGhosts, im_disk.specs.Moment.Moment, im_words.specs.Words.Task}
-use Rattle.im_program.specs.Sources.{IsTextOf}
-use Rattle.im_program.specs.Working.{MakesImage, ScriptServed, ScriptServes, TextServed, WasDone}
+use Rattle.im_disk.specs.declared.{Disk.Ghosts as DiskGhosts, FileDisk.FileDisk, Start.Ghosts}
+use Rattle.{im_disk.specs.Moment.Moment, im_text.specs.Said.Output, im_words.specs.declared.Work.Work}
+use Rattle.im_program.specs.{Sources.IsTextOf, Told.WorkDone}
+use Rattle.im_program.specs.Working.{MakesImage, ScriptServed, ScriptServes, TextServed}
 
 -- it was read from the input
 pub from_input : {A E : Type 0} (text : A → List ℕ) (r : Result A E) (known : Option (List ℕ)) (b : Bool) → b ≡ true
@@ -26,7 +27,7 @@ text_as known text other same it = subst (IsTextOf known) (sym same) it
 
 -- the text that was served is what was read
 pub text_served : {D : Type 0} (d : DiskGhosts D) (once : Bool) (first : Moment) (bytes : List ℕ) (disk : D)
-    (was is : Option (List ℕ)) (status : ℕ) → ScriptServed d once first (Some bytes) disk was is status
+    (was : Output) (is : Option (List ℕ)) (status : ℕ) → ScriptServed d once first (Some bytes) disk was is status
     → TextServed d once first bytes was is status disk
 text_served d once first bytes disk was is status it = (
   it.old,
@@ -36,13 +37,13 @@ text_served d once first bytes disk was is status it = (
 )
 
 -- What was done with an input that nobody asked, if it was asked about a new image alone.
-pub done_with : {D I : Type 0} (d : DiskGhosts D) (first : Moment) (remaining : I → Option (List ℕ)) (was_input input : I)
-    (task : Task) → MakesImage task ⊎ (input ≡ was_input) → (was is : Option (List ℕ)) (status : ℕ) (disk : D)
-    → WasDone d first (remaining input) task was is status disk
-    → WasDone d first (remaining was_input) task was is status disk
-done_with d first remaining was_input input task (inr same) was is status disk it =
-    subst (λ i. WasDone d first (remaining i) task was is status disk) same it
-done_with d first remaining was_input input task (inl (image, cells, elements, slots, is_new, makes)) was is status disk
-    it =
-    subst (λ (t : Task). WasDone d first (remaining was_input) t was is status disk) (sym makes)
-    (subst (λ (t : Task). WasDone d first (remaining input) t was is status disk) makes it)
+pub done_with : {S T I : Type 0} (start : Ghosts S) (other : Ghosts T) (d : DiskGhosts (FileDisk S start))
+    (e : DiskGhosts (FileDisk T other)) (remaining : I → Option (List ℕ)) (was_input input : I) (work : Work (List ℕ))
+    → MakesImage work ⊎ (input ≡ was_input) → (was is : Option (List ℕ)) (status : ℕ) (disk : Option (FileDisk S start))
+    (old : Option (FileDisk T other)) → WorkDone start other d e (remaining input) work was is status disk old
+    → WorkDone start other d e (remaining was_input) work was is status disk old
+done_with start other d e remaining was_input input work (inr same) was is status disk old it =
+    subst (λ i. WorkDone start other d e (remaining i) work was is status disk old) same it
+done_with start other d e remaining was_input input work (inl (it, makes)) was is status disk old done =
+    subst (λ (w : Work (List ℕ)). WorkDone start other d e (remaining was_input) w was is status disk old) (sym makes)
+    (subst (λ (w : Work (List ℕ)). WorkDone start other d e (remaining input) w was is status disk old) makes done)

@@ -5,5 +5,4 @@ pub mod Moving
 pub mod Loading
 pub mod Told
 pub mod Ending
-pub mod Traced
 pub mod Prompting

@@ -1,32 +1,32 @@
 -- At which path a file was opened. (Own.)
-use Rattle.std.specs.Prelude.{◌≡◌, ℕ, List, []}
-use Rattle.im_disk.specs.declared.Disk.{Ghosts as DiskGhosts}
-use Rattle.im_words.specs.Words.{copy, demonstration, dump, format, inspect, load, migrate, run, serial, serve, Task}
-use Rattle.im_program.specs.Working.{IsOfTwo}
+use Rattle.std.specs.Prelude.{◌≡◌, ℕ, List, [], Some, None, Option}
+use Rattle.{im_disk.specs.declared.Disk.Ghosts as DiskGhosts, im_words.specs.declared.Work.Work}
+use Rattle.im_words.specs.declared.Work.TheVariants.{Copy, Demonstration, Dump, Format, Inspect, Load, Migrate, Run}
+use Rattle.im_words.specs.declared.Work.TheVariants.{Serial, Serve}
 
 -- The disk's file was opened at this path, if it is honest: the path that its start names is this one.
 abbrev pub IsOpenAt : {D : Type 0} → DiskGhosts D → List ℕ → List ℕ → D → Type 0
 IsOpenAt d named path disk = d.honest disk → named ≡ path
 
--- the path of the file that a task works on: of the image, or of the new one of two files
-abbrev pub file_of : Task → List ℕ
-file_of demonstration = []
-file_of (format image cells elements slots is_new) = image
-file_of (serial image script once) = image
-file_of (run image script planned once trace) = image
-file_of (serve image watch backups) = image
-file_of (inspect image look) = image
-file_of (migrate old new) = new
-file_of (copy old new asked) = new
-file_of (dump image) = image
-file_of (load text new asked) = new
+-- the path of the file that is worked on: of the image, or of the new one of two files
+abbrev pub file_of : Work (List ℕ) → List ℕ
+file_of Demonstration = []
+file_of (Format it) = it.image
+file_of (Serial it) = it.image
+file_of (Run it) = it.image
+file_of (Serve it) = it.image
+file_of (Inspect it) = it.image
+file_of (Dump image) = image
+file_of (Load it) = it.new
+file_of (Migrate it) = it.new
+file_of (Copy it) = it.new
 
--- the path of the old one of two files
-abbrev pub old_file_of : Task → List ℕ
-old_file_of (migrate old new) = old
-old_file_of (copy old new asked) = old
-old_file_of _ = []
+-- the path of the old one of two files, if the work has one
+abbrev pub old_file_of : Work (List ℕ) → Option (List ℕ)
+old_file_of (Migrate it) = Some it.old
+old_file_of (Copy it) = Some it.from
+old_file_of _ = None
 
--- the task opens two files, and this disk is that of the old one, if it is honest
-abbrev pub IsOldOf : {D : Type 0} → DiskGhosts D → List ℕ → Task → D → Type 0
-IsOldOf d named task disk = IsOfTwo task × IsOpenAt d named (old_file_of task) disk
+-- the work has an old file, and this disk is that of it, if it is honest
+abbrev pub IsOldOf : {D : Type 0} → DiskGhosts D → List ℕ → Work (List ℕ) → D → Type 0
+IsOldOf d named work disk = (path : List ℕ) × (old_file_of work ≡ Some path) × IsOpenAt d named path disk

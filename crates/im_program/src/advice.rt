@@ -8,7 +8,7 @@ use im_image::{Versions, read_header};
 use im_report::{Filter, View};
 use im_text::{CallFault, PathFault, Reason};
 use im_types::{Limits, Refusal};
-use im_words::{Job, Work};
+use im_words::Work;
 use std::fs::{self, File};
 use std::io::{self, Eprint, ErrorKind, Read};
 use std::rt::Files;
@@ -17,11 +17,8 @@ use std::rt::Files;
 const LETTERS: &[u8] = b"\0IMEM";
 
 /// Whether the work serves requests on the image of a file, so that one of them may be in doubt.
-pub(crate) fn serves(work: &Work) -> bool {
-    matches!(
-        work,
-        Work::Run(_) | Work::Alone(Job::Serial(_)) | Work::Alone(Job::Serve(_))
-    )
+pub(crate) fn serves(work: &Work<&str>) -> bool {
+    matches!(work, Work::Serial(_) | Work::Run(_) | Work::Serve(_))
 }
 
 /// Whether a reason waits for what the disk says, because a call on the disk failed.
@@ -124,15 +121,15 @@ fn tell_if_outside<R: Files<File = File> + AllocGlobal + Eprint>(
 /// Prints which cells or elements the image has, if a report that was printed was asked for others alone.
 pub(crate) fn tell_what_there_is<R: Files<File = File> + AllocGlobal + Eprint>(
     rt: &R,
-    job: &Job,
+    work: &Work<&str>,
     status: u8,
 ) {
-    let Job::Inspect { image, look } = *job else {
+    let Work::Inspect(it) = *work else {
         return;
     };
-    match look {
+    match it.look {
         View::Report(filter) | View::ReportJson(filter) if status == 0 => {
-            tell_if_outside(rt, image, &filter)
+            tell_if_outside(rt, it.image, &filter)
         }
         _ => {}
     }

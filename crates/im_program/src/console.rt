@@ -4,7 +4,7 @@ use crate::advice::{begins_as_image, is_of_call, print_advised, serves};
 use crate::descriptors::Descriptors;
 use crate::loading::LoadFault;
 use crate::opening::call_of;
-use crate::shown::{EscapedName, folder_of, input_or};
+use crate::shown::{EscapedName, folder_of, input_or, paths_of};
 use crate::watching::print_answer;
 use im_disk::Failure;
 use im_files::Noting;
@@ -54,10 +54,10 @@ impl<'a, R: Files<File = File> + Eprint + AllocGlobal> Console<'a, R> {
     pub fn new(
         rt: &'a R,
         held: &'a Descriptors,
-        work: &Work<'a>,
+        work: &Work<&'a str>,
         terminals: Terminals,
     ) -> Console<'a, R> {
-        let (image, script) = work.paths();
+        let (image, script) = paths_of(work);
         Console {
             rt,
             held,

@@ -10,9 +10,9 @@ use crate::moving::{place_at, print_counted, source_at};
 use crate::opening::{call_of, give_up};
 use im_disk::{Disk, Failure, FileDisk, Start};
 use im_migration::{Asked, MoveNews, copy, length_for_copy};
-use im_text::{News, Reason, diagnose, end};
+use im_text::{News, Reason, Style, diagnose, end};
 use im_types::{Observer, Refusal};
-use im_words::Copying;
+use im_words::Making;
 use std::alloc::Global;
 use std::fs::File;
 use std::io::Write;
@@ -79,20 +79,20 @@ pub fn copy_file<
     V: Observer<News> + Observer<MoveNews>,
 >(
     hand: AtHand<'_, R, I, V>,
-    copying: &Copying,
+    making: &Making<&str>,
     out: &mut W,
     starts: (S, T),
 ) -> Result<(u8, FileDisk<S>, FileDisk<T>), Refusal>
     ensures status { IfOk result (λ r. r.0 ≤ 1) }
     ensures copied { IfOk result (λ r.
-        CopiedFrom S.Start T.Start copying.now.asked (W.contents out.old) (W.contents out.new) r.0 r.2 r.1) }
-    ensures named { IfOk result (λ r. IsOpenAt ⟦<FileDisk<S> as Disk>⟧ S.path copying.now.new.now r.1) }
-    ensures old { IfOk result (λ r. IsOpenAt ⟦<FileDisk<T> as Disk>⟧ T.path copying.now.old.now r.2) }
+        CopiedFrom S.Start T.Start making.now.asked (W.contents out.old) (W.contents out.new) r.0 r.2 r.1) }
+    ensures named { IfOk result (λ r. IsOpenAt ⟦<FileDisk<S> as Disk>⟧ S.path making.now.new.now r.1) }
+    ensures old { IfOk result (λ r. IsOpenAt ⟦<FileDisk<T> as Disk>⟧ T.path making.now.from.now r.2) }
     ensures refused { IfErr result (λ refusal. MayRefuseCopy refusal) }
     ensures same { OnErr result (Keeps (W.contents out.old) (W.contents out.new)) }
 {
     let (rt, _held, _input, observer) = hand.parts();
-    let (old, new, asked) = (copying.old, copying.new, copying.asked);
+    let (old, new, asked) = (making.from, making.new, making.asked);
     let (start, other) = starts;
     let mut from = source_at(rt, old, new, observer, other)?;
     let length = length_of(rt.alloc(), &mut from, asked, observer)?;
@@ -100,7 +100,7 @@ pub fn copy_file<
     match copy(rt.alloc(), &mut from, to, asked, observer) {
         Ok((to, count)) => {
             let told = print_counted(rt.alloc(), "copied", count, out);
-            Ok((end(rt.alloc(), told, out, observer), to, from))
+            Ok((end(rt.alloc(), Style::Text, told, out, observer), to, from))
         }
         Err((refusal, to)) => {
             let reason = reason_for(refusal, to.failure(), from.failure());

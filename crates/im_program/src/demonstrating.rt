@@ -1,14 +1,11 @@
 //! What is done if no work is named.
 ghost use Rattle.std.specs.Prelude.{◌≡◌, ◌≤◌, IfOk};
 
-use crate::console::Console;
 use crate::formatting::limits_of;
-use crate::hand::AtHand;
 use crate::work::refuse;
 use im_damage::Damage;
 use im_disk::MemDisk;
 use im_engine::Engine;
-use im_files::Noting;
 use im_image::image_length;
 use im_script::read_script;
 use im_serial::serial_on;
@@ -16,9 +13,7 @@ use im_text::{News, Reason};
 use im_types::{Observer, Refusal};
 use im_words::{DEFAULT_CELLS, DEFAULT_ELEMENTS, DEFAULT_SLOTS};
 use std::alloc::Global;
-use std::fs::File;
-use std::io::{Eprint, Write};
-use std::rt::Files;
+use std::io::Write;
 
 // The script that is served then.
 const DEMONSTRATION: &str = "setup
@@ -78,17 +73,4 @@ pub fn demonstrate<W: Write, N: Observer<News>>(alloc: Global, out: &mut W, obse
         Ok(status) => status,
         Err(refusal) => refuse(alloc, refusal, out),
     }
-}
-
-/// The same, with a refusal told on the console.
-pub(crate) fn act_with_no_file<R: Files<File = File> + AllocGlobal + Eprint, I, W: Write>(
-    hand: AtHand<'_, R, I, Console<'_, R>>,
-    out: &mut W,
-) -> u8
-    ensures status { result ≤ 1 }
-{
-    let (rt, _held, _input, console) = hand.parts();
-    let status = demonstrate(rt.alloc(), out, console);
-    console.settle(None, Noting::Unneeded);
-    status
 }

@@ -9,7 +9,7 @@ use crate::hand::AtHand;
 use crate::opening::image_to_read;
 use im_disk::{Disk, FileDisk, Start};
 use im_dump::dump;
-use im_text::{News, end};
+use im_text::{News, Style, end};
 use im_types::{Observer, Refusal};
 use std::alloc::Global;
 use std::fs::File;
@@ -29,7 +29,7 @@ fn dump_on<D: Disk, W: Write, V: Observer<News>>(
     ensures reads { ReadsAlone D.Disk disk.old disk.new }
 {
     let told = dump(alloc, disk, out);
-    end(alloc, told, out, observer)
+    end(alloc, Style::Text, told, out, observer)
 }
 
 /// Prints the dump of the image of a file. Returns the status and the image's disk. The status is 0, or 1 if something

@@ -77,7 +77,10 @@ pub fn format_file<R: Files<File = File> + AllocGlobal, S: Start, I, N: Observer
 }
 
 // Returns the limits that are asked for. If a number is out of its range, the observer is told which.
-fn limits_asked<N: Observer<News>>(asked: &Formatting, observer: &mut N) -> Result<Limits, Refusal>
+fn limits_asked<N: Observer<News>>(
+    asked: &Formatting<&str>,
+    observer: &mut N,
+) -> Result<Limits, Refusal>
     ensures limits { IfOk result (λ limits. (limits.cells ≡ asked.now.cells) × (limits.elements ≡ asked.now.elements)
         × (limits.slots ≡ asked.now.slots)) }
     ensures found { IfOk result (λ _. AreLimits asked.now.cells asked.now.elements asked.now.slots) }
@@ -96,7 +99,7 @@ fn limits_asked<N: Observer<News>>(asked: &Formatting, observer: &mut N) -> Resu
 /// number is out of its range; then no file is made.
 pub(crate) fn format_image<R: Files<File = File> + AllocGlobal, S: Start, I, N: Observer<News>>(
     hand: AtHand<'_, R, I, N>,
-    formatting: &Formatting,
+    formatting: &Formatting<&str>,
     start: S,
 ) -> Result<(u8, FileDisk<S>), Refusal>
     ensures status { IfOk result (λ r. r.0 ≤ 1) }

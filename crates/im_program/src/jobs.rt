@@ -1,62 +1,106 @@
-//! Does the work of one thread on one file.
-ghost use Rattle.std.specs.Prelude.{◌≡◌, ◌≤◌, ◌⊎◌, IfSome, IfNone, IfOk};
-ghost use Rattle.im_words.specs.Words.{task_of_job};
-ghost use Rattle.im_program.specs.{Places.file_of, Places.IsOpenAt, Working.MakesImage, Working.WasDone};
+//! The table of work: what is done of each kind, and before and after it.
+ghost use Rattle.std.specs.Prelude.{◌≡◌, ◌≤◌, ◌⊎◌, IfSome, IfOk, Some, None};
+ghost use Rattle.im_words.specs.Words.{texts_in};
+ghost use Rattle.im_program.specs.{Places.file_of, Places.IsOpenAt, Told.LineDone, Working.MakesImage};
 
-use crate::advice::tell_what_there_is;
 use crate::backups::Folder;
 use crate::console::Console;
+use crate::copying::copy_file;
+use crate::demonstrating::demonstrate;
 use crate::dumping::dump_file;
 use crate::formatting::format_image;
 use crate::hand::AtHand;
-use crate::loading::{LoadFault, load_file};
+use crate::loading::load_file;
 use crate::looking::inspect_file;
+use crate::moving::migrate_file;
 use crate::overwriting::{Loss, may_be_made};
+use crate::running::run_traced;
 use crate::serving::serve_file;
 use crate::settling::{settle_if, settle_new};
 use crate::talking::talk_file;
-use crate::work::refuse;
 use im_disk::{Disk, FileDisk, Start};
-use im_files::Noting;
 use im_listening::Ear;
-use im_migration::MoveNews;
-use im_text::{News, PathFault, Reason};
+use im_run::STALLED;
+use im_text::{News, Style};
 use im_types::{Observer, Refusal};
-use im_words::{Formatting, Job};
+use im_words::{CommandLine, Formatting, Work};
 use std::fs::File;
 use std::io::{BufRead, Eprint, Write};
 use std::rt::Files;
+use std::sync::Wait;
+use std::thread::Threads;
 
-// Does the job. Returns the status and the disk of the file.
-fn do_job<
-    R: Files<File = File> + AllocGlobal,
-    S: Start,
+// Serves the demonstration's script. Returns the status.
+fn demonstrate_at<R: AllocGlobal, I, W: Write, N: Observer<News>>(
+    hand: AtHand<'_, R, I, N>,
+    out: &mut W,
+) -> u8
+    ensures { result ≤ 1 }
+{
+    let (rt, _held, _input, observer) = hand.parts();
+    demonstrate(rt.alloc(), out, observer)
+}
+
+// What work on one file came to.
+fn of_one<S: Start, T: Start>(
+    done: (u8, FileDisk<S>),
+) -> (u8, Option<FileDisk<S>>, Option<FileDisk<T>>)
+    ensures { result ≡ (done.0, Some done.1, None) }
+{
+    let (status, disk) = done;
+    (status, Some(disk), None)
+}
+
+// What work on a new file and an old one came to.
+fn of_two<S: Start, T: Start>(
+    done: (u8, FileDisk<S>, FileDisk<T>),
+) -> (u8, Option<FileDisk<S>>, Option<FileDisk<T>>)
+    ensures { result ≡ (done.0, Some done.1, Some done.2) }
+{
+    let (status, new, old) = done;
+    (status, Some(new), Some(old))
+}
+
+/// Does what the table of work says. Returns the status, the disk of the image or of the new file, and that of the old
+/// file.
+pub(crate) fn do_work<
+    R: Files<File = File> + AllocGlobal + Eprint + Threads + Wait + Sync,
+    S: Start + Send,
+    T: Start,
     I: BufRead + Ear,
     W: Write,
-    N: Observer<News> + Observer<MoveNews> + Observer<LoadFault>,
->(hand: AtHand<'_, R, I, N>, job: &Job, out: &mut W, start: S) -> Result<(u8, FileDisk<S>), Refusal>
-    ensures status { IfOk result (λ r. r.0 ≤ 1) }
-    ensures done { IfOk result (λ r. WasDone ⟦<FileDisk<S> as Disk>⟧ S.first (I.remaining hand.entry.input.now)
-        (task_of_job job.now) (W.contents out.old) (W.contents out.new) r.0 r.1) }
-    ensures named { IfOk result (λ r. IsOpenAt ⟦<FileDisk<S> as Disk>⟧ S.path (file_of (task_of_job job.now)) r.1) }
+>(
+    hand: AtHand<'_, R, I, Console<'_, R>>,
+    line: &CommandLine,
+    out: &mut W,
+    starts: (S, T),
+) -> Result<(u8, Option<FileDisk<S>>, Option<FileDisk<T>>), Refusal>
+    ensures status { IfOk result (λ r. (r.0 ≤ 1) ⊎ (r.0 ≡ STALLED)) }
+    ensures done { IfOk result (λ r. LineDone S.Start T.Start ⟦<FileDisk<S> as Disk>⟧ ⟦<FileDisk<T> as Disk>⟧
+        (I.remaining hand.entry.input.now) line.now.work (W.contents out.old) (W.contents out.new) r.0 r.1 r.2) }
 {
-    match *job {
-        Job::Format(formatting) => format_image(hand, &formatting, start),
-        Job::Serial(serving) => serve_file(hand, &serving, out, start),
-        Job::Serve(talking) => {
-            let mut folder = Folder::new(hand.rt, hand.held, talking.backups);
-            talk_file(hand, &talking, &mut folder, out, start)
+    let (start, other) = starts;
+    match line.work {
+        Work::Demonstration => Ok((demonstrate_at(hand, out), None, None)),
+        Work::Format(it) => Ok(of_one(format_image(hand, &it, start)?)),
+        Work::Serial(it) => Ok(of_one(serve_file(hand, &it, out, start)?)),
+        Work::Run(it) => Ok(of_one(run_traced(hand, &it, out, start)?)),
+        Work::Serve(it) => {
+            let mut folder = Folder::new(hand.rt, hand.held, it.backups);
+            Ok(of_one(talk_file(hand, &it, &mut folder, out, start)?))
         }
-        Job::Inspect { image, look } => inspect_file(hand, image, &look, out, start),
-        Job::Dump { image } => dump_file(hand, image, out, start),
-        Job::Load(loading) => load_file(hand, &loading, out, start),
+        Work::Inspect(it) => Ok(of_one(inspect_file(hand, it.image, &it.look, out, start)?)),
+        Work::Dump(image) => Ok(of_one(dump_file(hand, image, out, start)?)),
+        Work::Load(it) => Ok(of_one(load_file(hand, &it, out, start)?)),
+        Work::Migrate(it) => Ok(of_two(migrate_file(hand, &it, out, (start, other))?)),
+        Work::Copy(it) => Ok(of_two(copy_file(hand, &it, out, (start, other))?)),
     }
 }
 
 // Whether an image may be made: nobody is asked, or the answer is yes.
 fn may_format<R: Files<File = File> + AllocGlobal + Eprint, I: BufRead>(
     rt: &R,
-    formatting: &Formatting,
+    formatting: &Formatting<&str>,
     input: &mut I,
     console: &Console<'_, R>,
     loss: &mut Loss,
@@ -64,142 +108,81 @@ fn may_format<R: Files<File = File> + AllocGlobal + Eprint, I: BufRead>(
     formatting.is_new || may_be_made(rt, formatting.image, input, console, loss)
 }
 
-// Whether the job may be done. If that is asked, the job makes an image. If nobody can be asked, `loss` becomes what is
-// lost.
-fn may_do<R: Files<File = File> + AllocGlobal + Eprint, I: BufRead>(
+/// Whether the work may be done. If that is asked, it makes an image. If nobody can be asked, `loss` becomes what is
+/// lost.
+pub(crate) fn may_do<R: Files<File = File> + AllocGlobal + Eprint, I: BufRead>(
     rt: &R,
-    job: &Job,
+    work: &Work<&str>,
     input: &mut I,
     console: &Console<'_, R>,
     loss: &mut Loss,
 ) -> bool
-    ensures { MakesImage (task_of_job job.now) ⊎ (input.new ≡ input.old) }
+    ensures { MakesImage (texts_in work.now) ⊎ (input.new ≡ input.old) }
 {
-    match *job {
-        Job::Format(formatting) => may_format(rt, &formatting, input, console, loss),
+    match *work {
+        Work::Format(formatting) => may_format(rt, &formatting, input, console, loss),
         _ => true,
     }
 }
 
-// The path of the file that the job works on.
-fn path_of<'a>(job: &Job<'a>) -> &'a str
-    ensures { result.now ≡ file_of (task_of_job job.now) }
+// The path of the file that is worked on: of the image, or of the new one of two files.
+fn path_of<'a>(work: &Work<&'a str>) -> &'a str
+    ensures { result.now ≡ file_of (texts_in work.now) }
 {
-    match *job {
-        Job::Format(formatting) => formatting.image,
-        Job::Serial(serving) => serving.image,
-        Job::Serve(talking) => talking.image,
-        Job::Inspect { image, .. } => image,
-        Job::Dump { image } => image,
-        Job::Load(loading) => loading.new,
+    match *work {
+        Work::Demonstration => "",
+        Work::Format(formatting) => formatting.image,
+        Work::Serial(serving) => serving.image,
+        Work::Run(running) => running.image,
+        Work::Serve(talking) => talking.image,
+        Work::Inspect(it) => it.image,
+        Work::Dump(image) => image,
+        Work::Load(making) => making.new,
+        Work::Migrate(moving) => moving.new,
+        Work::Copy(making) => making.new,
     }
 }
 
-// Prints which call on the job's disk failed, if a disk was opened. Leaves a note if a sync failed. A file that is
-// loaded is a new one.
-fn settle_job<R: Files<File = File> + AllocGlobal + Eprint, S: Start>(
+// Whether the work puts something into a new file, which is named second.
+fn has_new_file(work: &Work<&str>) -> bool {
+    matches!(*work, Work::Load(_) | Work::Migrate(_) | Work::Copy(_))
+}
+
+/// Prints which call on the disks failed, if any were opened. Leaves a note if a sync failed.
+pub(crate) fn settle<R: Files<File = File> + AllocGlobal + Eprint, S: Start, T: Start>(
     rt: &R,
-    job: &Job,
+    work: &Work<&str>,
     disk: &Option<FileDisk<S>>,
+    old: &Option<FileDisk<T>>,
     console: &mut Console<'_, R>,
 )
     requires named { IfSome disk.now (λ it.
-        IsOpenAt ⟦<FileDisk<S> as Disk>⟧ S.path (file_of (task_of_job job.now)) it) }
+        IsOpenAt ⟦<FileDisk<S> as Disk>⟧ S.path (file_of (texts_in work.now)) it) }
 {
-    let path = path_of(job);
-    match (job, disk) {
-        (Job::Load(_), Some(disk)) => {
-            settle_new(rt, path, disk, console);
-            console.settle(None, Noting::Unneeded);
-        }
+    let path = path_of(work);
+    match disk {
+        Some(new) if has_new_file(work) => settle_new(rt, path, new, old, console),
         _ => settle_if(rt, path, disk, console),
     }
 }
 
-// Tells what a new image replaced, if it was made.
-fn tell_loss<R: AllocGlobal + Eprint>(rt: &R, job: &Job, loss: Loss, is_made: bool) {
+/// Tells what a new image replaced, if it was made.
+pub(crate) fn tell_loss<R: AllocGlobal + Eprint>(
+    rt: &R,
+    work: &Work<&str>,
+    loss: Loss,
+    is_made: bool,
+) {
     if is_made {
-        loss.tell(rt, path_of(job));
+        loss.tell(rt, path_of(work));
     }
 }
 
-// Does the job, and prints the line of a refusal.
-fn work_alone<
-    R: Files<File = File> + AllocGlobal,
-    S: Start,
-    I: BufRead + Ear,
-    W: Write,
-    N: Observer<News> + Observer<MoveNews> + Observer<LoadFault>,
->(hand: AtHand<'_, R, I, N>, job: &Job, out: &mut W, start: S) -> (u8, Option<FileDisk<S>>)
-    ensures status { result.0 ≤ 1 }
-    ensures done { IfSome result.1 (λ disk. WasDone ⟦<FileDisk<S> as Disk>⟧ S.first (I.remaining hand.entry.input.now)
-        (task_of_job job.now) (W.contents out.old) (W.contents out.new) result.0 disk) }
-    ensures named { IfSome result.1 (λ disk.
-        IsOpenAt ⟦<FileDisk<S> as Disk>⟧ S.path (file_of (task_of_job job.now)) disk) }
-    ensures none { IfNone result.1 (result.0 ≡ 1) }
-{
-    let alloc = hand.rt.alloc();
-    match do_job(hand, job, out, start) {
-        Ok((status, disk)) => (status, Some(disk)),
-        Err(refusal) => (refuse(alloc, refusal, out), None),
+/// How a refusal of the work is said.
+pub(crate) fn style_of(work: &Work<&str>) -> Style {
+    match *work {
+        Work::Serial(serving) => serving.style,
+        Work::Run(running) => running.style,
+        _ => Style::Text,
     }
-}
-
-/// Does the job of one thread. Returns the status that the program ends with: 0, or 1 if something was refused or a
-/// write of the output failed. Also returns the disk of the image, if its file was made or opened. A dialogue reads
-/// the input, and so does a script with the path `-`. The output goes to `out`, a refusal as its last line `refused N
-/// NAME`.
-///
-/// Standard error has these lines:
-///
-/// - The reason of a refusal. If a call of the disk failed, it says which. If that was a sync, it also says that the
-///   file system is to be mounted anew, and a note is left beside the image.
-/// - `K.N now REPLY` for a request that waited when the image was opened and whose entry is confirmed.
-/// - How far a long script has come, if somebody watches.
-/// - Which cells or elements the image has, if a report was asked for others alone.
-///
-/// If standard input is a terminal, a person is asked before an image replaces a file that isn't empty. Else, if such a
-/// file is no image, a line on standard error tells what was replaced.
-///
-/// Refusals: `Device` for a file that isn't to be replaced; `BadLimits` for a number out of its range, and then no file
-/// is made; and the errors of [`format_file`], [`serve_file`], [`talk_file`], [`inspect_file`], [`dump_file`] and
-/// [`load_file`]. If a disk is returned, the status and the output are those of the function that was called. Else the
-/// status is 1.
-///
-/// `start` stands for what the image holds when it is opened. It is used up, and no code reads it.
-pub fn act_alone<
-    R: Files<File = File> + AllocGlobal + Eprint,
-    S: Start,
-    I: BufRead + Ear,
-    W: Write,
->(
-    hand: AtHand<'_, R, I, Console<'_, R>>,
-    job: &Job,
-    out: &mut W,
-    start: S,
-) -> (u8, Option<FileDisk<S>>)
-    ensures status { result.0 ≤ 1 }
-    ensures done { IfSome result.1 (λ disk. WasDone ⟦<FileDisk<S> as Disk>⟧ S.first (I.remaining hand.entry.input.now)
-        (task_of_job job.now) (W.contents out.old) (W.contents out.new) result.0 disk) }
-    ensures named { IfSome result.1 (λ disk.
-        IsOpenAt ⟦<FileDisk<S> as Disk>⟧ S.path (file_of (task_of_job job.now)) disk) }
-    ensures none { IfNone result.1 (result.0 ≡ 1) }
-{
-    let (rt, held, input, console) = hand.parts();
-    let mut loss = Loss::none();
-    if !may_do(rt, job, input, console, &mut loss) {
-        console.tell(News::Refused(Reason::File(PathFault::Exists)));
-        return (refuse(rt.alloc(), Refusal::Device, out), None);
-    }
-    let inner = AtHand {
-        rt,
-        held,
-        input,
-        observer: &mut *console,
-    };
-    let (status, disk) = work_alone(inner, job, out, start);
-    settle_job(rt, job, &disk, console);
-    tell_what_there_is(rt, job, status);
-    tell_loss(rt, job, loss, disk.is_some());
-    (status, disk)
 }

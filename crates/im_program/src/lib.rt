@@ -27,9 +27,7 @@ mod shelf;
 mod shown;
 mod statuses;
 mod talking;
-mod telling;
 mod tracing;
-mod transferring;
 mod watching;
 mod work;
 
@@ -41,10 +39,9 @@ pub use dumping::dump_file;
 pub use formatting::format_file;
 pub use hand::AtHand;
 pub use im_words::{
-    CommandLine, Copying, DEFAULT_CELLS, DEFAULT_ELEMENTS, DEFAULT_SLOTS, Formatting, Job, Loading,
-    Paths, ScriptRun, Serving, Talking, Transfer, WordFault, Work, read_words,
+    CommandLine, DEFAULT_CELLS, DEFAULT_ELEMENTS, DEFAULT_SLOTS, Formatting, Inspection, Making,
+    Moving, ScriptRun, Serving, Talking, WordFault, Work, read_words,
 };
-pub use jobs::act_alone;
 pub use loading::{LoadFault, load_file};
 pub use looking::inspect_file;
 pub use moving::{migrate_file, migrate_on};
@@ -53,6 +50,4 @@ pub use running::run_file;
 pub use serving::{serve_file, serve_input};
 pub use statuses::status_for;
 pub use talking::talk_file;
-pub use telling::act_told;
-pub use tracing::write_traced;
 pub use work::{act, refuse};

@@ -16,9 +16,9 @@ use im_dump::{DumpFault, Loaded, read_dump};
 use im_image::image_length;
 use im_migration::{Asked, MoveNews, Original, Resized, prepare, put_new};
 use im_script::{ScriptFault, TextFault};
-use im_text::{News, Reason, Words, end};
+use im_text::{News, Reason, Style, Words, end};
 use im_types::{Observer, Refusal};
-use im_words::Loading;
+use im_words::Making;
 use std::alloc::Global;
 use std::fmt;
 use std::fmt::{Display, Formatter};
@@ -195,24 +195,24 @@ pub fn load_file<
     V: Observer<News> + Observer<MoveNews> + Observer<LoadFault>,
 >(
     hand: AtHand<'_, R, I, V>,
-    loading: &Loading,
+    making: &Making<&str>,
     out: &mut W,
     start: S,
 ) -> Result<(u8, FileDisk<S>), Refusal>
     ensures status { IfOk result (λ r. r.0 ≤ 1) }
-    ensures loaded { IfOk result (λ r. WasLoaded ⟦<FileDisk<S> as Disk>⟧ S.first loading.now
-        (I.remaining hand.entry.input.now) (W.contents out.old) (W.contents out.new) r.0 r.1) }
-    ensures named { IfOk result (λ r. IsOpenAt ⟦<FileDisk<S> as Disk>⟧ S.path loading.now.new.now r.1) }
+    ensures loaded { let m = making.now in IfOk result (λ r. WasLoaded ⟦<FileDisk<S> as Disk>⟧ S.first m.asked
+        m.from.now (I.remaining hand.entry.input.now) (W.contents out.old) (W.contents out.new) r.0 r.1) }
+    ensures named { IfOk result (λ r. IsOpenAt ⟦<FileDisk<S> as Disk>⟧ S.path making.now.new.now r.1) }
     ensures refused { IfErr result (λ e. MayRefuseLoad e) }
     ensures same { OnErr result (Keeps (W.contents out.old) (W.contents out.new)) }
 {
     let (rt, held, input, observer) = hand.parts();
-    let loaded = match read_loaded(rt, held, loading.text, input) {
+    let loaded = match read_loaded(rt, held, making.from, input) {
         Ok(loaded) => loaded,
         Err(fault) => return Err(refuse_text(fault, observer)),
     };
-    let resized = prepare_loaded(rt.alloc(), &loaded, loading.asked, observer)?;
-    let to = put_file(rt, loading.new, &resized, observer, start)?;
+    let resized = prepare_loaded(rt.alloc(), &loaded, making.asked, observer)?;
+    let to = put_file(rt, making.new, &resized, observer, start)?;
     let told = print_counted(rt.alloc(), "loaded", loaded.count, out);
-    Ok((end(rt.alloc(), told, out, observer), to))
+    Ok((end(rt.alloc(), Style::Text, told, out, observer), to))
 }

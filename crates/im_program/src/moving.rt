@@ -13,9 +13,9 @@ use im_disk::{Disk, FileDisk, Start};
 use im_files::{FileFault, make_image, open_image};
 use im_image::{Versions, read_header};
 use im_migration::{MoveNews, length_for, migrate};
-use im_text::{News, PathFault, Reason, diagnose, end, put_through};
+use im_text::{News, PathFault, Reason, Style, diagnose, end, put_through};
 use im_types::{Observer, Refusal};
-use im_words::Paths;
+use im_words::Moving;
 use std::alloc::{AllocError, Global};
 use std::fs::{self, File};
 use std::io::{ErrorKind, Write};
@@ -72,9 +72,12 @@ pub fn migrate_on<O: Disk, N: Disk, W: Write, V: Observer<News> + Observer<MoveN
     match migrate(alloc, old, new, observer) {
         Ok((new, count)) => {
             let told = print_counted(alloc, "migrated", count, out);
-            (end(alloc, told, out, observer), new)
+            (end(alloc, Style::Text, told, out, observer), new)
         }
-        Err((refusal, new)) => (end(alloc, Err(Reason::New(refusal)), out, observer), new),
+        Err((refusal, new)) => (
+            end(alloc, Style::Text, Err(Reason::New(refusal)), out, observer),
+            new,
+        ),
     }
 }
 
@@ -210,7 +213,7 @@ pub fn migrate_file<
     V: Observer<News> + Observer<MoveNews>,
 >(
     hand: AtHand<'_, R, I, V>,
-    paths: &Paths,
+    paths: &Moving<&str>,
     out: &mut W,
     starts: (S, T),
 ) -> Result<(u8, FileDisk<S>, FileDisk<T>), Refusal>

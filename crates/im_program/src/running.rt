@@ -1,23 +1,22 @@
 //! Runs a script, the requests of each element by threads of its own.
-ghost use Rattle.std.specs.Prelude.{◌≡◌, ◌≤◌, true, ◌⊎◌, is_some, IfSome, IfNone, IfOk, IfErr, OnErr, IsSome};
+ghost use Rattle.std.specs.Prelude.{◌≡◌, ◌≤◌, true, ◌⊎◌, is_some, IfOk, IfErr, OnErr};
 ghost use Rattle.std.specs.Io.KnownBytes.{Keeps};
 ghost use Rattle.im_types.specs.Types.{Device, NoMemory, BadScript};
-ghost use Rattle.im_run.specs.Once.{RunsWhen};
+ghost use Rattle.{im_text.specs.Said.output, im_run.specs.Once.RunsWhen};
 ghost use Rattle.im_program.specs.{Places.IsOpenAt, Working.RanAs, Working.WasRun};
 
 use crate::console::Console;
 use crate::hand::AtHand;
 use crate::opening::image_at;
 use crate::scripts::{read_file, script_in};
-use crate::settling::settle_if;
 use crate::tracing::{keep_trace, make_file_if};
 use crate::watching::Watch;
-use crate::work::refuse;
 use im_disk::{Disk, FileDisk, Start};
 use im_run::{Assignment, RunContext, STALLED, Trace, run_on, run_on_plan, run_once_on};
 use im_script::Script;
+use im_serial::StyledScript;
 use im_serving::{Host, Open, Standing, Teller};
-use im_text::News;
+use im_text::{News, Style};
 use im_types::{Observer, Refusal};
 use im_words::ScriptRun;
 use std::fs::File;
@@ -28,8 +27,9 @@ use std::thread::Threads;
 
 // A script that is run, and how.
 #[derive(Clone, Copy)]
-struct RunTask<'s, 'a> {
-    script: &'s Script<'a>,
+struct RunTask<'a> {
+    script: &'a Script<'a>,
+    style: Style,
     once: bool,
     planned: bool,
 }
@@ -44,28 +44,34 @@ fn run_task<
 >(
     context: &RunContext<'_, Open, V, R>,
     disk: D,
-    task: RunTask<'_, '_>,
+    task: RunTask<'_>,
     out: &mut W,
     observer: &mut N,
 ) -> (u8, D, Trace)
     ensures status { (result.0 ≤ 1) ⊎ (result.0 ≡ STALLED) }
     ensures run { RunsWhen D.Disk task.entry.once task.entry.planned task.entry.script.now disk result.1
-        (W.contents out.old) (W.contents out.new) result.2 result.0 }
+        (output task.entry.style (W.contents out.old)) (W.contents out.new) result.2 result.0 }
     ensures recorded { context.now.recorded ≡ true → result.2.recorded ≡ true }
 {
     let RunTask {
         script,
+        style,
         once,
         planned,
     } = task;
     if once {
-        let asked = Assignment { script, planned };
+        let asked = Assignment {
+            script,
+            style,
+            planned,
+        };
         return run_once_on(context, disk, asked, out, observer);
     }
+    let styled = StyledScript { script, style };
     if planned {
-        return run_on_plan(context, disk, script, out, observer);
+        return run_on_plan(context, disk, &styled, out, observer);
     }
-    run_on(context, disk, script, out, observer)
+    run_on(context, disk, &styled, out, observer)
 }
 
 /// Runs the script of one file on the image of another, each element's requests by threads of its own. The script may
@@ -98,7 +104,7 @@ pub fn run_file<
     N: Observer<News>,
 >(
     hand: AtHand<'_, R, I, N>,
-    running: &ScriptRun,
+    running: &ScriptRun<&str>,
     watcher: V,
     out: &mut W,
     start: S,
@@ -118,67 +124,33 @@ pub fn run_file<
     let context = RunContext::new(rt, rt.alloc(), &Open, watcher, running.trace.is_some());
     let task = RunTask {
         script: &script,
+        style: running.style,
         once: running.once,
         planned: running.planned,
     };
     Ok(run_task(&context, disk, task, out, observer))
 }
 
-// Runs the script, and prints the line of a refusal.
-fn run_at_once<
-    R: Files<File = File> + AllocGlobal + Threads + Wait + Sync,
-    S: Start + Send,
-    V: Observer<Standing> + Teller + Copy + Send,
-    I: Read,
-    W: Write,
-    N: Observer<News>,
->(
-    hand: AtHand<'_, R, I, N>,
-    running: &ScriptRun,
-    watcher: V,
-    out: &mut W,
-    start: S,
-) -> (u8, Option<FileDisk<S>>, Option<Trace>)
-    ensures status { (result.0 ≤ 1) ⊎ (result.0 ≡ STALLED) }
-    ensures ran { IfSome result.1 (λ disk. IfSome result.2 (λ trace. RanAs ⟦<FileDisk<S> as Disk>⟧ S.first running.now
-        (I.remaining hand.entry.input.now) (W.contents out.old) (W.contents out.new) trace result.0 disk)) }
-    ensures named { IfSome result.1 (λ disk. IsOpenAt ⟦<FileDisk<S> as Disk>⟧ S.path running.now.image.now disk) }
-    ensures recorded { IfSome result.2 (λ trace. is_some running.now.trace ≡ true → trace.recorded ≡ true) }
-    ensures none { IfNone result.1 (result.0 ≡ 1) }
-    ensures both { IfSome result.1 (λ _. IsSome result.2) }
-{
-    let alloc = hand.rt.alloc();
-    match run_file(hand, running, watcher, out, start) {
-        Ok((status, disk, trace)) => (status, Some(disk), Some(trace)),
-        Err(refusal) => (refuse(alloc, refusal, out), None, None),
-    }
-}
-
-/// Runs a script with threads for its elements, and writes its trace if one is asked for: as objects of JSON if
-/// `objects` is set. Returns the status, and the disk of the image if it was opened.
-pub(crate) fn act_at_once<
+/// Runs a script with threads for its elements, and writes its trace if one is asked for: as objects of JSON if its
+/// lines are said so. If nothing was run, the trace's file is removed.
+pub(crate) fn run_traced<
     R: Files<File = File> + AllocGlobal + Eprint + Threads + Wait + Sync,
     S: Start + Send,
     I: Read,
     W: Write,
 >(
     hand: AtHand<'_, R, I, Console<'_, R>>,
-    running: &ScriptRun,
-    objects: bool,
+    running: &ScriptRun<&str>,
     out: &mut W,
     start: S,
-) -> (u8, Option<FileDisk<S>>)
-    ensures status { (result.0 ≤ 1) ⊎ (result.0 ≡ STALLED) }
-    ensures ran { IfSome result.1 (λ disk. WasRun ⟦<FileDisk<S> as Disk>⟧ S.first running.now
-        (I.remaining hand.entry.input.now) (W.contents out.old) (W.contents out.new) result.0 disk) }
-    ensures named { IfSome result.1 (λ disk. IsOpenAt ⟦<FileDisk<S> as Disk>⟧ S.path running.now.image.now disk) }
-    ensures none { IfNone result.1 (result.0 ≡ 1) }
+) -> Result<(u8, FileDisk<S>), Refusal>
+    ensures status { IfOk result (λ r. (r.0 ≤ 1) ⊎ (r.0 ≡ STALLED)) }
+    ensures ran { IfOk result (λ r. WasRun ⟦<FileDisk<S> as Disk>⟧ S.first running.now
+        (I.remaining hand.entry.input.now) (W.contents out.old) (W.contents out.new) r.0 r.1) }
+    ensures named { IfOk result (λ r. IsOpenAt ⟦<FileDisk<S> as Disk>⟧ S.path running.now.image.now r.1) }
 {
     let (rt, held, input, console) = hand.parts();
-    let file = match make_file_if(rt, held, running.trace, console) {
-        Ok(file) => file,
-        Err(refusal) => return (refuse(rt.alloc(), refusal, out), None),
-    };
+    let file = make_file_if(rt, held, running.trace, console)?;
     let watch = Watch::new(rt, console.is_watched());
     let inner = AtHand {
         rt,
@@ -186,8 +158,15 @@ pub(crate) fn act_at_once<
         input,
         observer: &mut *console,
     };
-    let (status, disk, run) = run_at_once(inner, running, watch, out, start);
-    keep_trace(rt, file, run, objects, console);
-    settle_if(rt, running.image, &disk, console);
-    (status, disk)
+    let objects = running.style == Style::Json;
+    match run_file(inner, running, watch, out, start) {
+        Ok((status, disk, trace)) => {
+            keep_trace(rt, file, Some(trace), objects, console);
+            Ok((status, disk))
+        }
+        Err(refusal) => {
+            keep_trace(rt, file, None, objects, console);
+            Err(refusal)
+        }
+    }
 }

@@ -2,14 +2,15 @@
 ghost use Rattle.std.specs.Prelude.{◌≡◌, ◌≤◌, ◌⊎◌, IfOk, IfErr, OnErr};
 ghost use Rattle.std.specs.Io.KnownBytes.{Keeps};
 ghost use Rattle.im_types.specs.Types.{Device, NoMemory, BadScript};
+ghost use Rattle.im_text.specs.Said.{output};
 ghost use Rattle.im_program.specs.{Places.IsOpenAt, Working.WasScriptServed, Working.WasTextServed};
 
 use crate::hand::AtHand;
 use crate::opening::image_at;
 use crate::scripts::{read_file, script_in};
 use im_disk::{Disk, FileDisk, Start};
-use im_serial::{serial_on, serial_once_on};
-use im_text::News;
+use im_serial::{StyledScript, serial_on, serial_once_on};
+use im_text::{News, Style};
 use im_types::{Observer, Refusal};
 use im_words::Serving;
 use std::fs::File;
@@ -42,7 +43,7 @@ pub fn serve_file<
     N: Observer<News>,
 >(
     hand: AtHand<'_, R, I, N>,
-    serving: &Serving,
+    serving: &Serving<&str>,
     out: &mut W,
     start: S,
 ) -> Result<(u8, FileDisk<S>), Refusal>
@@ -58,10 +59,14 @@ pub fn serve_file<
     let text = read_file(rt, held, serving.script, input, observer)?;
     let script = script_in(rt.alloc(), text.as_slice(), false, observer)?;
     let disk = image_at(rt, serving.image, observer, start)?;
+    let styled = StyledScript {
+        script: &script,
+        style: serving.style,
+    };
     if once {
-        Ok(serial_once_on(rt.alloc(), disk, &script, out, observer))
+        Ok(serial_once_on(rt.alloc(), disk, &styled, out, observer))
     } else {
-        Ok(serial_on(rt.alloc(), disk, &script, out, observer))
+        Ok(serial_on(rt.alloc(), disk, &styled, out, observer))
     }
 }
 
@@ -75,12 +80,13 @@ pub fn serve_input<R: Files<File = File> + AllocGlobal, S: Start, W: Write, N: O
     start: S,
 ) -> Result<(u8, FileDisk<S>), Refusal>
     ensures { IfOk result (λ r. WasTextServed ⟦<FileDisk<S> as Disk>⟧ S.first once hand.entry.input.now.now
-        (W.contents out.old) (W.contents out.new) r.0 r.1) }
+        (output Style.Text (W.contents out.old)) (W.contents out.new) r.0 r.1) }
 {
     let serving = Serving {
         image,
         script: "-",
         once,
+        style: Style::Text,
     };
     serve_file(hand, &serving, out, start)
 }

@@ -48,14 +48,24 @@ pub(crate) fn settle_if<R: Files<File = File> + AllocGlobal + Eprint, S: Start>(
     }
 }
 
-/// The same of the disk of a new file.
-pub(crate) fn settle_new<R: Files<File = File> + AllocGlobal + Eprint, S: Start>(
+// Returns which call on the old file's disk failed, if one was opened.
+fn failure_of<T: Start>(old: &Option<FileDisk<T>>) -> Option<Failure> {
+    match old {
+        Some(old) => old.failure(),
+        None => None,
+    }
+}
+
+/// The same of the disk of a new file, and of that of the old one, which was only read.
+pub(crate) fn settle_new<R: Files<File = File> + AllocGlobal + Eprint, S: Start, T: Start>(
     rt: &R,
     path: &str,
     disk: &FileDisk<S>,
+    old: &Option<FileDisk<T>>,
     console: &mut Console<'_, R>,
 )
     requires named { IsOpenAt ⟦<FileDisk<S> as Disk>⟧ S.path path.now disk.now }
 {
     tell_new(console, disk.failure(), note_beside(rt, path, disk));
+    console.settle(failure_of(old), Noting::Unneeded);
 }

@@ -1,5 +1,6 @@
 //! How files are called in messages.
 
+use im_words::{Formatting, Inspection, Making, Moving, ScriptRun, Serving, Talking, Work};
 use std::fmt;
 use std::fmt::{Display, Formatter};
 use std::path::Path;
@@ -19,6 +20,21 @@ impl Display for EscapedName<'_> {
             }
         }
         Ok(())
+    }
+}
+
+/// The paths of the two files of a work, an empty one for none. The first is that of the image, or of what a new file
+/// is made of. The second is that of the script or the lines, or of the new file.
+pub(crate) fn paths_of<'a>(work: &Work<&'a str>) -> (&'a str, &'a str) {
+    match *work {
+        Work::Demonstration => ("", ""),
+        Work::Format(Formatting { image, .. }) => (image, ""),
+        Work::Inspect(Inspection { image, .. }) | Work::Dump(image) => (image, ""),
+        Work::Serial(Serving { image, script, .. }) => (image, script),
+        Work::Run(ScriptRun { image, script, .. }) => (image, script),
+        Work::Serve(Talking { image, .. }) => (image, "-"),
+        Work::Load(Making { from, new, .. }) | Work::Copy(Making { from, new, .. }) => (from, new),
+        Work::Migrate(Moving { old, new }) => (old, new),
     }
 }
 

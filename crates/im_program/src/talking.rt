@@ -36,7 +36,7 @@ pub fn talk_file<
     N: Observer<News>,
 >(
     hand: AtHand<'_, R, I, N>,
-    talking: &Talking,
+    talking: &Talking<&str>,
     backups: &mut B,
     out: &mut W,
     start: S,

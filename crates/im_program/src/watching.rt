@@ -1,7 +1,7 @@
 //! What is told of a run while it goes on.
 
 use im_serving::{EarlierAnswer, Standing, Teller};
-use im_text::{Waited, make_now};
+use im_text::{OutputLine, Waited, make_words};
 use im_types::Observer;
 use std::alloc::AllocError;
 use std::io::Eprint;
@@ -12,7 +12,7 @@ const TURNS: u64 = 1_024;
 /// Prints the answer to a request that waited when the image was opened, or is of an earlier script.
 pub(crate) fn print_answer<R: Eprint + AllocGlobal>(rt: &R, waited: Waited) {
     let mut line = String::new(rt.alloc());
-    if make_now(&mut line, Some(waited)).is_ok() {
+    if make_words(&mut line, OutputLine::Now(waited)).is_ok() {
         let _printed = rt.eprint(line.as_str());
     }
 }

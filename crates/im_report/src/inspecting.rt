@@ -11,7 +11,7 @@ use crate::{stat, stat_json};
 use im_damage::{Older, find_older};
 use im_disk::Disk;
 use im_image::{Report, inspect};
-use im_text::{News, Reason, Warning, diagnose, end, put_through};
+use im_text::{News, Reason, Style, Warning, diagnose, end, put_through};
 use im_types::Observer;
 use std::alloc::{AllocError, Global};
 use std::io::Write;
@@ -177,5 +177,5 @@ pub fn look_on<D: Disk, W: Write, N: Observer<News>>(
     ensures reads { ReadsAlone D.Disk disk result.1 }
 {
     let told = tell_all(alloc, &mut disk, look, out, observer);
-    (end(alloc, told, out, observer), disk)
+    (end(alloc, Style::Text, told, out, observer), disk)
 }

@@ -5,11 +5,11 @@ use Rattle.std.specs.Option.{option_map_or}
 use Rattle.im_types.specs.Types.{Command, Contents, IsMemory}
 use Rattle.im_session.specs.Kept.{SessionState}
 use Rattle.im_script.specs.{declared.Heard.Heard, Script.Draft, Script.heard, Script.lines_of}
-use Rattle.im_text.specs.{declared.Lines.Lines, declared.Waited.Waited, Printing.PrintsOn, Printing.who_of}
+use Rattle.im_text.specs.{declared.Lines.Lines, declared.Waited.Waited, Said.PrintsOn, Said.who_of}
 use Rattle.im_serial.proofs.ScriptedLemmas.{going_from, has_served, passes_refl, prints_on}
 use Rattle.im_serial.specs.Asked.{bases_after, Course, Leads, standing, Wanted}
 use Rattle.im_serial.specs.{declared.waits.Mark.Mark, Noted.AreNoted, Once.HasServedNothing}
-use Rattle.im_serial.specs.Serving.{EndsAt, GoingAt, HasServed, Passes, ScriptServer, server_of}
+use Rattle.im_serial.specs.Serving.{EndsAt, GoingAt, HasServed, output_of, Passes, ScriptServer, server_of}
 use Rattle.im_run.proofs.OrdersLemmas.{line_heard}
 use Rattle.im_run.specs.Orders.{bases_made, blocks_asked, blocks_of, line_blocks, lines_heard, Scope, SetsUp}
 use Rattle.im_run.specs.Orders.{settled_past}
@@ -106,14 +106,14 @@ module _ {D : Type 0} where
 
   -- nothing was served yet
   pub begun : (c : Course) (s : ScriptServer D) (bases : List ℕ) → HasServedNothing s bases → c.earlier ≡ []
-      → GoingAt s.session.start s.held (standing (Some c) c.first (c.wanted ++ [])) s
+      → GoingAt s.session.start (output_of s) (standing (Some c) c.first (c.wanted ++ [])) s
   begun c s bases ready none = let m = s.session.start.memory in
-      going_from c s.session s.held s.lines s.waited s.marks ready.fresh ready.works
+      going_from c s.session (output_of s) s.lines s.waited s.marks ready.fresh ready.works
       (record {
         memory = subst (λ (x : Contents). IsMemory (length x.cells) (length x.windows) x)
             (sym (ap (λ (t : SessionState D). t.start.memory) ready.fresh)) ready.memory;
         noted = subst (AreNoted m [] 0 0 s.marks) (sym ready.waited) (λ at w is. absurd (no_item w is));
-      }) (ap (map who_of) ready.waited ∙ sym none) ready.pending
+      }) (ap (map who_of) ready.waited ∙ sym none) refl ready.pending
     where
       no_item : (w : Waited) → ◌≡◌ {A = Option Waited} None (Some w) → ⊥
       no_item w is = cc

@@ -2,15 +2,14 @@
 use Rattle.std.proofs.Common.{◌≡◌, ℕ, zero, suc, ◌+◌, ◌≤◌, Bool, true, false, ◌⊎◌, List, [], ◌++◌, length, take}
 use Rattle.std.proofs.Common.{slice_get, Some, None, Option, sym, refl, ap, ◌∙◌, subst, inl, inr, ⊎_elim, append-nil}
 use Rattle.std.proofs.Common.{arith}
-use Rattle.std.specs.Io.KnownBytes.{Appends}
 use Rattle.im_types.specs.Types.{Request, Command, Line, Contents, after, accepted, IsLegal, Means}
 use Rattle.{im_laws.proofs.Tests.true_false, im_engine.specs.State.EngineState, im_controller.specs.State.OpeningState}
 use Rattle.im_disk.specs.{declared.Disk.Ghosts, Moment.Left, Moment.Rises, Since.Leaves, Since.LeavesNow}
 use Rattle.im_session.specs.Kept.{Kept, session_of, SessionStart, SessionState}
 use Rattle.im_controller.specs.Kept.{accepted_in, Begun, begun_by, IsSessionOf, origin_of}
-use Rattle.im_text.proofs.{PrintingLemmas.prints_begins, TextLemmas.written_none}
-use Rattle.im_text.specs.declared.{Lines.Lines, Waited.Waited}
-use Rattle.im_text.specs.Printing.{Begins, IsLast, Prints, PrintsMore, replies}
+use Rattle.im_text.proofs.{SaidLemmas.prints_begins, TextLemmas.written_none}
+use Rattle.im_text.specs.declared.{Lines.Lines, OutputLine.OutputLine, Waited.Waited}
+use Rattle.im_text.specs.Said.{IsLast, Output, Prints, PrintsMore, replies, SaysSome, SaysWhole}
 use Rattle.im_serial.specs.{Asked.Course, Asked.Standing, Asked.Wanted, Noted.Notes, Serving.IsOver, Serving.IsServing}
 use Rattle.im_run.proofs.DoingLemmas.{told_weaker}
 use Rattle.im_run.specs.declared.{run.TheConstants.STALLED, served.Did.Did}
@@ -98,9 +97,9 @@ ended_weaker disk planned whole orders begun engine trace did none later well it
 pub closed_by : (was mid is : Option (List ℕ)) (before after final : Lines) (m : Contents) (did : List Did) (status : ℕ)
     → PrintsFinals was before mid after m did
     → (status ≡ 0 → PrintsMore was before mid after (finals m did (length did)))
-    → ((start : Option (List ℕ)) (text : List ℕ) → Prints start mid after text
-    → (last : List ℕ) × (IsLast last × Prints start is final (text ++ last)))
-    → (status ≡ 0 → (start : Option (List ℕ)) (text : List ℕ) → Prints start mid after text → Appends start is text)
+    → ((start : Output) (text : List OutputLine) → Prints start mid after text
+    → (last : List OutputLine) × (IsLast last × Prints start is final (text ++ last)))
+    → (status ≡ 0 → (start : Output) (text : List OutputLine) → Prints start mid after text → SaysWhole start is text)
     → Closes was before is m did status
 closed_by was mid is before after final m did status some all last whole = λ start text it.
     let end = last start (text ++ finals m did some.0) (some.2 start text it) in (
@@ -115,7 +114,8 @@ closed_by was mid is before after final m did status some all last whole = λ st
     )
 
 -- nothing was done, so that it is told of any memory
-none_done : (start is : Option (List ℕ)) (text : List ℕ) (m n : Contents) (did : List Did) → did ≡ []
+none_done : (start : Output) (is : Option (List ℕ)) (text : List OutputLine) (m n : Contents) (did : List Did)
+    → did ≡ []
     → BeginsFinals start is text m did → BeginsFinals start is text n did
 none_done start is text m n did none begins =
     let few : begins.0 ≤ 0 = subst (λ (l : List Did). begins.0 ≤ length l) none begins.1.0 in (
@@ -126,7 +126,7 @@ none_done start is text m n did none begins =
           begins.1.1.0,
           (
             begins.1.1.1.0,
-            subst (λ (t : List ℕ). Begins start is ((text ++ t) ++ begins.1.1.0)) (no_finals begins.0 few)
+            subst (λ (t : List OutputLine). SaysSome start is ((text ++ t) ++ begins.1.1.0)) (no_finals begins.0 few)
                 begins.1.1.1.1,
           ),
         ),
@@ -164,7 +164,8 @@ module _ {D : Type 0} (disk : Ghosts D) (once planned : Bool) (script : List ℕ
   scope = scope_when once start.memory script
 
   -- the setup was ended
-  pub halted_run : (course : Option Course) (waited : List Waited) (text : List ℕ) (was mid is : Option (List ℕ))
+  pub halted_run : (course : Option Course) (waited : List Waited) (text : List OutputLine) (was : Output)
+      (mid is : Option (List ℕ))
       (lines : Lines) (did : List Did) (new : D) (calls : TraceState) (status : ℕ)
       → IsOver start t course text waited → Kept disk t → Prints was mid lines text → did ≡ [] → new ≡ t.engine.disk
       → ((status ≡ 0) ⊎ (status ≡ STALLED) → t.engine.failed ≡ false) → (status ≡ 0 → ⊥)
@@ -189,7 +190,7 @@ module _ {D : Type 0} (disk : Ghosts D) (once planned : Bool) (script : List ℕ
           others = over.others;
           split = over.split;
           did = did;
-          begins = subst (λ (l : List ℕ). BeginsFinals was is l (after start.memory t.put) did) over.lines
+          begins = subst (λ (l : List OutputLine). BeginsFinals was is l (after start.memory t.put) did) over.lines
               (none_done was is text t.engine.memory (after start.memory t.put) did none (closes was text prints).0);
           whole = λ zero. absurd (never zero);
         };
@@ -204,7 +205,8 @@ module _ {D : Type 0} (disk : Ghosts D) (once planned : Bool) (script : List ℕ
 
   -- the elements' servers ended
   pub ended_run : (bases : List ℕ) (whole : Option (List Ask)) (orders : List Ask) (s : Standing) (n : Notes)
-      (text : List ℕ) (was held is : Option (List ℕ)) (lines : Lines) (new : D) (calls : TraceState) (status : ℕ)
+      (text : List OutputLine) (was : Output) (held is : Option (List ℕ)) (lines : Lines) (new : D)
+      (calls : TraceState) (status : ℕ)
       → IsServing start t s text n → Prints was held lines text
       → EndedOn disk planned whole orders t new held lines is calls.served status
       → AreOrders (scope_when once start.memory script) t.engine.memory bases orders
@@ -242,10 +244,11 @@ module _ {D : Type 0} (disk : Ghosts D) (once planned : Bool) (script : List ℕ
           split = sym (append-nil setup);
           did = ended.did;
           begins = subst (λ (x : Contents). BeginsFinals was is (replies m setup) x ended.did) last
-              (subst (λ (l : List ℕ). BeginsFinals was is l ended.engine.memory ended.did) it.lines closes.0);
+              (subst (λ (l : List OutputLine). BeginsFinals was is l ended.engine.memory ended.did) it.lines closes.0);
           whole = λ zero. subst
-              (λ (x : Contents). Appends was is (replies m setup ++ finals x ended.did (length ended.did))) last
-              (subst (λ (l : List ℕ). Appends was is (l ++ finals ended.engine.memory ended.did (length ended.did)))
+              (λ (x : Contents). SaysWhole was is (replies m setup ++ finals x ended.did (length ended.did))) last
+              (subst (λ (l : List OutputLine). SaysWhole was is (l ++ finals ended.engine.memory ended.did (length
+              ended.did)))
               it.lines (closes.1 zero));
         };
         tells = inl (record {

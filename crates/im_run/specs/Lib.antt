@@ -5,4 +5,5 @@ pub mod Orders
 pub mod Planned
 pub mod Running
 pub mod Stops
+pub mod Traced
 pub mod Tracing

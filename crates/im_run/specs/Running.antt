@@ -1,14 +1,13 @@
 -- What a run of element servers prints, and what its session puts on a disk. (Own.)
 use Rattle.std.specs.Prelude.{◌≡◌, ℕ, ◌<◌, ◌≤◌, Bool, true, false, ◌⊎◌, List, [], ◌∷◌, ◌++◌, length, slice_get, Some}
-use Rattle.std.specs.Prelude.{None, Ok, Err, codes, decimal, Option, Result}
-use Rattle.std.specs.Io.KnownBytes.{Appends}
+use Rattle.std.specs.Prelude.{None, Ok, Err, Option, Result}
 use Rattle.im_types.specs.Types.{Entry, Command, Line, Refusal, Device, Failed, Contents, ask, after, IsLegal}
 use Rattle.{im_disk.specs.declared.Disk.Ghosts, im_engine.specs.State.EngineState, im_controller.specs.Kept.accepted_in}
-use Rattle.{im_damage.specs.declared.Damage.TheVariants.Unknown}
+use Rattle.{im_damage.specs.declared.Damage.TheVariants.Unknown, im_text.specs.Texts.texts_below}
 use Rattle.im_session.specs.Kept.{Kept, session_of, SessionStart, SessionState}
-use Rattle.im_text.specs.{declared.Lines.Lines, declared.Waited.Waited, Texts.line_feed, Texts.texts_below}
+use Rattle.im_text.specs.declared.{Lines.Lines, OutputLine.OutputLine, OutputLine.TheVariants.Glance, Waited.Waited}
 use Rattle.im_text.specs.declared.Reason.{Reason, TheVariants.Image, TheVariants.Request}
-use Rattle.im_text.specs.Printing.{Begins, IsLast, Prints, PrintsMore, replies, told_line}
+use Rattle.im_text.specs.Said.{IsLast, Output, Prints, PrintsMore, replied, replies, SaysSome, SaysWhole}
 use Rattle.im_serial.specs.{Asked.Wanted, Serving.NotOpened}
 use Rattle.im_run.specs.{Alone.AreCallsOf, Doing.AreAllTold, Doing.HasToldScript, Tracing.TraceState}
 use Rattle.im_run.specs.declared.{run.TheConstants.STALLED, sheet.Order.Order}
@@ -39,24 +38,14 @@ kept_or told (Err refusal) = told
 abbrev pub final : Contents → Waited → Entry
 final m w = kept_or w.entry (ask m.windows (record { element = w.element; number = w.number }))
 
--- what was seen of a cell
-abbrev pub seen_text : Option ℕ → List ℕ
-seen_text None = codes "none"
-seen_text (Some v) = codes "value " ++ decimal v
-
--- K glance A value V, or K glance A none
-abbrev pub glance_line : ℕ → ℕ → Option ℕ → List ℕ
-glance_line element address value =
-    decimal element ++ codes " glance " ++ decimal address ++ codes " " ++ seen_text value ++ line_feed
-
 -- the line of what was done: of a request that was sent, with its final entry, or of a glance
-abbrev pub final_line : Contents → Option Did → List ℕ
+abbrev pub final_line : Contents → Option Did → List OutputLine
 final_line m None = []
-final_line m (Some (Sent w)) = told_line w.element w.number (final m w)
-final_line m (Some (Glanced element address value)) = glance_line element address value
+final_line m (Some (Sent w)) = replied w.element w.number (final m w)
+final_line m (Some (Glanced element address value)) = Glance element address value ∷ []
 
 -- the lines of the first of these
-abbrev pub finals : Contents → List Did → ℕ → List ℕ
+abbrev pub finals : Contents → List Did → ℕ → List OutputLine
 finals m did many = texts_below (λ i. final_line m (slice_get did i)) many
 
 -- the lines of the first of these were printed after what was printed before
@@ -64,18 +53,18 @@ abbrev pub PrintsFinals : Option (List ℕ) → Lines → Option (List ℕ) → 
 PrintsFinals was before is after m did =
     (many : ℕ) × (many ≤ length did) × PrintsMore was before is after (finals m did many)
 
--- a prefix of this text was written: what was printed before, the lines of the first of these, and the line of a
+-- a prefix of these lines was written: what was printed before, the lines of the first of these, and the line of a
 -- refusal
-abbrev pub BeginsFinals : Option (List ℕ) → Option (List ℕ) → List ℕ → Contents → List Did → Type 0
+abbrev pub BeginsFinals : Output → Option (List ℕ) → List OutputLine → Contents → List Did → Type 0
 BeginsFinals start is text m did =
     (many : ℕ) × ((many ≤ length did)
-    × ((last : List ℕ) × (IsLast last × Begins start is (text ++ finals m did many ++ last))))
+    × ((last : List OutputLine) × (IsLast last × SaysSome start is (text ++ finals m did many ++ last))))
 
 -- After what was printed before, the lines of the first of these and of a refusal are written, as far as the writer
 -- took them. If the status is 0, the lines of all of these are.
 abbrev pub Closes : Option (List ℕ) → Lines → Option (List ℕ) → Contents → List Did → ℕ → Type 0
-Closes was before is m did status = (start : Option (List ℕ)) (text : List ℕ) → Prints start was before text
-    → BeginsFinals start is text m did × (status ≡ 0 → Appends start is (text ++ finals m did (length did)))
+Closes was before is m did status = (start : Output) (text : List OutputLine) → Prints start was before text
+    → BeginsFinals start is text m did × (status ≡ 0 → SaysWhole start is (text ++ finals m did (length did)))
 
 -- Servers of these orders began with a session, and this is its engine now, with this trace: the session has put the
 -- trace's accepted commands. This was done. It is all that the orders ask for if nothing was refused; and each request
@@ -109,13 +98,14 @@ pub record EndedOn {D : Type 0} (disk : Ghosts D) (planned : Bool) (whole : Opti
 -- What was printed, at the end: a prefix of this text, and all of it if the status is 0. The text is first the lines of
 -- the first commands of the setup. Then come the lines of what was done: of the requests that were sent, each with its
 -- final entry in the memory after all that was put, and of the glances. Then comes the line of a refusal.
-pub record Says (start : Contents) (setup put : List Command) (was is : Option (List ℕ)) (status : ℕ) : Type 0 where
+pub record Says (start : Contents) (setup put : List Command) (was : Output) (is : Option (List ℕ)) (status : ℕ)
+    : Type 0 where
   pub said : List Command
   pub others : List Command
   pub split : setup ≡ said ++ others
   pub did : List Did
   pub begins : BeginsFinals was is (replies start said) (after start put) did
-  pub whole : status ≡ 0 → Appends was is (replies start setup ++ finals (after start put) did (length did))
+  pub whole : status ≡ 0 → SaysWhole was is (replies start setup ++ finals (after start put) did (length did))
 
 -- The setup of a script was ended, at some block, which may be in doubt: nothing was put behind it, nothing is told of
 -- the script, and the status is not 0.
@@ -134,7 +124,7 @@ pub record HasEndedSetup (s : Scope) (start : Contents) (setup doubt : List Comm
 -- the setup, of all that was put, of those in doubt, and of the parts' orders. Or its setup was ended.
 pub record RunOn {D : Type 0} (disk : Ghosts D) (s : Scope)
     (Also : List Command → List Command → List Command → List Ask → Type 0) (start : SessionStart D) (new : D)
-    (was is : Option (List ℕ)) (calls : TraceState) (status : ℕ) : Type 0 where
+    (was : Output) (is : Option (List ℕ)) (calls : TraceState) (status : ℕ) : Type 0 where
   pub put : List Command
   pub doubt : List Command
   pub engine : EngineState D
@@ -150,21 +140,21 @@ pub record RunOn {D : Type 0} (disk : Ghosts D) (s : Scope)
 
 -- The image was opened, and a session began of which this is so; or it was not opened. The disk was honest at the
 -- start, if it is at the end; what came of it holds of such a disk.
-pub record Opened {D : Type 0} (disk : Ghosts D) (Came : SessionStart D → Type 0) (old new : D)
-    (was is : Option (List ℕ)) (status : ℕ) : Type 0 where
+pub record Opened {D : Type 0} (disk : Ghosts D) (Came : SessionStart D → Type 0) (old new : D) (was : Output)
+    (is : Option (List ℕ)) (status : ℕ) : Type 0 where
   pub honest : disk.honest new → disk.honest old
   pub came : disk.honest new → NotOpened disk.now disk.past old new was is status
       ⊎ ((start : SessionStart D) × ((start.disk ≡ old) × Came start))
 
 -- all of a script was run
-abbrev pub RunsOn : {D : Type 0} → Ghosts D → List ℕ → D → D → Option (List ℕ) → Option (List ℕ) → TraceState → ℕ
+abbrev pub RunsOn : {D : Type 0} → Ghosts D → List ℕ → D → D → Output → Option (List ℕ) → TraceState → ℕ
     → Type 0
 RunsOn disk text old new was is calls status = Opened disk
     (λ start. RunOn disk (all_of text) (λ setup put doubt orders. Unit {0}) start new was is calls status) old new was
     is status
 
 -- all of a script was run by the plan of its requests
-abbrev pub RunsPlanOn : {D : Type 0} → Ghosts D → List ℕ → D → D → Option (List ℕ) → Option (List ℕ) → TraceState → ℕ
+abbrev pub RunsPlanOn : {D : Type 0} → Ghosts D → List ℕ → D → D → Output → Option (List ℕ) → TraceState → ℕ
     → Type 0
 RunsPlanOn disk text old new was is calls status = Opened disk (λ start. RunOn disk (all_of text)
     (GoesByPlan start.memory calls.served (status ≡ 0)) start new was is calls status) old new was is status

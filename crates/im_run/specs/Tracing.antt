@@ -5,8 +5,9 @@ use Rattle.std.specs.Io.KnownBytes.{Appends}
 use Rattle.im_types.specs.Types.{Request, Outcome, Call, Line, Asks, Confirm, Tells, Confirmed, Commands, Collect}
 use Rattle.im_types.specs.Types.{Refusal, number_of}
 use Rattle.im_trace.specs.{Ends.empty_recording, Ends.RecordingState, Lines.may_begin}
-use Rattle.im_text.specs.{declared.Lines.Lines, Printing.Begins, Printing.PrintsMore}
+use Rattle.im_text.specs.{declared.Batch.Batch, Printing.BatchesMore, Printing.Begins}
 use Rattle.im_text.specs.Texts.{entry_text, line_feed, op_text, texts_below}
+use Rattle.im_run.specs.Traced.{call_object}
 pub use Rattle.im_trace.specs.declared.traced.Since.{Since}
 
 -- K.N OPERATION
@@ -62,65 +63,58 @@ trace_lines t = t.setup ++ (if t.recorded then t.served else [])
 abbrev pub trace_text : TraceState → List ℕ
 trace_text t = lines_text (trace_lines t)
 
--- ---- with marks
+-- ---- as lines, or as objects with marks
 
--- the words of the marks before a line: that a group of commands began with it, and that a checkpoint came in force
--- since the line before
-abbrev pub marks_text : Since → List ℕ
-marks_text since =
-    (if since.group then codes "group " else []) ++ (if since.checkpoint then codes "checkpoint " else [])
-
--- a line behind its marks
-abbrev pub marked_line : Since → Option Line → List ℕ
-marked_line since None = []
-marked_line since (Some line) = marks_text since ++ trace_line (Some line)
+-- a call and its answer in a trace: a line, or an object with its marks
+abbrev pub traced_text : Bool → Since → Option Line → List ℕ
+traced_text false since line = trace_line line
+traced_text true since line = call_object since line
 
 -- no mark
 abbrev pub unmarked : Since
 unmarked = record { group = false; checkpoint = false }
 
--- These marks may stand before the line at this place: none, if marks aren't written, or before a line of the setup. A
--- group begins only with a command that has an outcome.
-pub record MayStand (marked : Bool) (setup lines : List Line) (at : ℕ) (since : Since) : Type 0 where
-  pub plain : marked ≡ false → since ≡ unmarked
+-- These marks may stand at this place: none in the setup. A group begins only with a command that has an outcome.
+pub record MayStand (setup lines : List Line) (at : ℕ) (since : Since) : Type 0 where
   pub early : at < length setup → since ≡ unmarked
   pub begins : (line : Line) → slice_get lines at ≡ Some line → since.group ≡ true
       → may_begin line.call line.answer ≡ true
 
--- this is the text of the first so many of these lines, each behind marks that may stand there
-abbrev pub IsMarkedText : Bool → List Line → List Line → ℕ → List ℕ → Type 0
-IsMarkedText marked setup lines zero text = text ≡ []
-IsMarkedText marked setup lines (suc at) text = (before : List ℕ) × ((since : Since)
-    × (IsMarkedText marked setup lines at before × (MayStand marked setup lines at since
-    × (text ≡ before ++ marked_line since (slice_get lines at)))))
+-- this is the text of the first so many of these lines, or of their objects, each with marks that may stand there
+abbrev pub IsTracedText : Bool → List Line → List Line → ℕ → List ℕ → Type 0
+IsTracedText objects setup lines zero text = text ≡ []
+IsTracedText objects setup lines (suc at) text = (before : List ℕ) × ((since : Since)
+    × (IsTracedText objects setup lines at before × (MayStand setup lines at since
+    × (text ≡ before ++ traced_text objects since (slice_get lines at)))))
 
--- the same of a run's trace
+-- the text of a run's trace: its lines, or their objects
 abbrev pub IsTraceText : Bool → TraceState → List ℕ → Type 0
-IsTraceText marked t text = IsMarkedText marked t.setup (trace_lines t) (length (trace_lines t)) text
+IsTraceText false t text = text ≡ trace_text t
+IsTraceText true t text = IsTracedText true t.setup (trace_lines t) (length (trace_lines t)) text
 
 -- it was written whole
-abbrev pub WritesMarked : Bool → TraceState → Option (List ℕ) → Option (List ℕ) → Type 0
-WritesMarked marked t was is = (text : List ℕ) × (IsTraceText marked t text × Appends was is text)
+abbrev pub WritesTrace : Bool → TraceState → Option (List ℕ) → Option (List ℕ) → Type 0
+WritesTrace objects t was is = (text : List ℕ) × (IsTraceText objects t text × Appends was is text)
 
 -- a prefix of it was written
-abbrev pub BeginsMarked : Bool → TraceState → Option (List ℕ) → Option (List ℕ) → Type 0
-BeginsMarked marked t was is = (text : List ℕ) × (IsTraceText marked t text × Begins was is text)
+abbrev pub BeginsTrace : Bool → TraceState → Option (List ℕ) → Option (List ℕ) → Type 0
+BeginsTrace objects t was is = (text : List ℕ) × (IsTraceText objects t text × Begins was is text)
 
 -- the text of the first so many lines was printed
-abbrev pub PrintsMarked : Bool → List Line → List Line → ℕ → Option (List ℕ) → Lines → Option (List ℕ) → Lines → Type 0
-PrintsMarked marked setup lines many was before is after =
-    (text : List ℕ) × (IsMarkedText marked setup lines many text × PrintsMore was before is after text)
+abbrev pub PrintsTraced : Bool → List Line → List Line → ℕ → Option (List ℕ) → Batch → Option (List ℕ) → Batch → Type 0
+PrintsTraced objects setup lines many was before is after =
+    (text : List ℕ) × (IsTracedText objects setup lines many text × BatchesMore was before is after text)
 
 -- the text of all lines was printed
-abbrev pub PrintsAll : Bool → List Line → List Line → Option (List ℕ) → Lines → Option (List ℕ) → Lines → Type 0
-PrintsAll marked setup lines was before is after = PrintsMarked marked setup lines (length lines) was before is after
+abbrev pub PrintsAll : Bool → List Line → List Line → Option (List ℕ) → Batch → Option (List ℕ) → Batch → Type 0
+PrintsAll objects setup lines was before is after = PrintsTraced objects setup lines (length lines) was before is after
 
 -- a beginning of this text was printed
-abbrev pub PrintsBeginning : Option (List ℕ) → Lines → Option (List ℕ) → Lines → List ℕ → Type 0
+abbrev pub PrintsBeginning : Option (List ℕ) → Batch → Option (List ℕ) → Batch → List ℕ → Type 0
 PrintsBeginning was before is after text =
-    (part : List ℕ) × ((rest : List ℕ) × ((text ≡ part ++ rest) × PrintsMore was before is after part))
+    (part : List ℕ) × ((rest : List ℕ) × ((text ≡ part ++ rest) × BatchesMore was before is after part))
 
 -- the same of the text of all lines
-abbrev pub PrintsSome : Bool → List Line → List Line → Option (List ℕ) → Lines → Option (List ℕ) → Lines → Type 0
-PrintsSome marked setup lines was before is after = (text : List ℕ)
-    × (IsMarkedText marked setup lines (length lines) text × PrintsBeginning was before is after text)
+abbrev pub PrintsSome : Bool → List Line → List Line → Option (List ℕ) → Batch → Option (List ℕ) → Batch → Type 0
+PrintsSome objects setup lines was before is after = (text : List ℕ)
+    × (IsTracedText objects setup lines (length lines) text × PrintsBeginning was before is after text)

@@ -8,11 +8,10 @@ use crate::served::Did;
 use crate::telling::print_finals;
 use im_damage::Damage;
 use im_disk::Disk;
-use im_serial::{Paper, both};
+use im_serial::both;
 use im_session::Session;
-use im_text::{News, Reason, Waited, finish};
+use im_text::{Lines, News, Reason, Waited, finish};
 use im_types::{Observer, Refusal};
-use std::alloc::Global;
 use std::io::Write;
 
 // Returns whether the run ended only because servers wait for each other.
@@ -95,9 +94,8 @@ pub struct Ending<D: Disk> {
 
 /// Prints the lines of what was done, and the refusal, and closes the session. Returns the status and its disk.
 pub fn close<D: Disk, W: Write, N: Observer<News>>(
-    alloc: Global,
     ending: Ending<D>,
-    mut paper: Paper,
+    mut lines: Lines,
     out: &mut W,
     observer: &mut N,
 ) -> (u8, D)
@@ -106,7 +104,7 @@ pub fn close<D: Disk, W: Write, N: Observer<News>>(
     ensures kept { Kept D.Disk ending.session }
     ensures works { (result.0 ≡ 0) ⊎ (result.0 ≡ STALLED) → ending.session.engine.failed ≡ false }
     ensures done { result.0 ≡ 0 → IsOk ending.done }
-    ensures printed { Closes (W.contents out.old) paper.lines (W.contents out.new) ending.session.engine.memory
+    ensures printed { Closes (W.contents out.old) lines (W.contents out.new) ending.session.engine.memory
         ending.did.items result.0 }
 {
     let failed = ending.session.engine().failed();
@@ -114,18 +112,10 @@ pub fn close<D: Disk, W: Write, N: Observer<News>>(
     let told = print_finals(
         ending.session.memory(),
         ending.did.as_slice(),
-        &mut paper.line,
-        &mut paper.lines,
+        &mut lines,
         out,
     );
     let stalled = is_stalled(&ended);
-    let status = finish(
-        alloc,
-        both(ended, told),
-        &mut paper.lines,
-        &mut paper.line,
-        out,
-        &mut Behind { observer },
-    );
+    let status = finish(both(ended, told), &mut lines, out, &mut Behind { observer });
     (status_of(failed, stalled, status), ending.session.close())
 }

@@ -38,4 +38,4 @@ pub use sheet::Assignment;
 pub use stops::{
     new_images_are_unrun, numbers_act_once_in_order, planned_scripts_have_one_end, run_over_stops,
 };
-pub use tracing::{Trace, write_marked_trace, write_trace};
+pub use tracing::{Trace, write_trace};

@@ -1,7 +1,7 @@
 //! A script that is run once, whatever stopped it before.
-ghost use Rattle.std.specs.Prelude.{◌≡◌, ℕ, ◌≤◌, true, ◌⊎◌, List, ◌++◌, Option};
-ghost use Rattle.im_session.specs.Kept.{Kept};
-ghost use Rattle.im_text.specs.Printing.{Begins, IsLast, Prints};
+ghost use Rattle.std.specs.Prelude.{◌≡◌, ◌≤◌, true, ◌⊎◌, List, ◌++◌};
+ghost use Rattle.{im_session.specs.Kept.Kept, im_text.specs.declared.OutputLine.OutputLine};
+ghost use Rattle.im_text.specs.Said.{IsLast, Output, output, Prints, SaysSome};
 ghost use Rattle.im_serial.specs.{Once.HasServedNothing, Serving.seen_by};
 ghost use Rattle.im_run.specs.Once.{EndsOnce, RunsOnceOn};
 
@@ -15,12 +15,10 @@ use im_serial::Server;
 use im_serving::{Gate, Host, Standing, Teller};
 use im_text::{News, Reason, finish};
 use im_types::Observer;
-use std::alloc::Global;
 use std::io::Write;
 
 // Prints a refusal behind the lines that are kept back. Returns the status and the session's disk.
 fn refuse_rest<D: Disk, W: Write, N: Observer<News>>(
-    alloc: Global,
     server: Server<D>,
     reason: Reason,
     out: &mut W,
@@ -29,18 +27,11 @@ fn refuse_rest<D: Disk, W: Write, N: Observer<News>>(
     ensures status { result.0 ≡ 1 }
     ensures disk { result.1 ≡ server.session.engine.disk }
     ensures kept { Kept D.Disk server.session }
-    ensures last { (start : Option (List ℕ)) (text : List ℕ) → Prints start (W.contents out.old) server.lines text
-        → (last : List ℕ) × (IsLast last × Begins start (W.contents out.new) (text ++ last)) }
+    ensures last { (start : Output) (text : List OutputLine) → Prints start (W.contents out.old) server.lines text
+        → (last : List OutputLine) × (IsLast last × SaysSome start (W.contents out.new) (text ++ last)) }
 {
-    let (session, mut paper) = server.leave();
-    let _status = finish(
-        alloc,
-        Err(reason),
-        &mut paper.lines,
-        &mut paper.line,
-        out,
-        observer,
-    );
+    let (session, mut lines) = server.leave();
+    let _status = finish(Err(reason), &mut lines, out, observer);
     (1, session.close())
 }
 
@@ -63,7 +54,7 @@ pub(crate) fn run_rest<
     requires ready { HasServedNothing (seen_by server (W.contents out.old)) server.bases.items }
     ensures status { (result.0 ≤ 1) ⊎ (result.0 ≡ STALLED) }
     ensures ends { EndsOnce D.Disk asked.entry.planned asked.entry.script.now server.session.start result.1
-        (W.contents out.old) (W.contents out.new) result.2 result.0 }
+        (output server.lines.style (W.contents out.old)) (W.contents out.new) result.2 result.0 }
     ensures recorded { context.now.recorded ≡ true → result.2.recorded ≡ true }
 {
     let alloc = context.alloc;
@@ -74,13 +65,14 @@ pub(crate) fn run_rest<
             server.waited = none; // Those that wait are sent again.
             let asked = Commission {
                 script: asked.script,
+                style: asked.style,
                 once: true,
                 planned: asked.planned,
             };
             run_server(context, server, asked, out, observer)
         }
         Err(reason) => {
-            let (status, disk) = refuse_rest(alloc, server, reason, out, observer);
+            let (status, disk) = refuse_rest(server, reason, out, observer);
             (status, disk, Trace::new(alloc))
         }
     }
@@ -126,12 +118,13 @@ pub fn run_once_on<
     observer: &mut N,
 ) -> (u8, D, Trace)
     ensures status { (result.0 ≤ 1) ⊎ (result.0 ≡ STALLED) }
-    ensures run { RunsOnceOn D.Disk asked.entry.planned asked.entry.script.now disk result.1 (W.contents out.old)
-        (W.contents out.new) result.2 result.0 }
+    ensures run { RunsOnceOn D.Disk asked.entry.planned asked.entry.script.now disk result.1
+        (output asked.entry.style (W.contents out.old)) (W.contents out.new) result.2 result.0 }
     ensures recorded { context.now.recorded ≡ true → result.2.recorded ≡ true }
 {
     let asked = Commission {
         script: asked.script,
+        style: asked.style,
         once: true,
         planned: asked.planned,
     };

@@ -1,6 +1,7 @@
 //! A script's requests, by servers over the session of an image.
 ghost use Rattle.std.specs.Prelude.{◌≡◌, ◌≤◌, true, ◌⊎◌, [], map, IsOk, Some, None};
-ghost use Rattle.{im_session.specs.Kept.Kept, im_serial.specs.Once.HasServedNothing, im_serial.specs.Serving.seen_by};
+ghost use Rattle.{im_session.specs.Kept.Kept, im_text.specs.Said.output};
+ghost use Rattle.im_serial.specs.{Once.HasServedNothing, Serving.seen_by};
 ghost use Rattle.im_run.specs.{Once.RunWhen, Orders.ask_of, Orders.asks_in, Orders.bases_first, Planned.FitsIfNew};
 ghost use Rattle.im_run.specs.{Planned.plan_of, Planned.planned_orders, Running.EndedOn, Running.ServersEnded};
 
@@ -114,18 +115,18 @@ fn serve_on<
     ensures recorded { context.now.recorded ≡ true → result.2.recorded ≡ true }
 {
     let alloc = context.alloc;
-    let (session, paper) = server.leave();
+    let (session, lines) = server.leave();
     let _engine = session.engine(); // So that it is known what a crash leaves.
     match begin(context.rt, alloc, session, &work, context.recorded) {
         Ok(opening) => {
             let (ending, trace) = serve_opening(context, opening, work);
             tell_late(ending.session.memory(), ending.waits.as_slice(), observer);
-            let (status, disk) = close(alloc, ending, paper, out, observer);
+            let (status, disk) = close(ending, lines, out, observer);
             (status, disk, trace)
         }
         Err((reason, session)) => {
             let ending = no_server(alloc, session, reason);
-            let (status, disk) = close(alloc, ending, paper, out, observer);
+            let (status, disk) = close(ending, lines, out, observer);
             (status, disk, Calls::new())
         }
     }
@@ -151,7 +152,7 @@ pub(crate) fn run_server<
     requires bases { server.bases.items ≡ bases_first asked.once server.session.engine.memory asked.script.now }
     ensures status { (result.0 ≤ 1) ⊎ (result.0 ≡ STALLED) }
     ensures run { RunWhen D.Disk asked.entry.once asked.entry.planned asked.entry.script.now server.session.start
-        result.1 (W.contents out.old) (W.contents out.new) result.2 result.0 }
+        result.1 (output server.lines.style (W.contents out.old)) (W.contents out.new) result.2 result.0 }
     ensures recorded { context.now.recorded ≡ true → result.2.recorded ≡ true }
 {
     let alloc = context.alloc;
@@ -163,9 +164,9 @@ pub(crate) fn run_server<
             (status, disk, Trace { setup, served })
         }
         Err(reason) => {
-            let (session, paper) = server.leave();
+            let (session, lines) = server.leave();
             let ending = no_server(alloc, session, reason);
-            let (status, disk) = close(alloc, ending, paper, out, observer);
+            let (status, disk) = close(ending, lines, out, observer);
             let served = Calls::new();
             (status, disk, Trace { setup, served })
         }

@@ -1,6 +1,6 @@
 //! A script on the image of a disk, from opening to end.
 ghost use Rattle.std.specs.Prelude.{◌≡◌, ◌≤◌, true, ◌⊎◌};
-ghost use Rattle.im_serial.specs.{Once.HasServedNothing, Serving.seen_by};
+ghost use Rattle.{im_text.specs.Said.output, im_serial.specs.Once.HasServedNothing, im_serial.specs.Serving.seen_by};
 ghost use Rattle.im_run.specs.{Once.EndsWhen, Once.RunsWhen, Running.RunsOn, Running.RunsPlanOn};
 
 use crate::context::RunContext;
@@ -10,8 +10,7 @@ use crate::run::{STALLED, run_server};
 use crate::sheet::Commission;
 use crate::tracing::Trace;
 use im_disk::Disk;
-use im_script::Script;
-use im_serial::Server;
+use im_serial::{Server, StyledScript};
 use im_serving::{Gate, Host, Standing, Teller};
 use im_text::News;
 use im_types::Observer;
@@ -36,7 +35,7 @@ fn run_opened<
     requires ready { HasServedNothing (seen_by server (W.contents out.old)) server.bases.items }
     ensures status { (result.0 ≤ 1) ⊎ (result.0 ≡ STALLED) }
     ensures ends { EndsWhen D.Disk asked.entry.once asked.entry.planned asked.entry.script.now server.session.start
-        result.1 (W.contents out.old) (W.contents out.new) result.2 result.0 }
+        result.1 (output server.lines.style (W.contents out.old)) (W.contents out.new) result.2 result.0 }
     ensures recorded { context.now.recorded ≡ true → result.2.recorded ≡ true }
 {
     if asked.once {
@@ -44,6 +43,7 @@ fn run_opened<
     }
     let asked = Commission {
         script: asked.script,
+        style: asked.style,
         once: false,
         planned: asked.planned,
     };
@@ -67,11 +67,11 @@ pub(crate) fn run_script<
 ) -> (u8, D, Trace)
     ensures status { (result.0 ≤ 1) ⊎ (result.0 ≡ STALLED) }
     ensures run { RunsWhen D.Disk asked.entry.once asked.entry.planned asked.entry.script.now disk result.1
-        (W.contents out.old) (W.contents out.new) result.2 result.0 }
+        (output asked.entry.style (W.contents out.old)) (W.contents out.new) result.2 result.0 }
     ensures recorded { context.now.recorded ≡ true → result.2.recorded ≡ true }
 {
     let alloc = context.alloc;
-    match open_server(alloc, disk, out, observer) {
+    match open_server(alloc, asked.style, disk, out, observer) {
         Ok(server) => run_opened(context, server, asked, out, observer),
         Err((status, disk)) => (status, disk, Trace::new(alloc)),
     }
@@ -140,16 +140,18 @@ pub fn run_on<
 >(
     context: &RunContext<'_, G, V, R>,
     disk: D,
-    script: &Script<'_>,
+    styled: &StyledScript<'_>,
     out: &mut W,
     observer: &mut N,
 ) -> (u8, D, Trace)
     ensures status { (result.0 ≤ 1) ⊎ (result.0 ≡ STALLED) }
-    ensures run { RunsOn D.Disk script.now disk result.1 (W.contents out.old) (W.contents out.new) result.2 result.0 }
+    ensures run { RunsOn D.Disk styled.now.script.now disk result.1 (output styled.now.style (W.contents out.old))
+        (W.contents out.new) result.2 result.0 }
     ensures recorded { context.now.recorded ≡ true → result.2.recorded ≡ true }
 {
     let asked = Commission {
-        script,
+        script: styled.script,
+        style: styled.style,
         once: false,
         planned: false,
     };
@@ -174,17 +176,18 @@ pub fn run_on_plan<
 >(
     context: &RunContext<'_, G, V, R>,
     disk: D,
-    script: &Script<'_>,
+    styled: &StyledScript<'_>,
     out: &mut W,
     observer: &mut N,
 ) -> (u8, D, Trace)
     ensures status { (result.0 ≤ 1) ⊎ (result.0 ≡ STALLED) }
-    ensures run { RunsPlanOn D.Disk script.now disk result.1 (W.contents out.old) (W.contents out.new) result.2
-        result.0 }
+    ensures run { RunsPlanOn D.Disk styled.now.script.now disk result.1 (output styled.now.style (W.contents out.old))
+        (W.contents out.new) result.2 result.0 }
     ensures recorded { context.now.recorded ≡ true → result.2.recorded ≡ true }
 {
     let asked = Commission {
-        script,
+        script: styled.script,
+        style: styled.style,
         once: false,
         planned: true,
     };

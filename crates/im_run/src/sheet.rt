@@ -5,7 +5,7 @@ use im_memory::Memory;
 use im_script::{Said, Script};
 use im_serial::Past;
 use im_serving::Intent;
-use im_text::Waited;
+use im_text::{Style, Waited};
 use im_types::Line;
 use std::alloc::{AllocError, Global};
 
@@ -36,6 +36,8 @@ pub struct AllOrders {
 pub struct Assignment<'s, 'a> {
     /// The script.
     pub script: &'s Script<'a>,
+    /// How its lines are said.
+    pub style: Style,
     /// Whether its requests are a plan.
     pub planned: bool,
 }
@@ -45,6 +47,8 @@ pub struct Assignment<'s, 'a> {
 pub struct Commission<'s, 'a> {
     /// The script.
     pub script: &'s Script<'a>,
+    /// How its lines are said.
+    pub style: Style,
     /// Whether it is done once: then what is settled of it isn't asked for anew.
     pub once: bool,
     /// Whether its requests are a plan.

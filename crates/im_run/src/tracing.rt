@@ -1,14 +1,13 @@
 //! The trace of a run: its calls in the order that was kept, each with its answer and its marks.
-ghost use Rattle.std.specs.Prelude.{◌≡◌, true, [], ◌++◌, length, OnOk, slice_get};
-ghost use Rattle.std.specs.Io.KnownBytes.{Appends};
-ghost use Rattle.im_text.specs.Printing.{Begins, Pushes};
-ghost use Rattle.im_run.specs.Tracing.{BeginsMarked, marked_line, MayStand, PrintsAll, PrintsSome, trace_text};
-ghost use Rattle.im_run.specs.Tracing.{unmarked, WritesMarked};
+ghost use Rattle.std.specs.Prelude.{◌≡◌, [], ◌++◌, length, OnOk, slice_get};
+ghost use Rattle.im_text.specs.Printing.{TakesText};
+ghost use Rattle.im_run.specs.Tracing.{BeginsTrace, MayStand, PrintsAll, PrintsSome, traced_text, unmarked};
+ghost use Rattle.im_run.specs.Tracing.{WritesTrace};
 
 use crate::calls::Calls;
 use crate::wording::make_call;
 use im_controller::{Since, Traced};
-use im_text::{Lines, Reason};
+use im_text::{Batch, Reason};
 use im_types::Line;
 use std::alloc::Global;
 use std::io::Write;
@@ -46,29 +45,29 @@ impl Trace {
     }
 }
 
-// Prints the line of a call and its answer behind its marks.
+// Prints the line of a call and its answer, or their object with its marks.
 fn print_call<W: Write>(
-    since: Since,
-    line: Option<Line>,
+    objects: bool,
+    call: (Since, Option<Line>),
     text: &mut String,
-    lines: &mut Lines,
+    batch: &mut Batch,
     out: &mut W,
 ) -> Result<(), Reason>
-    ensures more { Pushes result (W.contents out.old) lines.old (W.contents out.new) lines.new
-        (marked_line since line) }
+    ensures more { TakesText result (W.contents out.old) batch.old (W.contents out.new) batch.new
+        (traced_text objects call.0 call.1) }
 {
-    let Ok(()) = make_call(text, since, line) else {
+    let Ok(()) = make_call(text, objects, call.0, call.1) else {
         return Err(Reason::Memory);
     };
-    lines.push(out, text.as_str())
+    batch.push(out, text.as_str())
 }
 
-// The calls of a trace: those of the setup, and those of the servers. Whether their marks are written.
+// The calls of a trace: those of the setup, and those of the servers. Whether they are written as objects.
 #[derive(Clone, Copy)]
 struct TraceLines<'a> {
     setup: &'a [Line],
     served: &'a [Traced],
-    marked: bool,
+    objects: bool,
 }
 
 // Returns the line of the setup at an index.
@@ -110,7 +109,7 @@ fn no_marks() -> Since
 
 // Returns the marks of the servers' line at an index.
 fn since_at(served: &[Traced], at: usize) -> Since
-    ensures { MayStand true [] served.now at result }
+    ensures { MayStand [] served.now at result }
 {
     let Some(traced) = served.get(at) else {
         return no_marks();
@@ -118,14 +117,10 @@ fn since_at(served: &[Traced], at: usize) -> Since
     traced.since()
 }
 
-// Returns the marks of the line at an index of both, if marks are written.
+// Returns the marks of the line at an index of both.
 fn marks_at(both: TraceLines<'_>, at: usize) -> Since
-    ensures { MayStand both.entry.marked both.entry.setup.now (both.entry.setup.now ++ both.entry.served.now) at
-        result }
+    ensures { MayStand both.entry.setup.now (both.entry.setup.now ++ both.entry.served.now) at result }
 {
-    if !both.marked {
-        return no_marks();
-    }
     if at < both.setup.len() {
         return no_marks();
     }
@@ -143,21 +138,22 @@ fn count_of(setup: &[Line], served: &[Traced]) -> usize
 fn print_lines<W: Write>(
     both: TraceLines<'_>,
     text: &mut String,
-    lines: &mut Lines,
+    batch: &mut Batch,
     out: &mut W,
 ) -> Result<(), Reason>
-    ensures all { OnOk result (PrintsAll both.entry.marked both.entry.setup.now
-        (both.entry.setup.now ++ both.entry.served.now) (W.contents out.old) lines.old (W.contents out.new)
-        lines.new) }
-    ensures some { PrintsSome both.entry.marked both.entry.setup.now
-        (both.entry.setup.now ++ both.entry.served.now) (W.contents out.old) lines.old (W.contents out.new)
-        lines.new }
+    ensures all { OnOk result (PrintsAll both.entry.objects both.entry.setup.now
+        (both.entry.setup.now ++ both.entry.served.now) (W.contents out.old) batch.old (W.contents out.new)
+        batch.new) }
+    ensures some { PrintsSome both.entry.objects both.entry.setup.now
+        (both.entry.setup.now ++ both.entry.served.now) (W.contents out.old) batch.old (W.contents out.new)
+        batch.new }
 {
     let setup = both.setup;
     let served = both.served;
     for at in 0..count_of(setup, served) {
         let since = marks_at(both, at);
-        match print_call(since, line_at(setup, served, at), text, lines, out) {
+        let line = line_at(setup, served, at);
+        match print_call(both.objects, (since, line), text, batch, out) {
             Ok(()) => {}
             Err(reason) => return Err(reason),
         }
@@ -165,55 +161,40 @@ fn print_lines<W: Write>(
     Ok(())
 }
 
-// Writes a trace, each line behind its marks if these are written.
-fn write_lines<W: Write>(
+/// Writes a trace, a line for each call: what a line of a dialogue asks, ` -> `, and the reply. A dialogue that is
+/// asked the same on the image as it was before the run gives the same replies. If the servers' calls weren't recorded,
+/// those of the setup are written alone.
+///
+/// If `objects` is set, writes an object of JSON for each call in place of the line. It has the element, the number and
+/// the word of the call, what it asks for, its marks, and its reply. The mark `group` says that a group of commands
+/// began with the call, and `checkpoint` that one came in force since the call before. A call of the setup has no
+/// marks, and a collect or a refused call begins no group.
+///
+/// Returns `Output` if a write fails, and `Memory` if there is not enough memory. What was written is then a prefix of
+/// the lines or the objects.
+pub fn write_trace<W: Write>(
     alloc: Global,
     trace: &Trace,
-    marked: bool,
+    objects: bool,
     out: &mut W,
 ) -> Result<(), Reason>
-    ensures whole { OnOk result (WritesMarked marked trace.now (W.contents out.old) (W.contents out.new)) }
-    ensures begins { BeginsMarked marked trace.now (W.contents out.old) (W.contents out.new) }
+    ensures whole { OnOk result (WritesTrace objects trace.now (W.contents out.old) (W.contents out.new)) }
+    ensures begins { BeginsTrace objects trace.now (W.contents out.old) (W.contents out.new) }
 {
-    let Ok(mut lines) = Lines::new(alloc) else {
+    let Ok(mut batch) = Batch::new(alloc) else {
         return Err(Reason::Memory);
     };
     let mut text = String::new(alloc);
     let both = TraceLines {
         setup: trace.setup.as_slice(),
         served: trace.served.as_slice(),
-        marked,
+        objects,
     };
-    match print_lines(both, &mut text, &mut lines, out) {
-        Ok(()) => lines.flush(out),
+    match print_lines(both, &mut text, &mut batch, out) {
+        Ok(()) => batch.flush(out),
         Err(reason) => {
-            let _written = lines.flush(out);
+            let _written = batch.flush(out);
             Err(reason)
         }
     }
-}
-
-/// Writes a trace, a line for each call: what a line of a dialogue asks, ` -> `, and the reply. A dialogue that is
-/// asked the same on the image as it was before the run gives the same replies. If the servers' calls weren't recorded,
-/// those of the setup are written alone.
-///
-/// Returns `Output` if a write fails, and `Memory` if there is not enough memory. What was written is then a prefix of
-/// the lines.
-pub fn write_trace<W: Write>(alloc: Global, trace: &Trace, out: &mut W) -> Result<(), Reason>
-    ensures whole { OnOk result (Appends (W.contents out.old) (W.contents out.new) (trace_text trace.now)) }
-    ensures begins { Begins (W.contents out.old) (W.contents out.new) (trace_text trace.now) }
-{
-    write_lines(alloc, trace, false, out)
-}
-
-/// Writes a trace as [`write_trace`] does, with marks before the lines: the word `group` if a group of commands began
-/// with the call, and behind it `checkpoint` if a checkpoint came in force since the call before. The setup's calls
-/// have no marks. A group begins only with a command that has an outcome.
-///
-/// The errors are those of [`write_trace`].
-pub fn write_marked_trace<W: Write>(alloc: Global, trace: &Trace, out: &mut W) -> Result<(), Reason>
-    ensures whole { OnOk result (WritesMarked true trace.now (W.contents out.old) (W.contents out.new)) }
-    ensures begins { BeginsMarked true trace.now (W.contents out.old) (W.contents out.new) }
-{
-    write_lines(alloc, trace, true, out)
 }

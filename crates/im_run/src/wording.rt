@@ -1,10 +1,13 @@
-//! The text of a line of a trace: a call, its answer, and its marks.
+//! The text of a call and its answer in a trace: a line, or an object of JSON with its marks.
 ghost use Rattle.std.specs.Prelude.{◌≡◌, [], ◌++◌, if◌then◌else◌, OnOk, Some, string_bytes};
-ghost use Rattle.im_run.specs.Tracing.{call_text, marked_line, marks_text, outcome_text, refusal_text, request_text};
-ghost use Rattle.im_run.specs.Tracing.{trace_line};
+ghost use Rattle.im_run.specs.Traced.{answer_members, call_members, call_object, call_start, mark_members};
+ghost use Rattle.im_run.specs.Traced.{outcome_number, outcome_word, reply_member, request_members};
+ghost use Rattle.im_run.specs.Tracing.{call_text, outcome_text, refusal_text, request_text, trace_line, traced_text};
 
 use im_controller::Since;
-use im_text::{add_entry, add_op};
+use im_text::{
+    add_entry, add_number, add_object_start, add_op, add_op_members, entry_parts, op_word,
+};
 use im_types::{Call, Command, Line, Outcome, Refusal, Request};
 use std::alloc::AllocError;
 
@@ -60,33 +63,104 @@ fn add_line(text: &mut String, line: Line) -> Result<(), AllocError>
     text.push_str("\n")
 }
 
-// Adds a word, if it is so.
-fn add_word_if(text: &mut String, is_so: bool, word: &str) -> Result<(), AllocError>
-    ensures { OnOk result (string_bytes text.new ≡ string_bytes text.old ++ (if is_so then word.now else [])) }
+// Adds the start of a call's object: the element, the number and the word of the call.
+fn add_start(text: &mut String, element: u16, number: u64, word: &str) -> Result<(), AllocError>
+    ensures { OnOk result (string_bytes text.new ≡ string_bytes text.old ++ call_start element number word.now) }
 {
-    if is_so { text.push_str(word) } else { Ok(()) }
+    add_object_start(text, element, number)?;
+    write!(text, ",\"call\":\"{word}\"")
 }
 
-// Adds the words of marks.
+// Adds the members of a request.
+fn add_request_members(text: &mut String, request: Request) -> Result<(), AllocError>
+    ensures { OnOk result (string_bytes text.new ≡ string_bytes text.old ++ request_members request) }
+{
+    add_start(text, request.element, request.number, op_word(request.op))?;
+    add_op_members(text, request.op)
+}
+
+// Adds the members of a call.
+fn add_call_members(text: &mut String, call: Call) -> Result<(), AllocError>
+    ensures { OnOk result (string_bytes text.new ≡ string_bytes text.old ++ call_members call) }
+{
+    match call {
+        Call::Command(Command::Request(request)) => add_request_members(text, request),
+        Call::Command(Command::Confirm { element, upto }) => {
+            add_start(text, element, upto, "confirm")
+        }
+        Call::Collect { element, number } => add_start(text, element, number, "collect"),
+    }
+}
+
+// Adds a text, if it is so.
+fn add_if(text: &mut String, is_so: bool, part: &str) -> Result<(), AllocError>
+    ensures { OnOk result (string_bytes text.new ≡ string_bytes text.old ++ (if is_so then part.now else [])) }
+{
+    if is_so { text.push_str(part) } else { Ok(()) }
+}
+
+// Adds the members of marks.
 fn add_marks(text: &mut String, since: Since) -> Result<(), AllocError>
-    ensures { OnOk result (string_bytes text.new ≡ string_bytes text.old ++ marks_text since) }
+    ensures { OnOk result (string_bytes text.new ≡ string_bytes text.old ++ mark_members since) }
 {
-    add_word_if(text, since.group, "group ")?;
-    add_word_if(text, since.checkpoint, "checkpoint ")
+    add_if(text, since.group, ",\"group\":true")?;
+    add_if(text, since.checkpoint, ",\"checkpoint\":true")
 }
 
-/// Makes the line of a call and its answer behind its marks, if there is one.
+// The word of an answer, and its number if it has one.
+fn answer_parts(answer: Result<Outcome, Refusal>) -> (&'static str, Option<u64>)
+    ensures word { result.0.now ≡ outcome_word answer }
+    ensures number { result.1 ≡ outcome_number answer }
+{
+    match answer {
+        Ok(Outcome::Entry(entry)) => entry_parts(entry),
+        Ok(Outcome::Confirmed) => ("confirmed", None),
+        Err(refusal) => ("refused", Some(u64::from(refusal.number()))),
+    }
+}
+
+// Adds the word of an answer.
+fn add_reply(text: &mut String, word: &str) -> Result<(), AllocError>
+    ensures { OnOk result (string_bytes text.new ≡ string_bytes text.old ++ reply_member word.now) }
+{
+    write!(text, ",\"reply\":\"{word}\"")
+}
+
+// Adds the members of an answer, and ends the object.
+fn add_answer_members(text: &mut String, answer: Result<Outcome, Refusal>) -> Result<(), AllocError>
+    ensures { OnOk result (string_bytes text.new ≡ string_bytes text.old ++ answer_members answer) }
+{
+    let (word, number) = answer_parts(answer);
+    add_reply(text, word)?;
+    add_number(text, word, number)?;
+    text.push_str("}\n")
+}
+
+// Adds the object of a call with its marks and its answer.
+fn add_object(text: &mut String, since: Since, line: Line) -> Result<(), AllocError>
+    ensures { OnOk result (string_bytes text.new ≡ string_bytes text.old ++ call_object since (Some line)) }
+{
+    add_call_members(text, line.call)?;
+    add_marks(text, since)?;
+    add_answer_members(text, line.answer)
+}
+
+/// Makes the line of a call and its answer, or their object with the marks, if there is a call.
 pub(crate) fn make_call(
     text: &mut String,
+    objects: bool,
     since: Since,
     line: Option<Line>,
 ) -> Result<(), AllocError>
-    ensures { OnOk result (string_bytes text.new ≡ marked_line since line) }
+    ensures { OnOk result (string_bytes text.new ≡ traced_text objects since line) }
 {
     text.clear();
     let Some(line) = line else {
         return Ok(());
     };
-    add_marks(text, since)?;
-    add_line(text, line)
+    if objects {
+        add_object(text, since, line)
+    } else {
+        add_line(text, line)
+    }
 }

@@ -5,7 +5,7 @@ use Rattle.im_types.specs.Types.{Command, Limits, after, accept_each, Means}
 use Rattle.im_disk.proofs.SinceLemmas.{leaves_now, leaves_weaker}
 use Rattle.im_disk.specs.{declared.Disk.Ghosts, Moment.Left, Moment.Moment, Moment.Outside}
 use Rattle.im_disk.specs.Since.{LeavesNow, LeavesOnly}
-use Rattle.im_session.proofs.AcceptedLemmas.{each_accepted}
+use Rattle.{im_session.proofs.AcceptedLemmas.each_accepted, im_text.specs.Said.Output}
 use Rattle.im_session.proofs.CarryLemmas.{began_with, BeganWith, carried}
 use Rattle.im_session.specs.{Carrying.LedBy, Kept.Kept, Kept.MeansPut, Kept.SessionState}
 use Rattle.im_serial.proofs.BegunLemmas.{all_accepted, all_asked, begun_on, gone_on}
@@ -75,9 +75,9 @@ module _ {D : Type 0} (disk : Ghosts D) (limits : Limits) (text : List ℕ) (s :
     done = λ zero. done_on (works zero) zero;
   }
 
-module _ {D : Type 0} (disk : Ghosts D) (limits : Limits) (text : List ℕ) (old new : D) (was is : Option (List ℕ))
-    (status : ℕ) (before : LeavesNow (disk.now old) (LedBy (HasComeTo limits (wanted_of text))))
-    (h : disk.honest new) where
+module _ {D : Type 0} (disk : Ghosts D) (limits : Limits) (text : List ℕ) (old new : D) (was : Output)
+    (is : Option (List ℕ)) (status : ℕ)
+    (before : LeavesNow (disk.now old) (LedBy (HasComeTo limits (wanted_of text)))) (h : disk.honest new) where
   pub keeps_on : SerialOnceOn disk text old new was is status
       → KeepsBegun disk.now disk.past limits (wanted_of text) old new status
   keeps_on (inl it) = record {

@@ -13,7 +13,7 @@ use Rattle.im_laws.proofs.{ForgetLemmas.after-forgotten, JudgeLemmas.kept_for-co
 use Rattle.im_laws.proofs.{RunLemmas.after-append, StepLemmas.slice_get-end, Tests.and_both, Tests.eq_by_test}
 use Rattle.im_laws.proofs.WindowLemmas.{kept_for-here, kept_for-window, kept_under-below, kept_under-from}
 use Rattle.im_text.proofs.{PrintingLemmas.take-prefix, PrintingLemmas.true_false, WindowLemmas.bounds_found}
-use Rattle.im_text.specs.{declared.Waited.Waited, Printing.waits_if, Printing.who_of}
+use Rattle.im_text.specs.{declared.Waited.Waited, Said.waits_if, Said.who_of}
 use Rattle.im_serial.specs.declared.waits.Mark.{Mark, TheVariants.Earlier, TheVariants.Here, TheVariants.Nobody}
 use Rattle.im_serial.specs.Noted.{AreKnown, AreNoted, entered, IsLearnt, IsMarked, IsToDrop, mark_place, noted_by}
 use Rattle.im_serial.specs.Noted.{noted_if, with_entry}

@@ -3,18 +3,19 @@ use Rattle.std.proofs.Common.{◌≡◌, ℕ, zero, suc, ◌+◌, ◌-◌, ◌<�
 use Rattle.std.proofs.Common.{map, length, take, IfOk, if◌then◌else◌, OnOk, slice_get, Some, None, Ok, Err, Option}
 use Rattle.std.proofs.Common.{Result, MatchResult, sym, refl, ap, ◌∙◌, subst, ap₂, inl, inr, ⊎_elim, append_assoc}
 use Rattle.std.proofs.Common.{append-nil, arith, take_all, Bor}
-use Rattle.std.proofs.{KnownBytes.Appends-trans, lemmas.List.length-map, lemmas.List.map-append, lemmas.List.take_more}
-use Rattle.std.specs.{Io.KnownBytes.Appends, Option.option_map_or}
+use Rattle.std.proofs.lemmas.List.{length-map, map-append, take_more}
+use Rattle.std.specs.Option.{option_map_or}
 use Rattle.im_types.specs.Types.{Entry, Waiter, Kept, Waiting, Answered, Command, Window, Contents, kept_for, IsWindow}
 use Rattle.im_types.specs.Types.{IsMemory, next_number, bounds, after}
 use Rattle.im_laws.proofs.{Tests.and_both, WindowLemmas.kept_for-window}
 use Rattle.im_disk.specs.declared.Disk.{Ghosts}
 use Rattle.im_session.specs.Kept.{IsFresh, Kept as SessionKept, session_of, SessionStart, SessionState, start_at}
 use Rattle.im_script.specs.{declared.Said.Said, Script.Draft, Script.lines_of}
-use Rattle.im_text.proofs.PrintingLemmas.{prints_all, prints_begins, prints_none, true_false}
-use Rattle.im_text.{proofs.WindowLemmas.bounds_found, specs.declared.Lines.Lines, specs.declared.Waited.Waited}
-use Rattle.im_text.specs.Printing.{Begins, IsLast, nows, Prints, PrintsMore, PrintsNows, PrintsOn, replies, waits}
-use Rattle.im_text.specs.Printing.{waits_if, who_of}
+use Rattle.im_text.proofs.{PrintingLemmas.true_false, WindowLemmas.bounds_found}
+use Rattle.im_text.proofs.SaidLemmas.{prints_after, prints_all, prints_begins, prints_none}
+use Rattle.im_text.specs.declared.{Lines.Lines, OutputLine.OutputLine, Waited.Waited}
+use Rattle.im_text.specs.Said.{IsLast, nows, Output, output, Prints, PrintsMore, PrintsNows, PrintsOn, replies}
+use Rattle.im_text.specs.Said.{SaysSome, SaysWhole, waits, waits_if, who_of}
 use Rattle.im_serial.proofs.{AskedLemmas.wanted_line, KeepsLemmas.went_on, LeftLemmas.had_at, LeftLemmas.has_some}
 use Rattle.im_serial.proofs.{LeftLemmas.met_here, LeftLemmas.met_less, NotedLemmas.apart, NotedLemmas.last_or_before}
 use Rattle.im_serial.proofs.{ScriptedLemmas.going_from, ScriptedLemmas.leads_here, ScriptedLemmas.over_here}
@@ -28,7 +29,7 @@ use Rattle.im_serial.specs.Once.{AreMade, Breaks, BrokenAt, course_of, DoneOnce,
 use Rattle.im_serial.specs.Once.{HasPassed, HasServedNothing, HasServedOnce, HasShown, is_had, IsAskedOnce, IsMade}
 use Rattle.im_serial.specs.Once.{IsMadeOnce, IsPrefix, lines_had, MakesBlocks, Meets, met_of, MetAt, Names, new_of}
 use Rattle.im_serial.specs.Once.{noted_of, past_line, ServedOnce, ToldOnce, waits_had, waits_of}
-use Rattle.im_serial.specs.Serving.{EndsAt, GoingAt, HasServed, IsOver, Passes, ScriptServer, server_of}
+use Rattle.im_serial.specs.Serving.{EndsAt, GoingAt, HasServed, IsOver, output_of, Passes, ScriptServer, server_of}
 use Rattle.im_serial.specs.declared.meeting.Met.TheVariants as as_met
 
 -- what a line asks for, and those behind it
@@ -107,7 +108,8 @@ number_left m many e k windows is =
 nothing_below : (n : ℕ) → n < 0 → ⊥
 nothing_below n less = omega arith
 
-module _ (m : Contents) (script rest : List Wanted) (many : List ℕ) (w : Wanted) (text : List ℕ) (waited : List Waited)
+module _ (m : Contents) (script rest : List Wanted) (many : List ℕ) (w : Wanted) (text : List OutputLine)
+    (waited : List Waited)
     (marks : List Mark) (it : HasMet m script many (w ∷ rest) text waited marks) where
   abbrev who : Waiter
   who = who_next m many w.element
@@ -115,7 +117,7 @@ module _ (m : Contents) (script rest : List Wanted) (many : List ℕ) (w : Wante
   -- it has it
   module _ (has : has_next many w.element ≡ true) where
     lines_more : lines_had m (numbers_had m) script ≡ (text ++ past_line m who) ++ lines_had m (met many w.element) rest
-    lines_more = it.lines ∙ ap (λ (l : List ℕ). text ++ (l ++ lines_had m (met many w.element) rest)) (if_true
+    lines_more = it.lines ∙ ap (λ (l : List OutputLine). text ++ (l ++ lines_had m (met many w.element) rest)) (if_true
         (has_next many w.element) (past_line m who) [] has)
         ∙ sym (append_assoc text (past_line m who) (lines_had m (met many w.element) rest))
 
@@ -216,8 +218,9 @@ module _ (m : Contents) (script rest : List Wanted) (many : List ℕ) (w : Wante
       }
 
 -- it was ended there
-pub met_broken : (m : Contents) (script : List Wanted) (many : List ℕ) (left : List Wanted) (text : List ℕ) (waited :
-    List Waited) (marks : List Mark) → HasMet m script many left text waited marks → HasBroken m script text waited
+pub met_broken : (m : Contents) (script : List Wanted) (many : List ℕ) (left : List Wanted)
+    (text : List OutputLine) (waited : List Waited) (marks : List Mark)
+    → HasMet m script many left text waited marks → HasBroken m script text waited
 met_broken m script many left text waited marks it = record {
   lines = (lines_had m many left, it.lines);
   names = (waits_had m many left, it.names);
@@ -347,7 +350,7 @@ module _ {D : Type 0} where
   pub meets_refl : (many : List ℕ) (wanted : List Wanted) (t : ScriptServer D) → Meets many wanted many wanted t t
   meets_refl many wanted t = λ script rest held at. at
 
-  pub broken_at : (script : List Wanted) (many : List ℕ) (left : List Wanted) (held : Option (List ℕ)) (t :
+  pub broken_at : (script : List Wanted) (many : List ℕ) (left : List Wanted) (held : Output) (t :
       ScriptServer D) → MetAt script many left held t → BrokenAt script held t
   broken_at script many left held t it = (
     it.0,
@@ -397,7 +400,7 @@ module _ {D : Type 0} where
         (subst (λ (l : List Waited). BrokenAt script from (server_of session later last l marked)) (sym nothing)
         (by_prints script rest from at prints))
       where
-        by_prints : (script rest : List Wanted) (from : Option (List ℕ)) → MetAt script many (w ∷ rest) from (server_of
+        by_prints : (script rest : List Wanted) (from : Output) → MetAt script many (w ∷ rest) from (server_of
             session held before waited marks)
             → PrintsOn held before later last ⊎ PrintsMore held before later last (past_line session.engine.memory it)
             → BrokenAt script from (server_of session later last waited marked)
@@ -432,7 +435,7 @@ module _ {D : Type 0} where
       (lines : lines_of text ≡ line ∷ option_map_or (λ rest. lines_of rest.now) behind []) (read : said_at d line ≡
       Some (next, said)) where
     module _ (so_far : Meets first all many (wanted_in d (lines_of text)) old mid) where
-      meets_there : (script rest : List Wanted) (held : Option (List ℕ)) → MetAt script first (all ++ rest) held old
+      meets_there : (script rest : List Wanted) (held : Output) → MetAt script first (all ++ rest) held old
           → MetAt script many (wanted_by said ++ (option_map_or (λ rest. wanted_in next (lines_of rest.now)) behind []
           ++ rest)) held mid
       meets_there script rest held at =
@@ -496,7 +499,7 @@ module _ {D : Type 0} where
       → Meets (numbers_had old.session.engine.memory) script later [] old (server_of session held before waited marks)
       → Names (numbers_had old.session.engine.memory) 0 script later behind [] bases known
       → MakesBlocks old.session.engine.memory (numbers_had old.session.engine.memory) script later [] → PrintsOn held before after last
-      → OnOk r (last.pending.items ≡ []) → OnOk r (last.broken ≡ false)
+      → OnOk r (last.batch.pending.items ≡ []) → OnOk r (last.batch.broken ≡ false)
       → MatchResult r (λ x. HasShown script bases known old (server_of session after last waited marks))
       (λ e. Breaks (numbers_had old.session.engine.memory) script old (server_of session after last waited marks))
   shown_by (Ok x) script bases known later behind old session held after before last waited marks same meets names makes
@@ -564,7 +567,7 @@ module _ {D : Type 0} where
   -- these requests, and those behind them
   module _ (all whole some left : List Wanted) (is : whole ≡ some ++ left) (first before : List ℕ) (old mid :
       ScriptServer D) (so_far : Passes all first whole before old mid) where
-    part_there : (start : SessionStart D) (held : Option (List ℕ)) (script : Option Course) (rest : List Wanted) →
+    part_there : (start : SessionStart D) (held : Output) (script : Option Course) (rest : List Wanted) →
         GoingAt start held (standing script first (all ++ rest)) old
         → GoingAt start held (standing script before (some ++ (left ++ rest))) mid
     part_there start held script rest going = subst (λ (l : List Wanted). GoingAt start held (standing script
@@ -594,16 +597,6 @@ module _ {D : Type 0} where
 
 -- ---- from the beginning to the end
 
-prints_after : (was mid is : Option (List ℕ)) (lines : Lines) (had text : List ℕ) → Appends was mid had → Prints mid is
-    lines text → Prints was is lines (had ++ text)
-prints_after was mid is lines had text first it = record {
-  written = had ++ it.written;
-  rest = it.rest;
-  split = ap (λ (l : List ℕ). had ++ l) it.split ∙ sym (append_assoc had it.written it.rest);
-  there = Appends-trans was mid is had it.written first it.there;
-  back = it.back;
-}
-
 pub either_way : {T E : Type 0} (r : Result T E) (A B : Type 0) → A → MatchResult r (λ x. A) (λ e. A ⊎ B)
 either_way (Ok x) A B it = it
 either_way (Err e) A B it = inl it
@@ -618,7 +611,7 @@ no_item w is = cc
 module _ {D : Type 0} where
   -- nothing was met yet
   pub met_start : (script : List Wanted) (t : ScriptServer D) (bases : List ℕ) → HasServedNothing t bases
-      → MetAt script (numbers_had t.session.engine.memory) (script ++ []) t.held t
+      → MetAt script (numbers_had t.session.engine.memory) (script ++ []) (output_of t) t
   met_start script t bases ready = let m = t.session.engine.memory in (
     [],
     (
@@ -630,7 +623,7 @@ module _ {D : Type 0} where
         marked = λ at w is. absurd (no_item w (ap (λ (l : List Waited). slice_get l at) (sym ready.waited) ∙ is));
         passed = λ at w is. absurd (no_item w (ap (λ (l : List Waited). slice_get l at) (sym ready.waited) ∙ is));
       },
-      prints_none t.held t.lines ready.pending,
+      prints_none (output_of t) t.lines refl ready.pending,
     ),
   )
 
@@ -638,7 +631,7 @@ module _ {D : Type 0} where
   pub ready_of : (session same : SessionState D) (held : Option (List ℕ)) (before lines : Lines) (waited : List Waited)
       (marks : List Mark) (bases : List ℕ) → IsFresh session → session.engine.failed ≡ false
       → (let m = session.engine.memory in IsMemory (length m.cells) (length m.windows) m)
-      → before.pending.items ≡ [] → waited ≡ [] → bases ≡ [] → same ≡ session → lines ≡ before
+      → before.batch.pending.items ≡ [] → waited ≡ [] → bases ≡ [] → same ≡ session → lines ≡ before
       → HasServedNothing (server_of same held lines waited marks) bases
   ready_of session same held before lines waited marks bases fresh works memory pending none no_bases sessions line =
       record {
@@ -648,12 +641,12 @@ module _ {D : Type 0} where
             IsMemory (length m.cells) (length m.windows) m) (sym sessions) memory;
         waited = none;
         bases_is = no_bases;
-        pending = ap (λ (l : Lines). l.pending.items) line ∙ pending;
+        pending = ap (λ (l : Lines). l.batch.pending.items) line ∙ pending;
       }
 
   -- it was ended before the first request
   module _ (script : List Wanted) (old new : ScriptServer D) (bases : List ℕ) (ready : HasServedNothing old bases)
-      (same : new.session ≡ old.session) (text : List ℕ)
+      (same : new.session ≡ old.session) (text : List OutputLine)
       (broken : HasBroken old.session.engine.memory script text new.waited) where
     abbrev begun : SessionState D
     begun = session_of (start_at old.session.start.disk old.session.engine) [] [] old.session.engine
@@ -675,8 +668,9 @@ module _ {D : Type 0} where
       earlier = map who_of new.waited;
     }
 
-    unbegun : Prints old.held new.held new.lines text
-        → FitsScript m script ⊎ ((text ≡ []) × (new.waited ≡ [])) → EndedOnce old.session.start script old.held new
+    unbegun : Prints (output_of old) new.held new.lines text
+        → FitsScript m script ⊎ ((text ≡ []) × (new.waited ≡ []))
+        → EndedOnce old.session.start script (output_of old) new
     unbegun printed fit = record {
       course = course_met;
       had = text;
@@ -701,12 +695,12 @@ module _ {D : Type 0} where
         made = inr refl;
         fit = ⊎_elim (λ is. inl is) (λ none. inr (refl, none)) fit;
       });
-      printed = subst (Prints old.held new.held new.lines) (sym (append-nil text)) printed;
+      printed = subst (Prints (output_of old) new.held new.lines) (sym (append-nil text)) printed;
     }
 
   -- nothing was printed
   untold : (script : List Wanted) (old new : ScriptServer D) (bases : List ℕ) → HasServedNothing old bases
-      → new ≡ old → EndedOnce old.session.start script old.held new
+      → new ≡ old → EndedOnce old.session.start script (output_of old) new
   untold script old new bases ready same =
       let m = old.session.engine.memory in
       let broken : HasBroken m script [] old.waited = record {
@@ -717,8 +711,8 @@ module _ {D : Type 0} where
         );
         known = λ at w is. absurd (no_item w (ap (λ (l : List Waited). slice_get l at) (sym ready.waited) ∙ is));
       } in
-      subst (λ (t : ScriptServer D). EndedOnce old.session.start script old.held t) (sym same)
-      (unbegun script old old bases ready refl [] broken (prints_none old.held old.lines ready.pending)
+      subst (λ (t : ScriptServer D). EndedOnce old.session.start script (output_of old) t) (sym same)
+      (unbegun script old old bases ready refl [] broken (prints_none (output_of old) old.lines refl ready.pending)
       (inr (refl, ready.waited)))
 
   fits_start : (script : List Wanted) (old : ScriptServer D) (bases : List ℕ) → HasServedNothing old bases
@@ -735,7 +729,7 @@ module _ {D : Type 0} where
   once_unbegun T e script old new bases same breaks fit = λ ready. (
     ⊎_elim
         (λ is.
-        let it = breaks script [] old.held (met_start script old bases ready) in
+        let it = breaks script [] (output_of old) (met_start script old bases ready) in
         unbegun script old new bases ready same it.0
         (subst (λ (t : SessionState D). HasBroken t.engine.memory script it.0 new.waited) same it.1.0) it.1.1
         (inl (fits_start script old bases ready is)))
@@ -751,8 +745,8 @@ module _ {D : Type 0} where
     shown_ends T e = once_unbegun T e script old mid bases it.session (breaks_here
         (numbers_had old.session.engine.memory) it.later script [] old mid it.meets) (inl fit)
 
-    shown_at : HasServedNothing old bases → MetAt script it.later [] old.held mid
-    shown_at ready = it.meets script [] old.held (met_start script old bases ready)
+    pub shown_at : HasServedNothing old bases → MetAt script it.later [] (output_of old) mid
+    shown_at ready = it.meets script [] (output_of old) (met_start script old bases ready)
 
     abbrev found : Contents
     found = old.session.start.memory
@@ -772,25 +766,31 @@ module _ {D : Type 0} where
     shown_text : (ready : HasServedNothing old bases) → (shown_at ready).0 ≡ lines_had found (numbers_had found) script
     shown_text ready = sym ((met_there ready).lines ∙ append-nil (shown_at ready).0)
 
-    pub shown_written : HasServedNothing old bases → Appends old.held mid.held (lines_had found (numbers_had found) script)
-    shown_written ready = subst (Appends old.held mid.held) (shown_text ready) (prints_all old.held mid.held mid.lines
-        (shown_at ready).0 it.works it.pending (shown_at ready).1.1)
+    pub shown_written : HasServedNothing old bases
+        → SaysWhole (output_of old) mid.held (lines_had found (numbers_had found) script)
+    shown_written ready = subst (SaysWhole (output_of old) mid.held) (shown_text ready) (prints_all (output_of old)
+        mid.held mid.lines (shown_at ready).0 it.works it.pending (shown_at ready).1.1)
+
+    -- what its writer held then
+    abbrev shown_from : Output
+    shown_from = output old.lines.style mid.held
 
     shown_going : HasServedNothing old bases
-        → GoingAt old.session.start mid.held (standing (Some course) known (course.wanted ++ [])) mid
+        → GoingAt old.session.start shown_from (standing (Some course) known (course.wanted ++ [])) mid
     shown_going ready =
         let met = met_there ready in
         let names : known ≡ course.first = it.names ∙ ap (λ (l : List ℕ). l ++ bases_had (numbers_had
         old.session.engine.memory) 0 script) ready.bases_is
         ∙ ap (λ (x : Contents). bases_had (numbers_had x) 0 script) (found_is ready) in
-        subst (λ (b : List ℕ). GoingAt old.session.start mid.held (standing (Some course) b (course.wanted ++ [])) mid)
+        subst (λ (b : List ℕ). GoingAt old.session.start shown_from (standing (Some course) b (course.wanted ++ []))
+        mid)
         (sym names)
-        (subst (λ (t : SessionState D). GoingAt old.session.start mid.held (standing (Some course) course.first
+        (subst (λ (t : SessionState D). GoingAt old.session.start shown_from (standing (Some course) course.first
         (course.wanted ++ [])) (server_of t mid.held mid.lines mid.waited mid.marks)) (sym it.session)
-        (going_from course old.session mid.held mid.lines mid.waited mid.marks ready.fresh ready.works (record {
+        (going_from course old.session shown_from mid.lines mid.waited mid.marks ready.fresh ready.works (record {
           memory = met.memory;
           noted = λ at w is. inr (met.marked at w is);
-        }) (sym (met.names ∙ append-nil (map who_of mid.waited))) it.pending))
+        }) (sym (met.names ∙ append-nil (map who_of mid.waited))) (shown_at ready).1.1.styled it.pending))
 
     made_there : HasServedNothing old bases → HasMade found script
     made_there ready = subst (λ (x : Contents). HasMade x script) (found_is ready) it.made
@@ -803,7 +803,7 @@ module _ {D : Type 0} where
         let served_now = subst (λ (l : List Wanted). HasServed l known last r mid new)
         (same ∙ ap (λ (x : Contents). new_of x script) (found_is ready)) served in
         let going = shown_going ready in
-        let ends = served_now.ends old.session.start mid.held (Some course) [] going in (
+        let ends = served_now.ends old.session.start shown_from (Some course) [] going in (
           record {
             course = course;
             had = lines_had found (numbers_had found) script;
@@ -816,30 +816,33 @@ module _ {D : Type 0} where
             text = ends.text;
             over = ends.over;
             once = record { made = inl (made_there ready); fit = inl (fits_start script old bases ready fit) };
-            printed = prints_after old.held mid.held new.held new.lines _ ends.text (shown_written ready) ends.printed;
+            printed = prints_after (output_of old) mid.held new.held new.lines _ ends.text (shown_written ready)
+                ends.printed;
           },
           by_result r served_now.serves ready going,
         )
       where
         by_result : {T E : Type 0} (r : Result T E) → OnOk r (Passes course.wanted known [] last mid new)
             → HasServedNothing old bases
-            → GoingAt old.session.start mid.held (standing (Some course) known (course.wanted ++ [])) mid
-            → OnOk r (DoneOnce old.session.start script old.held new)
+            → GoingAt old.session.start shown_from (standing (Some course) known (course.wanted ++ [])) mid
+            → OnOk r (DoneOnce old.session.start script (output_of old) new)
         by_result (Ok x) serves ready going =
-            let done = serves old.session.start mid.held (Some course) [] going in record {
+            let done = serves old.session.start shown_from (Some course) [] going in record {
               made = made_there ready;
               fit = fits_start script old bases ready fit;
               bases = last;
               text = done.text;
               serving = done.serving;
-              printed = prints_after old.held mid.held new.held new.lines _ done.text (shown_written ready) done.printed;
+              printed = prints_after (output_of old) mid.held new.held new.lines _ done.text (shown_written ready)
+                  done.printed;
             }
         by_result (Err e) serves ready going = tt
 
   -- ---- the end
 
   module _ (disk : Ghosts D) (script : List ℕ) (t : SessionState D) (end : D) (status : ℕ)
-      (held mid is was : Option (List ℕ)) (before later final : Lines) (noted waited : List Waited) (marks : List Mark)
+      (held mid is : Option (List ℕ)) (was : Output) (before later final : Lines) (noted waited : List Waited)
+      (marks : List Mark)
       (kept : SessionKept disk t) (at_end : end ≡ t.engine.disk) (works : status ≡ 0 → t.engine.failed ≡ false)
       (ended : EndedOnce t.start (wanted_of script) was (server_of t held before noted marks))
       (done : status ≡ 0 → DoneOnce t.start (wanted_of script) was (server_of t held before noted marks))
@@ -848,17 +851,17 @@ module _ {D : Type 0} where
       → AreLast m put waited)
       (some : PrintsNows held before mid later waited)
       (all : status ≡ 0 → PrintsMore held before mid later (nows waited (length waited)))
-      (last : (from : Option (List ℕ)) (text : List ℕ) → Prints from mid later text
-      → (last : List ℕ) × (IsLast last × Prints from is final (text ++ last)))
-      (whole : status ≡ 0 → (from : Option (List ℕ)) (text : List ℕ) → Prints from mid later text
-      → Appends from is text) where
+      (last : (from : Output) (text : List OutputLine) → Prints from mid later text
+      → (last : List OutputLine) × (IsLast last × Prints from is final (text ++ last)))
+      (whole : status ≡ 0 → (from : Output) (text : List OutputLine) → Prints from mid later text
+      → SaysWhole from is text) where
     abbrev origin : Contents
     origin = t.start.memory
 
     abbrev wanted : List Wanted
     wanted = wanted_of script
 
-    abbrev lines : List ℕ
+    abbrev lines : List OutputLine
     lines = lines_had origin (numbers_had origin) wanted
 
     abbrev early : List Waiter
@@ -885,11 +888,11 @@ module _ {D : Type 0} where
     }
 
     -- what was told, by the lines that were printed
-    told_once : (c : Course) (text had : List ℕ) → IsOver t.start t (Some c) text noted → IsPrefix had lines
+    told_once : (c : Course) (text had : List OutputLine) → IsOver t.start t (Some c) text noted → IsPrefix had lines
         → IsPrefix c.earlier early → FitsScript origin wanted ⊎ ((had ≡ []) × (waited ≡ []))
         → Prints was held before (had ++ text)
         → (status ≡ 0 → (had ≡ lines) × (map who_of waited ≡ early ++ waits origin t.put)
-        × Appends was is (had ++ replies origin t.put ++ nows waited (length waited)))
+        × SaysWhole was is (had ++ replies origin t.put ++ nows waited (length waited)))
         → ToldOnce origin wanted t.put was is status
     told_once c text had over had_is earlier_is fit prints all_of =
         let end = last was ((had ++ text) ++ nows waited some.0) (some.2 was (had ++ text) prints) in record {
@@ -907,7 +910,8 @@ module _ {D : Type 0} where
           many = some.0;
           last = end.0;
           last_is = end.1.0;
-          begins = subst (λ (l : List ℕ). Begins was is (((had ++ l) ++ nows waited some.0) ++ end.0)) over.lines
+          begins = subst (λ (l : List OutputLine). SaysSome was is (((had ++ l) ++ nows waited some.0) ++ end.0))
+              over.lines
               (prints_begins was is final (((had ++ text) ++ nows waited some.0) ++ end.0) end.1.1);
           whole = all_of;
         }
@@ -928,7 +932,8 @@ module _ {D : Type 0} where
         (inl g.fit) g.printed (λ z. (
           refl,
           same ∙ g.serving.names,
-          subst (λ (l : List ℕ). Appends was is ((lines ++ l) ++ nows waited (length waited))) g.serving.lines full,
+          subst (λ (l : List OutputLine). SaysWhole was is ((lines ++ l) ++ nows waited (length waited)))
+              g.serving.lines full,
         )))
     by_status (suc n) more =
         let c = ended.course in

@@ -1,9 +1,9 @@
 -- The place of a script's next request.
 use Rattle.std.proofs.Common.{◌≡◌, ℕ, ◌≤◌, List, Ok, Err, Result, sym, ◌∙◌, arith}
-use Rattle.im_types.specs.Types.{Contents, bounds}
-use Rattle.im_asks.specs.declared.WindowPlace.TheVariants.{Confirm, Next}
-use Rattle.{im_asks.specs.Windows.IsWindowPlace, im_text.specs.declared.Waited.Waited}
-use Rattle.im_session.specs.Kept.{SessionStart, SessionState}
+use Rattle.{im_types.specs.Types.Contents, im_types.specs.Types.bounds}
+use Rattle.{im_asks.specs.declared.WindowPlace.TheVariants.Confirm, im_asks.specs.declared.WindowPlace.TheVariants.Next}
+use Rattle.{im_asks.specs.Windows.IsWindowPlace, im_session.specs.Kept.SessionStart, im_session.specs.Kept.SessionState}
+use Rattle.im_text.specs.declared.{OutputLine.OutputLine, Waited.Waited}
 use Rattle.im_serial.{proofs.ScriptedLemmas.over_here, specs.Serving.IsServing, specs.Serving.MakesPlace}
 use Rattle.im_serial.specs.{Asked.Standing, declared.waits.Mark.Mark, Noted.notes}
 
@@ -36,7 +36,8 @@ placed E x s waited marks = λ start at text was. was
 -- a number is looked up behind a place that was made
 pub place_then : {D T E : Type 0} (r : Result T E) (old new : SessionState D) (waited learned : List Waited)
     (marks later : List Mark)
-    → ((start : SessionStart D) (s : Standing) (text : List ℕ) → IsServing start old s text (notes waited marks)
+    → ((start : SessionStart D) (s : Standing) (text : List OutputLine)
+    → IsServing start old s text (notes waited marks)
     → IsServing start new s text (notes learned later)) → MakesPlace r old waited marks new learned later
 place_then (Ok x) old new waited learned marks later first = first
 place_then (Err e) old new waited learned marks later first = λ start s text was.

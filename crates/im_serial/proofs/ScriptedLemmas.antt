@@ -2,21 +2,22 @@
 use Rattle.std.proofs.Common.{◌≡◌, ℕ, zero, suc, ◌≤◌, Bool, true, false, List, [], ◌∷◌, ◌++◌, map, length, take, IfSome}
 use Rattle.std.proofs.Common.{IfOk, if◌then◌else◌, OnOk, OnErr, IsOk, slice_get, Some, None, Ok, Err, Option, Result}
 use Rattle.std.proofs.Common.{sym, refl, ap, ◌∙◌, subst, ⊎_elim, append_assoc, append-nil, arith, Bor}
-use Rattle.std.specs.{Io.KnownBytes.Appends, Option.option_map_or}
+use Rattle.std.specs.Option.{option_map_or}
 use Rattle.im_types.specs.Types.{Entry, Op, Waiter, Waiting, Answered as Replied, Request, Command, Outcome, Asks}
 use Rattle.im_types.specs.Types.{Confirm, Tells, Confirmed, Refusal, Window, Contents, IsWindow, IsMemory}
 use Rattle.im_types.specs.Types.{WaitingAgrees, confirm_window, bounds, asker, step_confirm, step, is_accepted, after}
 use Rattle.im_types.specs.Types.{accepted}
-use Rattle.{im_laws.proofs.AcceptLemmas.unaccepted-leaves, im_disk.specs.declared.Disk.Ghosts}
-use Rattle.{im_asks.specs.Windows.IsDue, im_text.specs.declared.Lines.Lines, im_text.specs.declared.Waited.Waited}
+use Rattle.im_laws.proofs.AcceptLemmas.{unaccepted-leaves}
 use Rattle.im_laws.proofs.{MemoryLemmas.after-memory, RunLemmas.after-append, Tests.true_or_false}
+use Rattle.{im_disk.specs.declared.Disk.Ghosts, im_asks.specs.Windows.IsDue}
 use Rattle.im_session.specs.Kept.{IsFresh, Kept, SessionStart, SessionState}
 use Rattle.im_session.specs.Serving.{CommandRefused, CommandServed}
 use Rattle.im_script.specs.{declared.Said.Said, Places.action_op, Script.Draft, Script.lines_of}
-use Rattle.im_text.proofs.PrintingLemmas.{prints_begins, prints_none, replies_more, take-all, take-prefix, true_false}
-use Rattle.im_text.proofs.PrintingLemmas.{waits_more}
-use Rattle.im_text.specs.Printing.{Begins, IsLast, nows, Prints, PrintsMore, PrintsNows, PrintsOn, replies, reply_line}
-use Rattle.im_text.specs.Printing.{told_line, waits, waits_by, waits_if, who_of}
+use Rattle.im_text.proofs.PrintingLemmas.{take-all, take-prefix, true_false}
+use Rattle.im_text.proofs.SaidLemmas.{prints_begins, prints_none, replies_more, waits_more}
+use Rattle.im_text.specs.declared.{Lines.Lines, OutputLine.OutputLine, Waited.Waited}
+use Rattle.im_text.specs.Said.{IsLast, nows, Output, Prints, PrintsMore, PrintsNows, PrintsOn, replied, replies}
+use Rattle.im_text.specs.Said.{reply_line, SaysSome, SaysWhole, waits, waits_by, waits_if, who_of}
 use Rattle.im_serial.proofs.AskedLemmas.{due_more, named_asked, named_confirmed, named_first, request_is, stands_asked}
 use Rattle.im_serial.proofs.AskedLemmas.{stands_confirmed, stands_first, stands_here, stands_last, wanted_line}
 use Rattle.im_serial.proofs.NotedLemmas.{known_asked, noted_asked, noted_confirmed, noted_known, noted_same}
@@ -106,7 +107,8 @@ record Doubted {D : Type 0} (start : SessionStart D) (t : SessionState D) (scrip
 
 module _ {D : Type 0} (start : SessionStart D) where
   -- what is known, by other words for what was put
-  serving_with : (t : SessionState D) (s : Standing) (text : List ℕ) (n : Notes) (put : List Command) → t.put ≡ put
+  serving_with : (t : SessionState D) (s : Standing) (text : List OutputLine) (n : Notes) (put : List Command)
+      → t.put ≡ put
       → t.start ≡ start → t.engine.failed ≡ false → t.doubt ≡ [] → t.engine.memory ≡ after start.memory put
       → text ≡ replies start.memory put → AreWaited s.script n.waited (waits start.memory put)
       → HasReached start.memory s put → HasNamed start.memory s put
@@ -131,7 +133,7 @@ module _ {D : Type 0} (start : SessionStart D) where
 
   -- a command is refused: the script leads to what was put with the command, and without it
   pub refused_over : (old new : SessionState D) (c : Command) → CommandRefused old c new
-      → (s : Standing) (text : List ℕ) (n : Notes) → IsServing start old s text n
+      → (s : Standing) (text : List OutputLine) (n : Notes) → IsServing start old s text n
       → (last : List Wanted) × LeadsIf start.memory s.script (old.put ++ c ∷ []) last
       → AreDue start.memory (old.put ++ c ∷ []) → IsOver start new s.script text n.waited
   refused_over old new c it s text n was one due = record {
@@ -173,15 +175,15 @@ module _ {D : Type 0} (start : SessionStart D) where
           it.doubt
 
   -- the commands that were put lead to where it stands
-  pub leads_here : (t : SessionState D) (s : Standing) (text : List ℕ) (n : Notes) → IsServing start t s text n
+  pub leads_here : (t : SessionState D) (s : Standing) (text : List OutputLine) (n : Notes) → IsServing start t s text n
       → LeadsIf start.memory s.script (t.put ++ t.doubt) s.left
   leads_here t s text n was = subst (λ (l : List Command). LeadsIf start.memory s.script l s.left)
       (sym (append-nil t.put) ∙ ap (λ (l : List Command). t.put ++ l) (sym was.sure))
       (stands_here start.memory s t.put was.reached)
 
   -- the confirmations that were put are due
-  pub due_here : (t : SessionState D) (s : Standing) (text : List ℕ) (n : Notes) → IsServing start t s text n
-      → AreDue start.memory (t.put ++ t.doubt)
+  pub due_here : (t : SessionState D) (s : Standing) (text : List OutputLine) (n : Notes)
+      → IsServing start t s text n → AreDue start.memory (t.put ++ t.doubt)
   due_here t s text n was = subst (AreDue start.memory)
       (sym (append-nil t.put) ∙ ap (λ (l : List Command). t.put ++ l) (sym was.sure)) was.due
 
@@ -193,7 +195,7 @@ module _ {D : Type 0} (start : SessionStart D) where
       (subst (λ (x : Contents). IsDue x element upto) memory is, tt)
 
   -- it is ended where it goes on
-  pub over_here : (t : SessionState D) (s : Standing) (text : List ℕ) (n : Notes) → IsServing start t s text n
+  pub over_here : (t : SessionState D) (s : Standing) (text : List OutputLine) (n : Notes) → IsServing start t s text n
       → IsOver start t s.script text n.waited
   over_here t s text n was = record {
     start_is = was.start_is;
@@ -212,7 +214,7 @@ module _ {D : Type 0} (start : SessionStart D) where
 
   -- a confirmation is refused
   pub confirm_over : (old new : SessionState D) (element upto : ℕ) → IsDue old.engine.memory element upto
-      → CommandRefused old (Confirm element upto) new → (s : Standing) (text : List ℕ) (n : Notes)
+      → CommandRefused old (Confirm element upto) new → (s : Standing) (text : List OutputLine) (n : Notes)
       → IsServing start old s text n
       → IsOver start new s.script text n.waited
   confirm_over old new element upto is it s text n was = refused_over old new (Confirm element upto) it s text n was (
@@ -223,7 +225,7 @@ module _ {D : Type 0} (start : SessionStart D) where
 
   -- a confirmation is served: the entries that were learnt are dropped
   module _ (old new : SessionState D) (element upto : ℕ) (is_due : IsDue old.engine.memory element upto)
-      (o : Outcome) (it : CommandServed old (Confirm element upto) o new) (s : Standing) (text : List ℕ)
+      (o : Outcome) (it : CommandServed old (Confirm element upto) o new) (s : Standing) (text : List OutputLine)
       (waited : List Waited) (marks : List Mark) (was : IsServing start old s text (learnt waited marks element upto)) where
     abbrev confirm : Command
     confirm = Confirm element upto
@@ -295,7 +297,7 @@ module _ {D : Type 0} (start : SessionStart D) where
       → ((m : Contents) (put : List Command) → t.engine.memory ≡ after m put
       → IsMemory (length m.cells) (length m.windows) m → bounds (after m put).windows element ≡ Ok (base, next)
       → AreNoted m put 0 0 marks waited → AreNoted m put element upto later learned)
-      → (s : Standing) (text : List ℕ) → IsServing start t s text (notes waited marks)
+      → (s : Standing) (text : List OutputLine) → IsServing start t s text (notes waited marks)
       → IsServing start t s text (learnt learned later element upto)
   learns t element upto base next waited learned marks later names found learn s text was = record {
     start_is = was.start_is;
@@ -321,7 +323,7 @@ module _ {D : Type 0} (start : SessionStart D) where
   module _ (old new : SessionState D) (r : Request) (base : ℕ)
       (next : bounds old.engine.memory.windows r.element ≡ Ok (base, r.number)) (w : Wanted) (bases : List ℕ)
       (element : w.element ≡ r.element) (op : action_op bases w.action ≡ Some r.op) (script : Option Course)
-      (rest : List Wanted) (text : List ℕ) (waited : List Waited) (marks : List Mark)
+      (rest : List Wanted) (text : List OutputLine) (waited : List Waited) (marks : List Mark)
       (was : IsServing start old (standing script bases (w ∷ rest)) text (notes waited marks)) where
     abbrev c : Command
     c = Asks r
@@ -347,8 +349,8 @@ module _ {D : Type 0} (start : SessionStart D) where
         refused_over old new c it (standing script bases (w ∷ rest)) text (notes waited marks) was leads due
 
     module _ (entry : Entry) (it : CommandServed old c (Tells entry) new) where
-      abbrev line : List ℕ
-      line = told_line r.element r.number entry
+      abbrev line : List OutputLine
+      line = replied r.element r.number entry
 
       abbrev who : List Waiter
       who = waits_if (asker r) entry
@@ -377,7 +379,7 @@ module _ {D : Type 0} (start : SessionStart D) where
           (AreKnown start.memory (old.put ++ c ∷ []) waited)
           (λ rec. before_known start.memory old.put r base entry waited marks next_is answer rec) was.recorded
 
-      over : (told others : List Command) → old.put ++ c ∷ [] ≡ told ++ others → (said : List ℕ)
+      over : (told others : List Command) → old.put ++ c ∷ [] ≡ told ++ others → (said : List OutputLine)
           → said ≡ replies start.memory told → (many : ℕ) (noted : List Waited)
           → AreWaited script noted (take many (waits start.memory told))
           → IfSome script (λ _. AreKnown start.memory (old.put ++ c ∷ []) noted) → IsOver start new script said noted
@@ -456,7 +458,8 @@ module _ {D : Type 0} (start : SessionStart D) where
 -- entries are learnt, and then dropped
 pub drops_then : {D E : Type 0} (r : Result Outcome E) (element upto : ℕ) (old new : SessionState D)
     (waited learned : List Waited) (marks later : List Mark) → IsDue old.engine.memory element upto
-    → ((start : SessionStart D) (s : Standing) (text : List ℕ) → IsServing start old s text (notes waited marks)
+    → ((start : SessionStart D) (s : Standing) (text : List OutputLine)
+    → IsServing start old s text (notes waited marks)
     → IsServing start old s text (learnt learned later element upto))
     → IfOk r (λ o. CommandServed old (Confirm element upto) o new)
     → OnErr r (CommandRefused old (Confirm element upto) new) → MakesPlace r old waited marks new learned later
@@ -474,7 +477,7 @@ unprepared T e t waited marks = λ start s text was. over_here start t s text (n
 -- ---- servers, one after another
 
 module _ {D : Type 0} where
-  going_ended : (start : SessionStart D) (held : Option (List ℕ)) (s : Standing) (t : ScriptServer D)
+  going_ended : (start : SessionStart D) (held : Output) (s : Standing) (t : ScriptServer D)
       → GoingAt start held s t → EndedAt start held s.script t
   going_ended start held s t going = record {
     text = going.text;
@@ -580,7 +583,8 @@ module _ {D : Type 0} where
   -- a place is made for a request, and nothing is printed
   pub prepared_goes : (old new : SessionState D) (waited learned : List Waited) (marks later : List Mark) (held : Option
       (List ℕ)) (before last : Lines)
-      → ((start : SessionStart D) (s : Standing) (text : List ℕ) → IsServing start old s text (notes waited marks)
+      → ((start : SessionStart D) (s : Standing) (text : List OutputLine)
+      → IsServing start old s text (notes waited marks)
       → IsServing start new s text (notes learned later)) → last ≡ before
       → (wanted : List Wanted) (bases : List ℕ) → Passes wanted bases wanted bases (server_of old held before waited
       marks) (server_of new held last learned later)
@@ -620,11 +624,11 @@ module _ {D : Type 0} where
         printed = prints from going.text going.printed;
       }
 
-      module _ (prints : PrintsMore held before later last (told_line r.element r.number entry)) where
+      module _ (prints : PrintsMore held before later last (replied r.element r.number entry)) where
         -- it isn't noted
         pub unnoted_ends : (kept : List Mark) → EndsAt (w ∷ []) bases was (server_of new later last waited kept)
         unnoted_ends kept = λ start from script rest going. record {
-          text = going.text ++ told_line r.element r.number entry;
+          text = going.text ++ replied r.element r.number entry;
           over = ask_unnoted start old new r base next w bases element op script rest going.text waited marks
               going.serving entry it;
           printed = prints from going.text going.printed;
@@ -637,7 +641,7 @@ module _ {D : Type 0} where
           pub asked_passes : (added : List ℕ) → bases_by w (Ok (Tells entry)) ≡ Some added
               → Passes (w ∷ []) bases [] (bases ++ added) was (server_of new later last noted marked)
           asked_passes added made = λ start from script rest going. record {
-            text = going.text ++ told_line r.element r.number entry;
+            text = going.text ++ replied r.element r.number entry;
             serving = ask_serving start old new r base next w bases element op script rest going.text waited marks
                 going.serving entry it noted marked pushed others mark names added made;
             printed = prints from going.text going.printed;
@@ -645,7 +649,7 @@ module _ {D : Type 0} where
 
           pub told_ends : EndsAt (w ∷ []) bases was (server_of new later last noted marked)
           told_ends = λ start from script rest going. record {
-            text = going.text ++ told_line r.element r.number entry;
+            text = going.text ++ replied r.element r.number entry;
             over = ask_told start old new r base next w bases element op script rest going.text waited marks
                 going.serving entry it noted marked pushed others mark names;
             printed = prints from going.text going.printed;
@@ -660,7 +664,7 @@ module _ {D : Type 0} where
     abbrev left : List Wanted
     left = option_map_or (λ rest. wanted_in next (lines_of rest.now)) behind []
 
-    there : (start : SessionStart D) (held : Option (List ℕ)) (script : Option Course) (rest : List Wanted) →
+    there : (start : SessionStart D) (held : Output) (script : Option Course) (rest : List Wanted) →
         GoingAt start held (standing script first (all ++ rest)) old
         → GoingAt start held (standing script before (wanted_by said ++ (left ++ rest))) mid
     there start held script rest going =
@@ -696,12 +700,13 @@ module _ {D : Type 0} where
   -- ---- the beginning and the end
 
   -- nothing of a script was put yet
-  pub going_from : (c : Course) (session : SessionState D) (held : Option (List ℕ)) (lines : Lines) (waited : List Waited)
+  pub going_from : (c : Course) (session : SessionState D) (held : Output) (lines : Lines) (waited : List Waited)
       (marks : List Mark) → IsFresh session → session.engine.failed ≡ false
       → IsRecorded session.start.memory [] (notes waited marks) → map who_of waited ≡ c.earlier
-      → lines.pending.items ≡ []
-      → GoingAt session.start held (standing (Some c) c.first (c.wanted ++ [])) (server_of session held lines waited marks)
-  going_from c session held lines waited marks fresh works recorded names pending =
+      → lines.style ≡ held.style → lines.batch.pending.items ≡ []
+      → GoingAt session.start held (standing (Some c) c.first (c.wanted ++ []))
+      (server_of session held.held lines waited marks)
+  going_from c session held lines waited marks fresh works recorded names styled pending =
       let m = session.start.memory in record {
         text = [];
         serving = serving_with session.start session (standing (Some c) c.first (c.wanted ++ [])) []
@@ -713,26 +718,27 @@ module _ {D : Type 0} where
             (subst (λ (l : List Wanted). HasNamed m (standing (Some c) c.first l) []) (sym (append-nil c.wanted))
             (named_first m c))
             tt recorded;
-        printed = prints_none held lines pending;
+        printed = prints_none held lines styled pending;
       }
 
   -- a server of this session that has served nothing of a script yet
-  pub going_first : (script : List Wanted) (session same : SessionState D) (held : Option (List ℕ)) (before lines :
+  pub going_first : (script : List Wanted) (session same : SessionState D) (held : Output) (before lines :
       Lines) (waited : List Waited) (marks : List Mark) (bases : List ℕ) → IsFresh session
       → session.engine.failed ≡ false
       → (let m = session.engine.memory in IsMemory (length m.cells) (length m.windows) m)
-      → before.pending.items ≡ [] → waited ≡ [] → bases ≡ [] → same ≡ session → lines ≡ before
-      → GoingAt session.start held (standing (Some (whole_course script)) bases (script ++ [])) (server_of same held
-      lines waited marks)
-  going_first script session same held before lines waited marks bases fresh works memory pending none no_bases sessions
-      line =
+      → before.style ≡ held.style → before.batch.pending.items ≡ [] → waited ≡ [] → bases ≡ [] → same ≡ session
+      → lines ≡ before → GoingAt session.start held (standing (Some (whole_course script)) bases (script ++ []))
+      (server_of same held.held lines waited marks)
+  going_first script session same held before lines waited marks bases fresh works memory styled pending none no_bases
+      sessions line =
       subst (λ (b : List ℕ). GoingAt session.start held (standing (Some (whole_course script)) b (script ++ []))
-      (server_of same held lines waited marks)) (sym no_bases)
+      (server_of same held.held lines waited marks)) (sym no_bases)
       (as_of (λ (t : SessionState D) (l : Lines). GoingAt session.start held (standing (Some (whole_course script)) []
-      (script ++ [])) (server_of t held l waited marks)) session same before lines sessions line
+      (script ++ [])) (server_of t held.held l waited marks)) session same before lines sessions line
       (subst (λ (l : List Waited). GoingAt session.start held (standing (Some (whole_course script)) [] (script ++ []))
-      (server_of session held before l marks)) (sym none) (going_from (whole_course script) session held before [] marks
-      fresh works (record { memory = memory_at; noted = λ at w is. absurd (no_item w is) }) refl pending)))
+      (server_of session held.held before l marks)) (sym none) (going_from (whole_course script) session held before
+      [] marks
+      fresh works (record { memory = memory_at; noted = λ at w is. absurd (no_item w is) }) refl styled pending)))
     where
       no_item : (w : Waited) → ◌≡◌ {A = Option Waited} None (Some w) → ⊥
       no_item w is = cc
@@ -747,12 +753,12 @@ module _ {D : Type 0} where
   ends_served (Err e) wanted before last old new it ok = absurd (true_false false ok refl)
 
   -- what was told, by the lines that were printed
-  told_by : (start : SessionStart D) (t : SessionState D) (script : List Wanted) (text : List ℕ) (noted waited
-      : List Waited) (status : ℕ) (was is : Option (List ℕ)) (many : ℕ) (last : List ℕ)
+  told_by : (start : SessionStart D) (t : SessionState D) (script : List Wanted) (text : List OutputLine) (noted waited
+      : List Waited) (status : ℕ) (was : Output) (is : Option (List ℕ)) (many : ℕ) (last : List OutputLine)
       → IsOver start t (Some (whole_course script)) text noted → map who_of waited ≡ map who_of noted
-      → AreLast start.memory t.put waited → IsLast last → Begins was is ((text ++ nows waited many) ++ last)
+      → AreLast start.memory t.put waited → IsLast last → SaysSome was is ((text ++ nows waited many) ++ last)
       → (status ≡ 0 → (map who_of waited ≡ waits start.memory t.put)
-      × Appends was is (replies start.memory t.put ++ nows waited (length waited)))
+      × SaysWhole was is (replies start.memory t.put ++ nows waited (length waited)))
       → Told start.memory t.put was is status
   told_by start t script text noted waited status was is many last it same entries last_is begins whole = record {
     told = it.told;
@@ -764,12 +770,13 @@ module _ {D : Type 0} where
     many = many;
     last = last;
     last_is = last_is;
-    begins = subst (λ (l : List ℕ). Begins was is ((l ++ nows waited many) ++ last)) it.lines begins;
+    begins = subst (λ (l : List OutputLine). SaysSome was is ((l ++ nows waited many) ++ last)) it.lines begins;
     whole = whole;
   }
 
   pub closed : (disk : Ghosts D) (script : List ℕ) (bases : List ℕ) (t : SessionState D) (end : D) (status : ℕ)
-      (held mid is was : Option (List ℕ)) (before later final : Lines) (noted waited : List Waited) (marks : List Mark)
+      (held mid is : Option (List ℕ)) (was : Output) (before later final : Lines) (noted waited : List Waited)
+      (marks : List Mark)
       → Kept disk t → end ≡ t.engine.disk → (status ≡ 0 → t.engine.failed ≡ false)
       → EndedAt t.start was (Some (whole_course (wanted_of script))) (server_of t held before noted marks)
       → (status ≡ 0 → GoingAt t.start was (standing (Some (whole_course (wanted_of script))) bases [])
@@ -778,16 +785,17 @@ module _ {D : Type 0} where
       → AreKnown m put noted → AreLast m put waited)
       → PrintsNows held before mid later waited
       → (status ≡ 0 → PrintsMore held before mid later (nows waited (length waited)))
-      → ((from : Option (List ℕ)) (text : List ℕ) → Prints from mid later text
-      → (last : List ℕ) × (IsLast last × Prints from is final (text ++ last)))
-      → (status ≡ 0 → (from : Option (List ℕ)) (text : List ℕ) → Prints from mid later text → Appends from is text)
+      → ((from : Output) (text : List OutputLine) → Prints from mid later text
+      → (last : List OutputLine) × (IsLast last × Prints from is final (text ++ last)))
+      → (status ≡ 0 → (from : Output) (text : List OutputLine) → Prints from mid later text → SaysWhole from is text)
       → ServedScript disk script t.start.disk end was is status
   closed disk script bases t end status held mid is was before later final noted waited marks kept at_end works ended
       going same learn some all last whole = by_status status refl
     where
-      printed : (text : List ℕ) → IsOver t.start t (Some (whole_course (wanted_of script))) text noted
+      printed : (text : List OutputLine) → IsOver t.start t (Some (whole_course (wanted_of script))) text noted
           → Prints was held before text → (status ≡ 0 → (map who_of waited ≡ waits t.start.memory t.put)
-          × Appends was is (replies t.start.memory t.put ++ nows waited (length waited))) → Told t.start.memory t.put was is status
+          × SaysWhole was is (replies t.start.memory t.put ++ nows waited (length waited)))
+          → Told t.start.memory t.put was is status
       printed text over prints all_of =
           let end = last was (text ++ nows waited some.0) (some.2 was text prints) in
           told_by t.start t (wanted_of script) text noted waited status was is some.0 end.0 over same
@@ -814,7 +822,7 @@ module _ {D : Type 0} where
             works = works;
             printed = printed g.text (over_here t.start t s g.text (notes noted marks) it) g.printed (λ z. (
               same ∙ it.names,
-              subst (λ (l : List ℕ). Appends was is (l ++ nows waited (length waited))) it.lines
+              subst (λ (l : List OutputLine). SaysWhole was is (l ++ nows waited (length waited))) it.lines
                   (whole none was (g.text ++ nows waited (length waited)) (all none was g.text g.printed)),
             ));
           }

@@ -3,7 +3,7 @@ use Rattle.std.specs.Prelude.{◌≡◌, ℕ, ◌+◌, ◌*◌, ◌%◌, ◌<◌
 use Rattle.std.specs.Prelude.{slice_get, MatchResult, Some, Option, Result, option_map}
 use Rattle.im_types.specs.Types.{Entry, Waiter, Kept, Waiting, Answered, Command, WINDOW, Contents, kept_for, IsMemory}
 use Rattle.im_types.specs.Types.{after, last_entry}
-use Rattle.{im_laws.specs.Windows.IsForgotten, im_text.specs.declared.Waited.Waited, im_text.specs.Printing.who_of}
+use Rattle.{im_laws.specs.Windows.IsForgotten, im_text.specs.declared.Waited.Waited, im_text.specs.Said.who_of}
 use Rattle.im_serial.specs.declared.waits.Mark.{Mark, TheVariants.Earlier, TheVariants.Here, TheVariants.Nobody}
 
 -- ---- at last

@@ -1,25 +1,26 @@
 -- A script that is served once: what a memory has of its requests, and which of them are new. (Own.)
 use Rattle.std.specs.Prelude.{◌≡◌, ℕ, ◌+◌, ◌<◌, ◌≤◌, Bool, true, false, ◌⊎◌, List, [], ◌∷◌, ◌++◌, map, length, take}
-use Rattle.std.specs.Prelude.{if◌then◌else◌, OnOk, slice_get, MatchResult, Some, codes, decimal, Option, Result}
-use Rattle.std.specs.{Io.KnownBytes.Appends, Option.option_map_or}
+use Rattle.std.specs.Prelude.{if◌then◌else◌, OnOk, slice_get, MatchResult, Some, Option, Result}
+use Rattle.std.specs.Option.{option_map_or}
 use Rattle.im_types.specs.Types.{Entry, Waiter, Answered, Base, Command, Limits, Contents, kept_for, IsMemory}
-use Rattle.{im_disk.specs.declared.Disk.Ghosts, im_disk.specs.Since.LeavesNow, im_session.specs.Carrying.LedBy}
+use Rattle.im_disk.specs.{declared.Disk.Ghosts, Since.LeavesNow}
+use Rattle.{im_session.specs.Carrying.LedBy, im_text.specs.declared.Lines.Lines, im_text.specs.declared.Waited.Waited}
 use Rattle.im_session.specs.Kept.{IsFresh, Kept as SessionKept, SessionStart, SessionState}
-use Rattle.im_text.specs.{declared.Lines.Lines, declared.Waited.Waited, Texts.line_feed}
-use Rattle.im_text.specs.Printing.{Begins, IsLast, nows, Prints, PrintsMore, PrintsOn, replies, told_line, waits}
-use Rattle.im_text.specs.Printing.{waits_if, who_of}
+use Rattle.im_text.specs.declared.OutputLine.{OutputLine, TheVariants.Done as IsDone}
+use Rattle.im_text.specs.Said.{IsLast, nows, Output, Prints, PrintsMore, PrintsOn, replied, replies, SaysSome}
+use Rattle.im_text.specs.Said.{SaysWhole, waits, waits_if, who_of}
 use Rattle.im_serial.specs.Asked.{AreDue, Course, IsAsked, standing, Wanted, wanted_of}
 use Rattle.im_serial.specs.{Begun.HasComeTo, Begun.HasGoneOn, declared.waits.Mark.Mark, Fitting.FitsScript}
 use Rattle.im_serial.specs.declared.meeting.Met.{Met, TheVariants.Done, TheVariants.Kept, TheVariants.New}
 use Rattle.im_serial.specs.Had.{bases_had, has_block, has_next, left_of, met, news, next_had, numbers_had, who_next}
 use Rattle.im_serial.specs.Noted.{AreKnown, AreLast, IsMarked, noted_if, notes}
-use Rattle.im_serial.specs.Serving.{IsOver, IsServing, NotOpened, ScriptServer}
+use Rattle.im_serial.specs.Serving.{IsOver, IsServing, NotOpened, output_of, ScriptServer}
 
 -- ---- what is printed of it
 
 -- K.N done: a request that was confirmed
-abbrev pub done_line : Waiter → List ℕ
-done_line who = decimal who.element ++ codes "." ++ decimal who.number ++ codes " done" ++ line_feed
+abbrev pub done_line : Waiter → List OutputLine
+done_line who = IsDone who.element who.number ∷ []
 
 -- what an image has of this request: its entry, or that it was confirmed
 abbrev pub met_of : Contents → Waiter → Met
@@ -51,15 +52,15 @@ MakesBlocks m many wanted later left = (rest : List Wanted) → AreMade m later 
     ++ rest)
 
 -- the line of a request that the memory has: what is kept for it, or that it was confirmed
-abbrev pub past_line : Contents → Waiter → List ℕ
-past_line m who = option_map_or (λ k. told_line who.element who.number k.entry) (kept_for m.windows who) (done_line who)
+abbrev pub past_line : Contents → Waiter → List OutputLine
+past_line m who = option_map_or (λ k. replied who.element who.number k.entry) (kept_for m.windows who) (done_line who)
 
 -- it waits
 abbrev pub waits_of : Contents → Waiter → List Waiter
 waits_of m who = option_map_or (λ k. waits_if who k.entry) (kept_for m.windows who) []
 
 -- the line of a request, if the memory has it
-abbrev pub line_had : Contents → List ℕ → Wanted → List ℕ
+abbrev pub line_had : Contents → List ℕ → Wanted → List OutputLine
 line_had m many w = if has_next many w.element then past_line m (who_next m many w.element) else []
 
 -- it waits, if the memory has it
@@ -67,7 +68,7 @@ abbrev pub wait_had : Contents → List ℕ → Wanted → List Waiter
 wait_had m many w = if has_next many w.element then waits_of m (who_next m many w.element) else []
 
 -- the lines of those of the requests that it has
-abbrev pub lines_had : Contents → List ℕ → List Wanted → List ℕ
+abbrev pub lines_had : Contents → List ℕ → List Wanted → List OutputLine
 lines_had m many [] = []
 lines_had m many (w ∷ wanted) = line_had m many w ++ lines_had m (met many w.element) wanted
 
@@ -89,7 +90,7 @@ IsPrefix {A} part all = (rest : List A) × (all ≡ part ++ rest)
 -- What is known when the first requests of a script were met, and these are left: the lines of those that the memory
 -- has were made, and those of them that wait are noted.
 pub record HasMet (m : Contents) (script : List Wanted) (many : List ℕ) (left : List Wanted)
-    (text : List ℕ) (waited : List Waited) (marks : List Mark) : Type 0 where
+    (text : List OutputLine) (waited : List Waited) (marks : List Mark) : Type 0 where
   pub memory : IsMemory (length m.cells) (length m.windows) m
   pub lines : lines_had m (numbers_had m) script ≡ text ++ lines_had m many left
   pub names : waits_had m (numbers_had m) script ≡ map who_of waited ++ waits_had m many left
@@ -98,30 +99,31 @@ pub record HasMet (m : Contents) (script : List Wanted) (many : List ℕ) (left 
       → w.number + left_of many w.element < next_had m w.element
 
 -- what is known when it was ended in the middle
-pub record HasBroken (m : Contents) (script : List Wanted) (text : List ℕ) (waited : List Waited) : Type 0 where
-  pub lines : IsPrefix text (lines_had m (numbers_had m) script)
-  pub names : IsPrefix (map who_of waited) (waits_had m (numbers_had m) script)
-  pub known : AreKnown m [] waited
+pub record HasBroken (m : Contents) (script : List Wanted) (text : List OutputLine) (waited : List Waited) : Type 0
+  where
+    pub lines : IsPrefix text (lines_had m (numbers_had m) script)
+    pub names : IsPrefix (map who_of waited) (waits_had m (numbers_had m) script)
+    pub known : AreKnown m [] waited
 
 module _ {D : Type 0} where
   -- these requests are left, and what was made of the others was printed
-  abbrev pub MetAt : List Wanted → List ℕ → List Wanted → Option (List ℕ) → ScriptServer D → Type 0
-  MetAt script many left held t = (text : List ℕ)
+  abbrev pub MetAt : List Wanted → List ℕ → List Wanted → Output → ScriptServer D → Type 0
+  MetAt script many left held t = (text : List OutputLine)
       × (HasMet t.session.engine.memory script many left text t.waited t.marks × Prints held t.held t.lines text)
 
   -- it was ended, and what was made of them was printed
-  abbrev pub BrokenAt : List Wanted → Option (List ℕ) → ScriptServer D → Type 0
-  BrokenAt script held t = (text : List ℕ)
+  abbrev pub BrokenAt : List Wanted → Output → ScriptServer D → Type 0
+  BrokenAt script held t = (text : List OutputLine)
       × (HasBroken t.session.engine.memory script text t.waited × Prints held t.held t.lines text)
 
   -- from these requests it comes to those
   abbrev pub Meets : List ℕ → List Wanted → List ℕ → List Wanted → ScriptServer D → ScriptServer D → Type 0
-  Meets many wanted later left old new = (script rest : List Wanted) (held : Option (List ℕ))
+  Meets many wanted later left old new = (script rest : List Wanted) (held : Output)
       → MetAt script many (wanted ++ rest) held old → MetAt script later (left ++ rest) held new
 
   -- from these requests it is ended
   abbrev pub Breaks : List ℕ → List Wanted → ScriptServer D → ScriptServer D → Type 0
-  Breaks many wanted old new = (script rest : List Wanted) (held : Option (List ℕ))
+  Breaks many wanted old new = (script rest : List Wanted) (held : Output)
       → MetAt script many (wanted ++ rest) held old → BrokenAt script held new
 
   -- these requests were met, if the call succeeded
@@ -142,8 +144,8 @@ pub record HasShown {D : Type 0} (script : List Wanted) (bases known : List ℕ)
   pub meets : Meets (numbers_had old.session.engine.memory) script later [] old mid
   pub made : HasMade old.session.engine.memory script
   pub names : known ≡ bases ++ bases_had (numbers_had old.session.engine.memory) 0 script
-  pub pending : mid.lines.pending.items ≡ []
-  pub works : mid.lines.broken ≡ false
+  pub pending : mid.lines.batch.pending.items ≡ []
+  pub works : mid.lines.batch.broken ≡ false
 
 -- What a memory has of a script was shown, or at a refusal it was ended there.
 abbrev pub ShowsOrBreaks : {D T E : Type 0} → Result T E → List Wanted → List ℕ → List ℕ → ScriptServer D
@@ -157,8 +159,8 @@ FitsOrStays result script old new = MatchResult result (λ _. FitsScript old.ses
     (λ _. FitsScript old.session.engine.memory script ⊎ (new ≡ old))
 
 -- The line of a request that a memory has was printed. At a refusal it may be printed.
-abbrev pub TellsPast : {T E : Type 0} → Result T E → Option (List ℕ) → Lines → Option (List ℕ) → Lines → List ℕ
-    → Type 0
+abbrev pub TellsPast : {T E : Type 0} → Result T E → Option (List ℕ) → Lines → Option (List ℕ) → Lines
+    → List OutputLine → Type 0
 TellsPast result was before is after line = MatchResult result (λ _. PrintsMore was before is after line)
     (λ _. PrintsOn was before is after ⊎ PrintsMore was before is after line)
 
@@ -183,7 +185,7 @@ course_of m script = record {
 }
 
 -- it is this course, as far as it was printed which requests wait, and these lines
-pub record IsCourse (m : Contents) (script : List Wanted) (c : Course) (had : List ℕ) : Type 0 where
+pub record IsCourse (m : Contents) (script : List Wanted) (c : Course) (had : List OutputLine) : Type 0 where
   pub first : c.first ≡ bases_had (numbers_had m) 0 script
   pub wanted : c.wanted ≡ new_of m script
   pub had_is : IsPrefix had (lines_had m (numbers_had m) script)
@@ -196,34 +198,34 @@ pub record HasServedNothing {D : Type 0} (t : ScriptServer D) (bases : List ℕ)
   pub memory : let m = t.session.engine.memory in IsMemory (length m.cells) (length m.windows) m
   pub waited : t.waited ≡ []
   pub bases_is : bases ≡ []
-  pub pending : t.lines.pending.items ≡ []
+  pub pending : t.lines.batch.pending.items ≡ []
 
 -- Each block of the setup that a memory had was made, or no command was put. What it had fits the script, or nothing
 -- was put, printed or noted.
-pub record IsMadeOnce {D : Type 0} (m : Contents) (t : SessionState D) (script : List Wanted) (had : List ℕ)
-    (waited : List Waited) : Type 0 where
+pub record IsMadeOnce {D : Type 0} (m : Contents) (t : SessionState D) (script : List Wanted)
+    (had : List OutputLine) (waited : List Waited) : Type 0 where
   pub made : HasMade m script ⊎ (t.put ++ t.doubt ≡ [])
   pub fit : FitsScript m script ⊎ ((t.put ++ t.doubt ≡ []) × ((had ≡ []) × (waited ≡ [])))
 
 module _ {D : Type 0} where
   -- the script was ended, and what was told of it was printed
-  pub record EndedOnce (start : SessionStart D) (script : List Wanted) (was : Option (List ℕ)) (t : ScriptServer D)
+  pub record EndedOnce (start : SessionStart D) (script : List Wanted) (was : Output) (t : ScriptServer D)
       : Type 0 where
     pub course : Course
-    pub had : List ℕ
+    pub had : List OutputLine
     pub course_is : IsCourse start.memory script course had
-    pub text : List ℕ
+    pub text : List OutputLine
     pub over : IsOver start t.session (Some course) text t.waited
     pub once : IsMadeOnce start.memory t.session script had t.waited
     pub printed : Prints was t.held t.lines (had ++ text)
 
   -- nothing is left of the script, and what was told of it was printed
-  pub record DoneOnce (start : SessionStart D) (script : List Wanted) (was : Option (List ℕ)) (t : ScriptServer D)
+  pub record DoneOnce (start : SessionStart D) (script : List Wanted) (was : Output) (t : ScriptServer D)
       : Type 0 where
     pub made : HasMade start.memory script
     pub fit : FitsScript start.memory script
     pub bases : List ℕ
-    pub text : List ℕ
+    pub text : List OutputLine
     pub serving : IsServing start t.session (standing (Some (course_of start.memory script)) bases []) text
         (notes t.waited t.marks)
     pub printed : Prints was t.held t.lines (lines_had start.memory (numbers_had start.memory) script ++ text)
@@ -232,7 +234,8 @@ module _ {D : Type 0} where
   abbrev pub HasServedOnce : {T E : Type 0} → List Wanted → List ℕ → Result T E → ScriptServer D → ScriptServer D
       → Type 0
   HasServedOnce script bases result old new = HasServedNothing old bases
-      → EndedOnce old.session.start script old.held new × OnOk result (DoneOnce old.session.start script old.held new)
+      → EndedOnce old.session.start script (output_of old) new
+      × OnOk result (DoneOnce old.session.start script (output_of old) new)
 
 -- The commands that were put are, confirmations aside, the first of these, in their order, each with its element's next
 -- number. The names stand for the blocks that the memory has and for those that were made.
@@ -243,9 +246,9 @@ IsAskedOnce m script put status = IsAsked m (bases_had (numbers_had m) 0 script)
 -- had of the script, as far as they were made; those of the first commands that were put; those of requests that had to
 -- wait, with their last entries; and that of a refusal. If what the memory had doesn't fit the script, no line but that
 -- of the refusal is printed.
-pub record ToldOnce (m : Contents) (script : List Wanted) (put : List Command) (was is : Option (List ℕ))
-    (status : ℕ) : Type 0 where
-  pub had : List ℕ
+pub record ToldOnce (m : Contents) (script : List Wanted) (put : List Command) (was : Output)
+    (is : Option (List ℕ)) (status : ℕ) : Type 0 where
+  pub had : List OutputLine
   pub had_is : IsPrefix had (lines_had m (numbers_had m) script)
   pub told : List Command
   pub others : List Command
@@ -257,20 +260,20 @@ pub record ToldOnce (m : Contents) (script : List Wanted) (put : List Command) (
   pub last_entries : AreLast m put waited
   pub fit : FitsScript m script ⊎ ((had ≡ []) × (waited ≡ []))
   pub many : ℕ
-  pub last : List ℕ
+  pub last : List OutputLine
   pub last_is : IsLast last
-  pub begins : Begins was is (had ++ replies m told ++ nows waited many ++ last)
+  pub begins : SaysSome was is (had ++ replies m told ++ nows waited many ++ last)
   pub whole : status ≡ 0 → (had ≡ lines_had m (numbers_had m) script)
       × (map who_of waited ≡ waits_had m (numbers_had m) script ++ waits m put)
-      × Appends was is (had ++ replies m put ++ nows waited (length waited))
+      × SaysWhole was is (had ++ replies m put ++ nows waited (length waited))
 
 -- The image was opened, and a session with it put these commands: with those in doubt, at most one, they are those
 -- requests of this script that its memory didn't have, in their order, and confirmations, each of a full window; with
 -- status 0 all of those, and no call of the disk failed. Nothing was put if a block of the setup that the memory had
 -- wasn't made, or what it had doesn't fit the script. If each file that was left meant what runs of the script come to,
 -- those runs and this one are one run from a new image on.
-pub record ServedOnce {D : Type 0} (disk : Ghosts D) (text : List ℕ) (old new : D) (was is : Option (List ℕ))
-    (status : ℕ) : Type 0 where
+pub record ServedOnce {D : Type 0} (disk : Ghosts D) (text : List ℕ) (old new : D) (was : Output)
+    (is : Option (List ℕ)) (status : ℕ) : Type 0 where
   pub session : SessionState D
   pub opened : session.start.disk ≡ old
   pub closed : new ≡ session.engine.disk
@@ -286,10 +289,10 @@ pub record ServedOnce {D : Type 0} (disk : Ghosts D) (text : List ℕ) (old new 
   pub printed : ToldOnce session.start.memory (wanted_of text) session.put was is status
 
 -- The script was served once on the image of a disk, or the image was not opened.
-abbrev pub SerialOnceOn : {D : Type 0} → Ghosts D → List ℕ → D → D → Option (List ℕ) → Option (List ℕ) → ℕ → Type 0
+abbrev pub SerialOnceOn : {D : Type 0} → Ghosts D → List ℕ → D → D → Output → Option (List ℕ) → ℕ → Type 0
 SerialOnceOn disk text old new was is status = NotOpened disk.now disk.past old new was is status
     ⊎ ServedOnce disk text old new was is status
 
 -- The same of a disk that is honest at the end.
-abbrev pub ServesOnceOn : {D : Type 0} → Ghosts D → List ℕ → D → D → Option (List ℕ) → Option (List ℕ) → ℕ → Type 0
+abbrev pub ServesOnceOn : {D : Type 0} → Ghosts D → List ℕ → D → D → Output → Option (List ℕ) → ℕ → Type 0
 ServesOnceOn disk text old new was is status = disk.honest new → SerialOnceOn disk text old new was is status

@@ -1,12 +1,13 @@
 -- What serving a script leaves on a disk. (Own.)
 use Rattle.std.specs.Prelude.{◌≡◌, ℕ, ◌≤◌, false, ◌⊎◌, List, [], ◌∷◌, ◌++◌, map, length, take, IfSome, IfOk, OnOk}
 use Rattle.std.specs.Prelude.{MatchResult, Some, Ok, Option, Result}
-use Rattle.std.specs.Io.KnownBytes.{Appends}
 use Rattle.im_types.specs.Types.{Entry, Op, Waiter, Command, Tells, Contents, IsMemory, after}
 use Rattle.im_disk.specs.{declared.Disk.Ghosts, Moment.Left, Moment.Moment, Since.Leaves}
 use Rattle.im_session.specs.Kept.{Kept, SessionStart, SessionState}
-use Rattle.{im_script.specs.Places.action_op, im_text.specs.declared.Lines.Lines, im_text.specs.declared.Waited.Waited}
-use Rattle.im_text.specs.Printing.{Begins, IsLast, nows, Prints, replies, waits, who_of}
+use Rattle.im_script.specs.Places.{action_op}
+use Rattle.im_text.specs.declared.{Lines.Lines, OutputLine.OutputLine, Waited.Waited}
+use Rattle.im_text.specs.Said.{IsLast, nows, Output, output, Prints, replies, SaysLast, SaysSome, SaysWhole, waits}
+use Rattle.im_text.specs.Said.{who_of}
 use Rattle.im_serial.specs.Asked.{AreDue, bases_by, Course, earlier_in, HasNamed, HasReached, IsAsked, LeadsIf}
 use Rattle.im_serial.specs.Asked.{Standing, standing, Wanted, wanted_of}
 use Rattle.im_serial.specs.declared.{server.Server.Server as Whole, waits.Mark.Mark}
@@ -27,7 +28,7 @@ module _ {D : Type 0} (start : SessionStart D) (t : SessionState D) where
   -- What is known while it goes on, by a session that began there. Nothing is in doubt, and the text has the lines of
   -- the commands that were put. Where the script stands after them, with its names; those that had to wait; that no
   -- window was confirmed early; and, if there is a script, that the notes of those that had to wait are right.
-  pub record IsServing (s : Standing) (text : List ℕ) (n : Notes) : Type 0 where
+  pub record IsServing (s : Standing) (text : List OutputLine) (n : Notes) : Type 0 where
     pub start_is : t.start ≡ start
     pub works : t.engine.failed ≡ false
     pub sure : t.doubt ≡ []
@@ -42,7 +43,7 @@ module _ {D : Type 0} (start : SessionStart D) (t : SessionState D) where
   -- What is known when it has ended, or goes on. The text has the lines of the first commands that were put. With those
   -- in doubt the commands are the first requests of the script, and confirmations. Of each request that had to wait, as
   -- far as one is noted, the last entry is noted, or it is kept.
-  pub record IsOver (script : Option Course) (text : List ℕ) (waited : List Waited) : Type 0 where
+  pub record IsOver (script : Option Course) (text : List OutputLine) (waited : List Waited) : Type 0 where
     pub start_is : t.start ≡ start
     pub told : List Command
     pub others : List Command
@@ -61,10 +62,10 @@ module _ {D : Type 0} (start : SessionStart D) (t : SessionState D) where
 abbrev pub MakesPlace : {D T E : Type 0} → Result T E → SessionState D → List Waited → List Mark → SessionState D
     → List Waited → List Mark → Type 0
 MakesPlace {D} result old waited marks new learned later = MatchResult result
-    (λ _. (start : SessionStart D) (s : Standing) (text : List ℕ) → IsServing start old s text (notes waited marks)
-    → IsServing start new s text (notes learned later))
-    (λ _. (start : SessionStart D) (s : Standing) (text : List ℕ) → IsServing start old s text (notes waited marks)
-    → IsOver start new s.script text learned)
+    (λ _. (start : SessionStart D) (s : Standing) (text : List OutputLine)
+    → IsServing start old s text (notes waited marks) → IsServing start new s text (notes learned later))
+    (λ _. (start : SessionStart D) (s : Standing) (text : List OutputLine)
+    → IsServing start old s text (notes waited marks) → IsOver start new s.script text learned)
 
 -- ---- by a script
 
@@ -83,36 +84,40 @@ abbrev pub server_of : {D : Type 0} → SessionState D → Option (List ℕ) →
 server_of session held lines waited marks =
     record { session = session; held = held; lines = lines; waited = waited; marks = marks }
 
+-- what its writer holds, and how its lines are said
+abbrev pub output_of : {D : Type 0} → ScriptServer D → Output
+output_of t = output t.lines.style t.held
+
 -- a server of the program, and what the writer holds
 abbrev pub seen_by : {D : Type 0} → Whole D → Option (List ℕ) → ScriptServer D
 seen_by t held = server_of t.session held t.lines t.waited.items t.places.marks.items
 
 module _ {D : Type 0} where
   -- the script stands there, and the lines of what was put were printed
-  pub record GoingAt (start : SessionStart D) (held : Option (List ℕ)) (s : Standing) (t : ScriptServer D) : Type 0
+  pub record GoingAt (start : SessionStart D) (held : Output) (s : Standing) (t : ScriptServer D) : Type 0
     where
-      pub text : List ℕ
+      pub text : List OutputLine
       pub serving : IsServing start t.session s text (notes t.waited t.marks)
       pub printed : Prints held t.held t.lines text
 
   -- the same, or it was ended
-  pub record EndedAt (start : SessionStart D) (held : Option (List ℕ)) (script : Option Course) (t : ScriptServer D)
+  pub record EndedAt (start : SessionStart D) (held : Output) (script : Option Course) (t : ScriptServer D)
       : Type 0 where
-    pub text : List ℕ
+    pub text : List OutputLine
     pub over : IsOver start t.session script text t.waited
     pub printed : Prints held t.held t.lines text
 
   -- the script goes on from these requests, with these bases, to those
   abbrev pub Passes : List Wanted → List ℕ → List Wanted → List ℕ → ScriptServer D → ScriptServer D → Type 0
   Passes wanted before later after old new =
-      (start : SessionStart D) (held : Option (List ℕ)) (script : Option Course) (rest : List Wanted)
+      (start : SessionStart D) (held : Output) (script : Option Course) (rest : List Wanted)
       → GoingAt start held (standing script before (wanted ++ rest)) old
       → GoingAt start held (standing script after (later ++ rest)) new
 
   -- it goes on from these requests or is ended, at the last of them at the latest
   abbrev pub EndsAt : List Wanted → List ℕ → ScriptServer D → ScriptServer D → Type 0
   EndsAt wanted before old new =
-      (start : SessionStart D) (held : Option (List ℕ)) (script : Option Course) (rest : List Wanted)
+      (start : SessionStart D) (held : Output) (script : Option Course) (rest : List Wanted)
       → GoingAt start held (standing script before (wanted ++ rest)) old → EndedAt start held script new
 
   -- An element asked for an operation, and was answered: a request of the script was served.
@@ -141,7 +146,7 @@ module _ {D : Type 0} where
 -- What was printed of the commands that were put, at the end: a prefix of this text, and all of it if the status is 0.
 -- The text is the lines of the first of them, then those of requests that had to wait, then that of a refusal. A
 -- request that had to wait is told with its last entry after all of them.
-pub record Told (m : Contents) (put : List Command) (was is : Option (List ℕ)) (status : ℕ) : Type 0 where
+pub record Told (m : Contents) (put : List Command) (was : Output) (is : Option (List ℕ)) (status : ℕ) : Type 0 where
   pub told : List Command
   pub others : List Command
   pub split : put ≡ told ++ others
@@ -149,17 +154,17 @@ pub record Told (m : Contents) (put : List Command) (was is : Option (List ℕ))
   pub waiting : (many : ℕ) × (map who_of waited ≡ take many (waits m told))
   pub last_entries : AreLast m put waited
   pub many : ℕ
-  pub last : List ℕ
+  pub last : List OutputLine
   pub last_is : IsLast last
-  pub begins : Begins was is (replies m told ++ nows waited many ++ last)
+  pub begins : SaysSome was is (replies m told ++ nows waited many ++ last)
   pub whole : status ≡ 0 → (map who_of waited ≡ waits m put)
-      × Appends was is (replies m put ++ nows waited (length waited))
+      × SaysWhole was is (replies m put ++ nows waited (length waited))
 
 -- The image was opened, and a session with it put these commands of a script. With those in doubt, at most one, they
 -- are the script's first requests, in their order, and confirmations, each of a full window; with status 0 all its
 -- requests, and no call of the disk failed.
-pub record ServedScript {D : Type 0} (disk : Ghosts D) (text : List ℕ) (old new : D) (was is : Option (List ℕ))
-    (status : ℕ) : Type 0 where
+pub record ServedScript {D : Type 0} (disk : Ghosts D) (text : List ℕ) (old new : D) (was : Output)
+    (is : Option (List ℕ)) (status : ℕ) : Type 0 where
   pub session : SessionState D
   pub opened : session.start.disk ≡ old
   pub closed : new ≡ session.engine.disk
@@ -172,13 +177,13 @@ pub record ServedScript {D : Type 0} (disk : Ghosts D) (text : List ℕ) (old ne
 
 -- The image was not opened: a crash leaves nothing that it couldn't leave before, and no more than a refusal was
 -- printed.
-pub record NotOpened {D : Type 0} (now : D → Moment) (past : D → List Moment) (old new : D) (was is : Option (List ℕ))
-    (status : ℕ) : Type 0 where
+pub record NotOpened {D : Type 0} (now : D → Moment) (past : D → List Moment) (old new : D) (was : Output)
+    (is : Option (List ℕ)) (status : ℕ) : Type 0 where
   pub status_is : status ≡ 1
-  pub printed : (last : List ℕ) × (IsLast last × Begins was is last)
+  pub printed : SaysLast was is
   pub leaves : Leaves (now old) (now new) (past old) (past new) (Left (now old))
 
 -- The script was served on the image of a disk, or the image was not opened.
-abbrev pub SerialOn : {D : Type 0} → Ghosts D → List ℕ → D → D → Option (List ℕ) → Option (List ℕ) → ℕ → Type 0
+abbrev pub SerialOn : {D : Type 0} → Ghosts D → List ℕ → D → D → Output → Option (List ℕ) → ℕ → Type 0
 SerialOn disk text old new was is status = NotOpened disk.now disk.past old new was is status
     ⊎ ServedScript disk text old new was is status

@@ -16,6 +16,6 @@ mod waits;
 
 pub use notes::WaitNote;
 pub use past::{Past, first_open};
-pub use serial::{both, serial_on, serial_once_on};
-pub use server::{Desk, Paper, Server};
+pub use serial::{StyledScript, both, serial_on, serial_once_on};
+pub use server::{Desk, Server};
 pub use stops::{Interrupted, Stop, new_images_have_begun, serial_over_stops};

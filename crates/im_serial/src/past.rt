@@ -1,10 +1,10 @@
 //! What an image has of a script already.
 //!
 //! The n-th request of an element has number n, so an image needs no mark of a script (decision 330).
-ghost use Rattle.std.specs.Prelude.{◌≡◌, ℕ, ◌+◌, ◌-◌, true, false, [], IfOk, OnOk, slice_get, Ok, string_bytes};
+ghost use Rattle.std.specs.Prelude.{◌≡◌, ℕ, ◌+◌, ◌-◌, true, false, [], IfOk, slice_get, Ok};
 ghost use Rattle.std.specs.Option.{option_map_or};
 ghost use Rattle.im_types.specs.Types.{next_number, bounds};
-ghost use Rattle.im_serial.specs.{Asked.wanted_by, Fitting.base_placed, Fitting.end_behind_base, Once.done_line};
+ghost use Rattle.im_serial.specs.{Asked.wanted_by, Fitting.base_placed, Fitting.end_behind_base};
 ghost use Rattle.im_serial.specs.Had.{first_open, left_of, met, met_all, news, numbers_had, numbers_settled};
 ghost use Rattle.im_serial.specs.Had.{still_waits};
 
@@ -161,12 +161,4 @@ impl Past {
             None => None,
         }
     }
-}
-
-/// Makes the line `K.N done` for a request that was confirmed.
-pub fn make_done(line: &mut String, element: u16, number: u64) -> Result<(), AllocError>
-    ensures { OnOk result (string_bytes line.new ≡ done_line (record { element = element; number = number })) }
-{
-    line.clear();
-    writeln!(line, "{element}.{number} done")
 }

@@ -1,6 +1,6 @@
 //! A script's requests, served one after another.
 ghost use Rattle.std.specs.Prelude.{◌≡◌, ◌≤◌, false, [], IsOk};
-ghost use Rattle.im_session.specs.Kept.{IsFresh};
+ghost use Rattle.{im_session.specs.Kept.IsFresh, im_text.specs.Said.output};
 ghost use Rattle.im_serial.specs.{Begun.KeepsOnce, Serving.seen_by, Serving.SerialOn, Serving.ServedScript};
 ghost use Rattle.im_serial.specs.Once.{HasServedNothing, ServedOnce, ServesOnceOn};
 
@@ -8,10 +8,19 @@ use crate::server::{Desk, Server};
 use im_disk::Disk;
 use im_script::Script;
 use im_session::Session;
-use im_text::{News, Reason, diagnose, end, finish};
+use im_text::{News, Reason, Style, diagnose, end, finish};
 use im_types::Observer;
 use std::alloc::Global;
 use std::io::Write;
+
+/// A script, and how its lines are said.
+#[derive(Clone, Copy)]
+pub struct StyledScript<'a> {
+    /// The script.
+    pub script: &'a Script<'a>,
+    /// How its lines are said.
+    pub style: Style,
+}
 
 /// Serves a script's requests one after another on the image of a disk, prints their answers, and gives the disk back.
 ///
@@ -52,24 +61,28 @@ use std::io::Write;
 pub fn serial_on<D: Disk, W: Write, N: Observer<News>>(
     alloc: Global,
     disk: D,
-    script: &Script<'_>,
+    styled: &StyledScript<'_>,
     out: &mut W,
     observer: &mut N,
 ) -> (u8, D)
     ensures status { result.0 ≤ 1 }
     ensures served { D.honest result.1
-        → SerialOn D.Disk script.now disk result.1 (W.contents out.old) (W.contents out.new) result.0 }
+        → SerialOn D.Disk styled.now.script.now disk result.1 (output styled.now.style (W.contents out.old))
+        (W.contents out.new) result.0 }
     ensures honest { D.honest result.1 → D.honest disk }
 {
-    let desk = match Desk::new(alloc) {
+    let desk = match Desk::new(alloc, styled.style) {
         Ok(desk) => desk,
-        Err(_) => return (end(alloc, Err(Reason::Memory), out, observer), disk),
+        Err(_) => return (
+            end(alloc, styled.style, Err(Reason::Memory), out, observer),
+            disk,
+        ),
     };
     match Session::open(alloc, disk) {
-        Ok(session) => serve_on(alloc, session, desk, script, out, observer),
+        Ok(session) => serve_on(alloc, session, desk, styled.script, out, observer),
         Err((refusal, mut disk)) => {
             let reason = diagnose(alloc, &mut disk, refusal);
-            (end(alloc, Err(reason), out, observer), disk)
+            (end(alloc, styled.style, Err(reason), out, observer), disk)
         }
     }
 }
@@ -85,24 +98,17 @@ fn serve_on<D: Disk, W: Write, N: Observer<News>>(
 ) -> (u8, D)
     requires fresh { IsFresh session }
     requires works { session.engine.failed ≡ false }
-    requires pending { desk.lines.pending.items ≡ [] }
+    requires pending { desk.lines.batch.pending.items ≡ [] }
     ensures status { result.0 ≤ 1 }
-    ensures served { ServedScript D.Disk script.now session.start.disk result.1 (W.contents out.old)
-        (W.contents out.new) result.0 }
+    ensures served { ServedScript D.Disk script.now session.start.disk result.1
+        (output desk.lines.style (W.contents out.old)) (W.contents out.new) result.0 }
 {
     let mut server = Server::new(alloc, session, desk);
     let served = server.serve(alloc, script, out, observer);
     server.learn_all(observer);
     let told = server.tell(out);
-    let (session, mut paper) = server.leave();
-    let status = finish(
-        alloc,
-        both(served, told),
-        &mut paper.lines,
-        &mut paper.line,
-        out,
-        observer,
-    );
+    let (session, mut lines) = server.leave();
+    let status = finish(both(served, told), &mut lines, out, observer);
     // If the disk failed, a refusal was printed: the status is 1 already.
     let failed = session.engine().failed();
     (status_at(failed, status), session.close())
@@ -136,42 +142,47 @@ fn serve_on<D: Disk, W: Write, N: Observer<News>>(
 pub fn serial_once_on<D: Disk, W: Write, N: Observer<News>>(
     alloc: Global,
     disk: D,
-    script: &Script<'_>,
+    styled: &StyledScript<'_>,
     out: &mut W,
     observer: &mut N,
 ) -> (u8, D)
     ensures status { result.0 ≤ 1 }
-    ensures served { ServesOnceOn D.Disk script.now disk result.1 (W.contents out.old) (W.contents out.new) result.0 }
-    ensures keeps { KeepsOnce D.Disk script.now disk result.1 result.0 }
+    ensures served { ServesOnceOn D.Disk styled.now.script.now disk result.1
+        (output styled.now.style (W.contents out.old)) (W.contents out.new) result.0 }
+    ensures keeps { KeepsOnce D.Disk styled.now.script.now disk result.1 result.0 }
     ensures honest { D.honest result.1 → D.honest disk }
 {
-    open_and_serve_once(alloc, disk, script, out, observer)
+    open_and_serve_once(alloc, disk, styled, out, observer)
 }
 
 // Opens the image of a disk, and serves what it doesn't have of a script. Returns the status and the disk.
 fn open_and_serve_once<D: Disk, W: Write, N: Observer<News>>(
     alloc: Global,
     disk: D,
-    script: &Script<'_>,
+    styled: &StyledScript<'_>,
     out: &mut W,
     observer: &mut N,
 ) -> (u8, D)
     ensures status { result.0 ≤ 1 }
-    ensures served { ServesOnceOn D.Disk script.now disk result.1 (W.contents out.old) (W.contents out.new) result.0 }
+    ensures served { ServesOnceOn D.Disk styled.now.script.now disk result.1
+        (output styled.now.style (W.contents out.old)) (W.contents out.new) result.0 }
     ensures honest { D.honest result.1 → D.honest disk }
 {
-    let desk = match Desk::new(alloc) {
+    let desk = match Desk::new(alloc, styled.style) {
         Ok(desk) => desk,
-        Err(_) => return (end(alloc, Err(Reason::Memory), out, observer), disk),
+        Err(_) => return (
+            end(alloc, styled.style, Err(Reason::Memory), out, observer),
+            disk,
+        ),
     };
     match Session::open(alloc, disk) {
         Ok(session) => {
             let server = Server::new(alloc, session, desk);
-            serve_once_on(alloc, server, script, out, observer)
+            serve_once_on(alloc, server, styled.script, out, observer)
         }
         Err((refusal, mut disk)) => {
             let why = diagnose(alloc, &mut disk, refusal);
-            (end(alloc, Err(why), out, observer), disk)
+            (end(alloc, styled.style, Err(why), out, observer), disk)
         }
     }
 }
@@ -186,21 +197,14 @@ fn serve_once_on<D: Disk, W: Write, N: Observer<News>>(
 ) -> (u8, D)
     requires nothing { HasServedNothing (seen_by server (W.contents out.old)) server.bases.items }
     ensures status { result.0 ≤ 1 }
-    ensures served { ServedOnce D.Disk script.now server.session.start.disk result.1 (W.contents out.old)
-        (W.contents out.new) result.0 }
+    ensures served { ServedOnce D.Disk script.now server.session.start.disk result.1
+        (output server.lines.style (W.contents out.old)) (W.contents out.new) result.0 }
 {
     let served = server.serve_once(alloc, script, out, observer);
     server.learn_all(observer);
     let told = server.tell(out);
-    let (session, mut paper) = server.leave();
-    let status = finish(
-        alloc,
-        both(served, told),
-        &mut paper.lines,
-        &mut paper.line,
-        out,
-        observer,
-    );
+    let (session, mut lines) = server.leave();
+    let status = finish(both(served, told), &mut lines, out, observer);
     // If the disk failed, a refusal was printed: the status is 1 already.
     let failed = session.engine().failed();
     (status_at(failed, status), session.close())

@@ -1,23 +1,19 @@
 //! A session that serves requests one after another, and prints their lines.
 ghost use Rattle.std.specs.Prelude.{◌≡◌, ℕ, List, [], map, length, IfOk, OnOk, slice_get, Some};
 ghost use Rattle.im_types.specs.Types.{Waiter, Waiting, Command, Contents, IsMemory, after};
-ghost use Rattle.im_text.specs.Printing.{now_line, nows, PrintsMore, PrintsNows, Pushes, told_line, who_of};
+ghost use Rattle.im_text.specs.Said.{answered_now, nows, PrintsMore, PrintsNows, Pushes, replied, who_of};
 ghost use Rattle.im_serial.specs.{declared.waits.Mark.TheVariants.Here, Once.done_line, Serving.ServedBy};
 ghost use Rattle.im_serial.specs.Noted.{AreKnown, AreLast, mark_place, noted_if, NotesMore};
 
 use crate::notes::WaitNote;
-use crate::past::make_done;
 use crate::room::ServerProgress;
 use crate::waits::{Places, learn_all, note, tell_earlier, waited_at};
 use im_disk::Disk;
 use im_session::Session;
-use im_text::{Lines, News, Progress, Reason, Waited, make_line, make_now};
+use im_text::{Lines, News, OutputLine, Progress, Reason, Style, Waited};
 use im_types::{Entry, Observer};
 use std::alloc::{AllocError, Global};
 use std::io::Write;
-
-// The most bytes of a line.
-const LINE: usize = 64;
 
 /// The room that serving takes, besides the engine.
 #[derive(Drop)]
@@ -25,29 +21,20 @@ pub struct Desk {
     places: Places,
     /// The lines that are printed.
     pub lines: Lines,
-    line: String,
 }
 
 impl Desk {
-    /// Takes all room that serving needs, except for the list of the requests that have to wait.
-    pub fn new(alloc: Global) -> Result<Desk, AllocError>
-        ensures pending { IfOk result (λ desk. desk.lines.pending.items ≡ []) }
+    /// Takes all room that serving needs, except for the list of the requests that have to wait. Lines will be said in
+    /// this style.
+    pub fn new(alloc: Global, style: Style) -> Result<Desk, AllocError>
+        ensures pending { IfOk result (λ desk. desk.lines.batch.pending.items ≡ []) }
+        ensures style { IfOk result (λ desk. desk.lines.style ≡ style) }
     {
         Ok(Desk {
             places: Places::new(alloc)?,
-            lines: Lines::new(alloc)?,
-            line: String::with_capacity(alloc, LINE)?,
+            lines: Lines::new(alloc, style)?,
         })
     }
-}
-
-/// Where lines are made and printed.
-#[derive(Drop)]
-pub struct Paper {
-    /// The lines on their way to the writer.
-    pub lines: Lines,
-    /// The room in which a line is made.
-    pub line: String,
 }
 
 /// A session that serves requests, and what is printed and noted of them.
@@ -63,8 +50,6 @@ pub struct Server<D: Disk> {
     pub lines: Lines,
     // The place of each request that had to wait, while it is kept.
     pub(crate) places: Places,
-    // The room in which a line is made.
-    pub(crate) line: String,
     pub(crate) progress: ServerProgress,
 }
 
@@ -77,11 +62,7 @@ impl<D: Disk> Server<D> {
         ensures bases { result.bases.items ≡ [] }
         ensures memory { let m = session.engine.memory in IsMemory (length m.cells) (length m.windows) m }
     {
-        let Desk {
-            mut places,
-            lines,
-            line,
-        } = desk;
+        let Desk { mut places, lines } = desk;
         places.mark_earlier(session.memory());
         Server {
             session,
@@ -89,7 +70,6 @@ impl<D: Disk> Server<D> {
             waited: Vec::new(alloc),
             lines,
             places,
-            line,
             progress: ServerProgress {
                 told: Progress {
                     served: 0,
@@ -100,10 +80,10 @@ impl<D: Disk> Server<D> {
         }
     }
 
-    /// Returns the session, and where lines are printed.
-    pub fn leave(self) -> (Session<D>, Paper)
+    /// Returns the session, and the lines on their way to the writer.
+    pub fn leave(self) -> (Session<D>, Lines)
         ensures session { result.0 ≡ self.session }
-        ensures lines { result.1.lines ≡ self.lines }
+        ensures lines { result.1 ≡ self.lines }
     {
         let Server {
             session,
@@ -111,10 +91,9 @@ impl<D: Disk> Server<D> {
             waited: _,
             lines,
             places: _,
-            line,
             progress: _,
         } = self;
-        (session, Paper { lines, line })
+        (session, lines)
     }
 
     // Prints a request's entry.
@@ -129,13 +108,15 @@ impl<D: Disk> Server<D> {
         ensures marks { self.new.places.marks.items ≡ self.old.places.marks.items }
         ensures bases { self.new.bases.items ≡ self.old.bases.items }
         ensures more { Pushes result (W.contents out.old) self.old.lines (W.contents out.new) self.new.lines
-            (told_line who.0 who.1 entry) }
+            (replied who.0 who.1 entry) }
     {
         let (element, number) = who;
-        match make_line(&mut self.line, element, number, entry) {
-            Ok(()) => self.lines.push(out, self.line.as_str()),
-            Err(_) => Err(Reason::Memory),
-        }
+        let reply = Waited {
+            element,
+            number,
+            entry,
+        };
+        self.lines.push(out, OutputLine::Reply(reply))
     }
 
     // Notes a request that has to wait.
@@ -169,10 +150,7 @@ impl<D: Disk> Server<D> {
         ensures more { Pushes result (W.contents out.old) self.old.lines (W.contents out.new) self.new.lines
             (done_line (record { element = who.0; number = who.1 })) }
     {
-        match make_done(&mut self.line, who.0, who.1) {
-            Ok(()) => self.lines.push(out, self.line.as_str()),
-            Err(_) => Err(Reason::Memory),
-        }
+        self.lines.push(out, OutputLine::Done(who.0, who.1))
     }
 
     // Writes what is kept back, if each line is wanted as soon as it is true.
@@ -212,38 +190,28 @@ impl<D: Disk> Server<D> {
         ensures some { PrintsNows (W.contents out.old) self.old.lines (W.contents out.new) self.new.lines
             self.old.waited.items }
     {
-        print_nows(self.waited.as_slice(), &mut self.line, &mut self.lines, out)
+        print_nows(self.waited.as_slice(), &mut self.lines, out)
     }
 }
 
 // Prints what became of the requests that had to wait.
-fn print_nows<W: Write>(
-    waited: &[WaitNote],
-    line: &mut String,
-    lines: &mut Lines,
-    out: &mut W,
-) -> Result<(), Reason>
+fn print_nows<W: Write>(waited: &[WaitNote], lines: &mut Lines, out: &mut W) -> Result<(), Reason>
     ensures all { OnOk result (PrintsMore (W.contents out.old) lines.old (W.contents out.new) lines.new
         (nows waited.now (length waited.now))) }
     ensures some { PrintsNows (W.contents out.old) lines.old (W.contents out.new) lines.new waited.now }
 {
     for at in 0..waited.len() {
-        push_now(waited_at(waited, at), line, lines, out)?;
+        push_now(waited_at(waited, at), lines, out)?;
     }
     Ok(())
 }
 
 // Prints what became of a request that had to wait.
-fn push_now<W: Write>(
-    waited: Option<Waited>,
-    line: &mut String,
-    lines: &mut Lines,
-    out: &mut W,
-) -> Result<(), Reason>
-    ensures more { Pushes result (W.contents out.old) lines.old (W.contents out.new) lines.new (now_line waited) }
+fn push_now<W: Write>(waited: Option<Waited>, lines: &mut Lines, out: &mut W) -> Result<(), Reason>
+    ensures more { Pushes result (W.contents out.old) lines.old (W.contents out.new) lines.new (answered_now waited) }
 {
-    match make_now(line, waited) {
-        Ok(()) => lines.push(out, line.as_str()),
-        Err(_) => Err(Reason::Memory),
+    match waited {
+        Some(waited) => lines.push(out, OutputLine::Now(waited)),
+        None => Ok(()),
     }
 }

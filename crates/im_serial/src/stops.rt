@@ -4,10 +4,10 @@ ghost use Rattle.im_types.specs.Types.{Limits, Means};
 ghost use Rattle.{im_disk.specs.Since.LeavesNow, im_session.specs.Carrying.LedBy};
 ghost use Rattle.im_serial.specs.{Asked.Wanted, Asked.wanted_of, Begun.HasComeTo, Begun.HasDone, Begun.new_memory};
 
-use crate::serial::serial_once_on;
+use crate::serial::{StyledScript, serial_once_on};
 use im_disk::{Crash, FuseDisk, MemDisk, Mode};
 use im_script::Script;
-use im_text::News;
+use im_text::{News, Style};
 use im_types::Observer;
 use std::alloc::Global;
 use std::io::Write;
@@ -58,12 +58,16 @@ pub fn serial_over_stops<W: Write, N: Observer<News>>(
         → result.0 ≡ 0 → LeavesNow result.1.moment (LedBy (HasDone limits (wanted_of script.now))) }
 {
     let Interrupted { mut disk, stops } = image;
+    let styled = StyledScript {
+        script,
+        style: Style::Text,
+    };
     for at in 0..stops.len() {
         let stop = stops[at];
         let fused = FuseDisk::new(disk, stop.passes, stop.mode);
-        let (_status, left) = serial_once_on(alloc, fused, script, out, observer);
+        let (_status, left) = serial_once_on(alloc, fused, &styled, out, observer);
         disk = left.into_inner().crash(stop.crash);
     }
-    let (status, disk) = serial_once_on(alloc, disk, script, out, observer);
+    let (status, disk) = serial_once_on(alloc, disk, &styled, out, observer);
     (status, disk)
 }

@@ -2,7 +2,7 @@
 ghost use Rattle.std.specs.Prelude.{◌≡◌, ℕ, ◌+◌, ◌≤◌, true, List, ◌++◌, map, length, OnOk, slice_get, MatchResult};
 ghost use Rattle.std.specs.Prelude.{Some};
 ghost use Rattle.im_types.specs.Types.{Waiter, Waiting, Command, Contents, IsMemory, after};
-ghost use Rattle.im_text.specs.Printing.{who_of};
+ghost use Rattle.im_text.specs.Said.{who_of};
 ghost use Rattle.im_serial.specs.declared.waits.Mark.TheVariants.{Here};
 ghost use Rattle.im_serial.specs.Noted.{AreKnown, AreLast, entered, IsLearnt, Learns, mark_place, noted_by, noted_if};
 ghost use Rattle.im_serial.specs.Noted.{with_entry};

@@ -3,10 +3,7 @@
 use crate::MigrationDesk;
 use crate::moves::report;
 use im_disk::Unknown;
-use im_program::{
-    AtHand, Console, Terminals, Transfer, Work, act_alone, copy_file, migrate_file, read_words,
-    refuse,
-};
+use im_program::{AtHand, Console, Terminals, act, read_words};
 use im_story::{Phrase, Printout, Saying, bytes};
 use im_story_disk::StoryFile;
 use std::fs;
@@ -18,23 +15,6 @@ const NOBODY: Terminals = Terminals {
     input: false,
     errors: false,
 };
-
-// Does a transfer. Returns the status.
-fn transfer(
-    hand: AtHand<'_, HostRuntime, &[u8], Console<'_, HostRuntime>>,
-    transfer: &Transfer<'_>,
-    out: &mut Printout,
-) -> u8 {
-    let alloc = hand.rt.alloc();
-    let moved = match *transfer {
-        Transfer::Migrate(paths) => migrate_file(hand, &paths, out, (Unknown, Unknown)),
-        Transfer::Copy(copying) => copy_file(hand, &copying, out, (Unknown, Unknown)),
-    };
-    match moved {
-        Ok((status, _, _)) => status,
-        Err(refusal) => refuse(alloc, refusal, out),
-    }
-}
 
 /// Does the work of a command line. Tells the status.
 pub fn run(desk: &mut MigrationDesk, call: &Phrase, said: &mut Saying) {
@@ -50,11 +30,7 @@ pub fn run(desk: &mut MigrationDesk, call: &Phrase, said: &mut Saying) {
         input: &mut nothing,
         observer: &mut console,
     };
-    let status = match line.work {
-        Work::Alone(job) => act_alone(hand, &job, &mut desk.out, Unknown).0,
-        Work::Transfer(of_two) => transfer(hand, &of_two, &mut desk.out),
-        _ => return said.fail("the words ask for no file, or for more than one thread"),
-    };
+    let (status, _, _) = act(hand, &line, &mut desk.out, (Unknown, Unknown));
     desk.told = console.reason();
     write!(said, "{status}")
 }

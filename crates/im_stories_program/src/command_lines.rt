@@ -2,11 +2,11 @@
 
 use crate::ProgramDesk;
 use crate::spelling::{add_text, add_word};
-use im_filters::Telling;
 use im_migration::Asked;
-use im_program::{CommandLine, Job, Transfer, WordFault, Work, read_words};
+use im_program::{CommandLine, WordFault, Work, read_words};
 use im_report::View;
 use im_story::{Phrase, Saying};
+use im_text::Style;
 
 fn add_size(said: &mut Saying, size: Option<u32>, name: &str) {
     if let Some(number) = size {
@@ -37,34 +37,18 @@ fn add_look(said: &mut Saying, image: &str, look: View) {
     said.either(is_json, ", as JSON", "")
 }
 
-fn add_job(said: &mut Saying, job: &Job) {
-    match *job {
-        Job::Format(it) => {
+fn add_work(said: &mut Saying, work: &Work<&str>) {
+    match *work {
+        Work::Demonstration => said.text("demonstration"),
+        Work::Format(it) => {
             write!(said, "make {} of {} cells", it.image, it.cells);
             write!(said, ", {} elements, {} slots", it.elements, it.slots);
             said.either(it.is_new, ", where none is", "")
         }
-        Job::Serial(it) => {
+        Work::Serial(it) => {
             write!(said, "serve {} on {}", it.script, it.image);
             said.either(it.once, ", once", "")
         }
-        Job::Serve(it) => {
-            write!(said, "talk on {}", it.image);
-            said.either(it.watch, ", watched", ", unwatched")
-        }
-        Job::Inspect { image, look } => add_look(said, image, look),
-        Job::Dump { image } => write!(said, "dump {image}"),
-        Job::Load(it) => {
-            write!(said, "load {} into {}", it.text, it.new);
-            add_sizes(said, it.asked)
-        }
-    }
-}
-
-fn add_line(said: &mut Saying, line: &CommandLine) {
-    match line.work {
-        Work::Demonstration => said.text("demonstration"),
-        Work::Alone(job) => add_job(said, &job),
         Work::Run(run) => {
             write!(said, "run {} on {}", run.script, run.image);
             said.either(run.planned, ", planned", "");
@@ -73,18 +57,39 @@ fn add_line(said: &mut Saying, line: &CommandLine) {
                 write!(said, ", traced to {path}")
             }
         }
-        Work::Transfer(Transfer::Migrate(it)) => write!(said, "move {} on to {}", it.old, it.new),
-        Work::Transfer(Transfer::Copy(it)) => {
-            write!(said, "copy {} to {}", it.old, it.new);
+        Work::Serve(it) => {
+            write!(said, "talk on {}", it.image);
+            said.either(it.watch, ", watched", ", unwatched")
+        }
+        Work::Inspect(it) => add_look(said, it.image, it.look),
+        Work::Dump(image) => write!(said, "dump {image}"),
+        Work::Load(it) => {
+            write!(said, "load {} into {}", it.from, it.new);
+            add_sizes(said, it.asked)
+        }
+        Work::Migrate(it) => write!(said, "move {} on to {}", it.old, it.new),
+        Work::Copy(it) => {
+            write!(said, "copy {} to {}", it.from, it.new);
             add_sizes(said, it.asked)
         }
     }
+}
+
+fn style_of(work: &Work<&str>) -> Style {
+    match *work {
+        Work::Serial(it) => it.style,
+        Work::Run(it) => it.style,
+        _ => Style::Text,
+    }
+}
+
+fn add_line(said: &mut Saying, line: &CommandLine) {
+    add_work(said, &line.work);
     said.either(line.statuses, ", by statuses", "");
-    said.text(match line.telling {
-        Telling::Plain => "",
-        Telling::Quiet => ", quietly",
-        Telling::Json => ", as JSON",
-        Telling::Calls => ", as a trace in JSON",
+    said.text(match style_of(&line.work) {
+        Style::Text => "",
+        Style::Quiet => ", quietly",
+        Style::Json => ", as JSON",
     });
     if line.wait > 0 {
         write!(said, ", waiting {} s", line.wait)

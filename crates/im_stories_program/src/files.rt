@@ -4,11 +4,12 @@ use crate::ProgramDesk;
 use crate::writers::ObserverNotes;
 use im_disk::Unknown;
 use im_program::{
-    AtHand, Console, Descriptors, Serving, Terminals, Work, act_alone, demonstrate, format_file,
-    inspect_file, read_words, serve_file, status_for,
+    AtHand, Console, Descriptors, Serving, Terminals, act, format_file, inspect_file, read_words,
+    serve_file, status_for,
 };
 use im_report::View;
 use im_story::{Phrase, Printout, Saying};
+use im_text::Style;
 use im_types::Limits;
 use std::fs;
 use std::io::ErrorKind;
@@ -29,19 +30,13 @@ pub fn run(desk: &mut ProgramDesk, call: &Phrase, said: &mut Saying) {
     let mut console = Console::new(desk.rt, desk.held, &line.work, NOBODY);
     desk.print(usize::MAX);
     let mut input = desk.text.as_slice();
-    let status = match line.work {
-        Work::Demonstration => demonstrate(call.alloc(), &mut desk.out, &mut console),
-        Work::Alone(job) => {
-            let hand = AtHand {
-                rt: desk.rt,
-                held: desk.held,
-                input: &mut input,
-                observer: &mut console,
-            };
-            act_alone(hand, &job, &mut desk.out, Unknown).0
-        }
-        _ => return said.fail("the words ask for more than one thread or file"),
+    let hand = AtHand {
+        rt: desk.rt,
+        held: desk.held,
+        input: &mut input,
+        observer: &mut console,
     };
+    let (status, _, _) = act(hand, &line, &mut desk.out, (Unknown, Unknown));
     desk.text.clear();
     said.number(status_for(status, line.statuses, console.reason()))
 }
@@ -60,6 +55,7 @@ fn is_done<'a>(
         image,
         script: call.word(3),
         once: false,
+        style: Style::Text,
     };
     let hand = AtHand {
         rt,

@@ -4,8 +4,9 @@
 use crate::ProgramDesk;
 use im_report::{Filter, Span, View, inspect_on, look_on};
 use im_script::read_script;
-use im_serial::{serial_on, serial_once_on};
+use im_serial::{StyledScript, serial_on, serial_once_on};
 use im_story::{Phrase, Saying};
+use im_text::Style;
 
 // How a script is served.
 const SERVINGS: [&str; 6] = [
@@ -34,10 +35,14 @@ fn serve_script(desk: &mut ProgramDesk, is_once: bool, said: &mut Saying) -> u8 
         said.fail("there is no disk");
         return 1;
     };
+    let styled = StyledScript {
+        script: &script,
+        style: Style::Text,
+    };
     let (status, disk) = if is_once {
-        serial_once_on(alloc, disk, &script, &mut desk.out, &mut desk.notes)
+        serial_once_on(alloc, disk, &styled, &mut desk.out, &mut desk.notes)
     } else {
-        serial_on(alloc, disk, &script, &mut desk.out, &mut desk.notes)
+        serial_on(alloc, disk, &styled, &mut desk.out, &mut desk.notes)
     };
     desk.place.lay_down(disk);
     status

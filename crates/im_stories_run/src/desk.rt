@@ -6,12 +6,13 @@ use crate::heard::Hearing;
 use crate::scripts::script_of;
 use im_disk::Mode;
 use im_report::inspect_on;
-use im_run::{Assignment, RunContext, run_on, run_on_plan, run_once_on, write_trace};
+use im_run::{Assignment, RunContext, Trace, run_on, run_on_plan, run_once_on, write_trace};
 use im_script::read_script_with_glances;
+use im_serial::StyledScript;
 use im_serving::{EarlierAnswer, Gate, Host, Open};
 use im_story::{Printout, Saying};
 use im_story_disk::StoryFile;
-use im_text::{News, Reason, Waited};
+use im_text::{News, Reason, Style, Waited};
 use im_types::{Entry, Limits, Observer, Refusal};
 use std::alloc::Global;
 use std::sync::Mutex;
@@ -153,23 +154,34 @@ impl<'a> RunDesk<'a> {
         let hearing = Hearing { rt, heard: &heard };
         let (out, noted) = (&mut self.out, &mut self.noted);
         let context = RunContext::new(rt, alloc, gate, hearing, how.recorded);
-        let (script, planned) = (&script, how.planned);
+        let (script, style, planned) = (&script, Style::Text, how.planned);
+        let styled = StyledScript { script, style };
         let (status, disk, trace) = if how.once {
-            let asked = Assignment { script, planned };
+            let asked = Assignment {
+                script,
+                style,
+                planned,
+            };
             run_once_on(&context, disk, asked, out, noted)
         } else if planned {
-            run_on_plan(&context, disk, script, out, noted)
+            run_on_plan(&context, disk, &styled, out, noted)
         } else {
-            run_on(&context, disk, script, out, noted)
+            run_on(&context, disk, &styled, out, noted)
         };
         self.noted.note_told(heard.lock(rt).as_slice());
         self.place.lay_down(disk);
-        if how.recorded {
+        self.print_trace(how.recorded, &trace);
+        status
+    }
+
+    // Prints a trace in place of lines, if it was recorded.
+    fn print_trace(&mut self, is_recorded: bool, trace: &Trace) {
+        let alloc = self.place.alloc;
+        if is_recorded {
             self.out = Printout::new(alloc);
-            let is_written = write_trace(alloc, &trace, &mut self.out).is_ok();
+            let is_written = write_trace(alloc, trace, false, &mut self.out).is_ok();
             self.said.so(is_written, "")
         }
-        status
     }
 
     // Runs a script, and tells what it printed, or its trace. Behind `after` stands the element for whose answer the

@@ -1,3 +1,4 @@
+pub mod PrintingLemmas
+pub mod SaidLemmas
 pub mod TextLemmas
 pub mod WindowLemmas
-pub mod PrintingLemmas

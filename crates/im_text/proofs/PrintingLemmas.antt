@@ -1,12 +1,10 @@
--- Lines on their way to a writer, and the lines of commands. (Own.)
-use Rattle.std.proofs.Common.{◌≡◌, ℕ, Bool, true, false, ◌⊎◌, List, [], ◌∷◌, ◌++◌, length, take, drop, OnOk, IsOk, Some}
-use Rattle.std.proofs.Common.{None, Ok, Err, Option, Result, sym, refl, ap, ◌∙◌, subst, ap₂, inl, inr, append_assoc}
-use Rattle.std.proofs.Common.{append-nil, take-append-drop}
+-- Texts on their way to a writer. (Own.)
+use Rattle.std.proofs.Common.{◌≡◌, ℕ, Bool, true, false, List, [], ◌∷◌, ◌++◌, length, take, drop, OnOk, IsOk, Some}
+use Rattle.std.proofs.Common.{None, Ok, Err, Option, Result, sym, refl, ap, ◌∙◌, subst, append_assoc, append-nil}
+use Rattle.std.proofs.Common.{take-append-drop}
 use Rattle.std.proofs.KnownBytes.{Appends-nil, Appends-trans}
 use Rattle.std.specs.Io.KnownBytes.{Appends, Keeps}
-use Rattle.im_types.specs.Types.{Waiter, Command, Refusal, Contents, step, after}
-use Rattle.im_text.specs.declared.lines.Lines.{Lines}
-use Rattle.im_text.specs.Printing.{Begins, IsLast, Prints, refused_line, replies, reply_line, waits, waits_by}
+use Rattle.im_text.specs.{declared.batches.Batch.Batch, Printing.Batches, Printing.Begins}
 
 -- ---- writers
 
@@ -20,9 +18,9 @@ appends_kept (Some x) (Some y) (Some z) bs p q = q ∙ p
 -- ---- what is printed
 
 -- a part of what was kept back is written
-pub prints_written : (start was is : Option (List ℕ)) (before after : Lines) (n : ℕ) (text : List ℕ) → before.broken ≡ false → Appends was is (take n before.pending.items)
-    → (after.broken ≡ false → after.pending.items ≡ drop n before.pending.items) → Prints start was before text → Prints start is after text
-prints_written start was is before after n text works there left it =
+pub batches_written : (start was is : Option (List ℕ)) (before after : Batch) (n : ℕ) (text : List ℕ) → before.broken ≡ false → Appends was is (take n before.pending.items)
+    → (after.broken ≡ false → after.pending.items ≡ drop n before.pending.items) → Batches start was before text → Batches start is after text
+batches_written start was is before after n text works there left it =
     let pending = before.pending.items in
     record {
       written = it.written ++ take n pending;
@@ -33,8 +31,8 @@ prints_written start was is before after n text works there left it =
     }
 
 -- all of it is written
-pub prints_all : (start is : Option (List ℕ)) (lines : Lines) (text : List ℕ) → lines.broken ≡ false → lines.pending.items ≡ [] → Prints start is lines text → Appends start is text
-prints_all start is lines text works none it =
+pub batches_all : (start is : Option (List ℕ)) (batch : Batch) (text : List ℕ) → batch.broken ≡ false → batch.pending.items ≡ [] → Batches start is batch text → Appends start is text
+batches_all start is batch text works none it =
     subst (Appends start is) (sym (it.split ∙ ap (λ xs. it.written ++ xs) (it.back works ∙ none) ∙ append-nil it.written)) it.there
 
 pub take-prefix : {A : Type 0} (xs ys : List A) → take (length xs) (xs ++ ys) ≡ xs
@@ -46,40 +44,23 @@ take-all [] = refl
 take-all (x ∷ xs) = ap (λ l. x ∷ l) (take-all xs)
 
 -- a prefix of it is written
-pub prints_begins : (start is : Option (List ℕ)) (lines : Lines) (text : List ℕ) → Prints start is lines text → Begins start is text
-prints_begins start is lines text it =
+pub batches_begin : (start is : Option (List ℕ)) (batch : Batch) (text : List ℕ) → Batches start is batch text → Begins start is text
+batches_begin start is batch text it =
     (length it.written, subst (Appends start is) (sym (ap (take (length it.written)) it.split ∙ take-prefix it.written it.rest)) it.there)
 
 -- nothing is printed yet
-pub prints_none : (start : Option (List ℕ)) (lines : Lines) → lines.pending.items ≡ [] → Prints start start lines []
-prints_none start lines none = record { written = []; rest = []; split = refl; there = Appends-nil start; back = λ works. sym none }
+pub batches_none : (start : Option (List ℕ)) (batch : Batch) → batch.pending.items ≡ [] → Batches start start batch []
+batches_none start batch none = record { written = []; rest = []; split = refl; there = Appends-nil start; back = λ works. sym none }
 
--- ---- lines of commands
-
--- what each command prints, if a list prints all of it in order
-module _ {X : Type 0} (told : Contents → Command → List X) (all : Contents → List Command → List X) (none : (m : Contents) → all m [] ≡ [])
-    (first : (m : Contents) (c : Command) (put : List Command) → all m (c ∷ put) ≡ told m c ++ all (step m c).contents put) where
-  pub all-append : (m : Contents) (put more : List Command) → all m (put ++ more) ≡ all m put ++ all (after m put) more
-  all-append m [] more = sym (ap (λ xs. xs ++ all m more) (none m))
-  all-append m (c ∷ put) more =
-      let rest = all (step m c).contents put in
-      let later = all (after (step m c).contents put) more in
-      first m c (put ++ more) ∙ ap (λ xs. told m c ++ xs) (all-append (step m c).contents put more)
-      ∙ sym (append_assoc (told m c) rest later) ∙ ap (λ xs. xs ++ later) (sym (first m c put))
-
-  pub one_more : (m : Contents) (put : List Command) (c : Command) (so_far last : List X) → so_far ≡ all m put → told (after m put) c ≡ last → so_far ++ last ≡ all m (put ++ c ∷ [])
-  one_more m put c so_far last is last_is =
-      ap₂ (λ xs ys. xs ++ ys) is (sym last_is ∙ sym (append-nil (told (after m put) c)) ∙ ap (λ xs. told (after m put) c ++ xs) (sym (none (step (after m put) c).contents)) ∙ sym (first (after m put) c []))
-      ∙ sym (all-append m put (c ∷ []))
-
--- one command more
-pub replies_more : (m : Contents) (put : List Command) (c : Command) (text line : List ℕ) → text ≡ replies m put → reply_line c (step (after m put) c).answer ≡ line
-    → text ++ line ≡ replies m (put ++ c ∷ [])
-replies_more = one_more (λ m c. reply_line c (step m c).answer) replies (λ m. refl) (λ m c put. refl)
-
-pub waits_more : (m : Contents) (put : List Command) (c : Command) (names who : List Waiter) → names ≡ waits m put → waits_by c (step (after m put) c).answer ≡ who
-    → names ++ who ≡ waits m (put ++ c ∷ [])
-waits_more = one_more (λ m c. waits_by c (step m c).answer) waits (λ m. refl) (λ m c put. refl)
+-- behind a text that was written
+pub batches_after : (was mid is : Option (List ℕ)) (batch : Batch) (had text : List ℕ) → Appends was mid had → Batches mid is batch text → Batches was is batch (had ++ text)
+batches_after was mid is batch had text first it = record {
+  written = had ++ it.written;
+  rest = it.rest;
+  split = ap (λ (l : List ℕ). had ++ l) it.split ∙ sym (append_assoc had it.written it.rest);
+  there = Appends-trans was mid is had it.written first it.there;
+  back = it.back;
+}
 
 -- ---- results
 
@@ -100,9 +81,3 @@ drop_all n xs is = ap (λ n. drop n xs) is ∙ whole xs
     whole : (xs : List ℕ) → drop (length xs) xs ≡ []
     whole [] = refl
     whole (x ∷ xs) = whole xs
-
--- the line of a refusal was printed, or not
-pub last_printed : (start is : Option (List ℕ)) (lines : Lines) (text line : List ℕ) (refusal : Refusal) (name : List ℕ) → line ≡ refused_line refusal name
-    → Prints start is lines text ⊎ Prints start is lines (text ++ line) → (last : List ℕ) × (IsLast last × Prints start is lines (text ++ last))
-last_printed start is lines text line refusal name same (inl it) = ([], (inl refl, subst (Prints start is lines) (sym (append-nil text)) it))
-last_printed start is lines text line refusal name same (inr it) = (line, (inr (refusal, (name, same)), it))

@@ -8,8 +8,8 @@ use Rattle.im_types.specs.Types.{NoBlock, StillWaiting, Cleared}
 abbrev pub line_feed : List ℕ
 line_feed = 10 ∷ []
 
--- the texts of 0, of 1, and so on below n, one after another
-unfoldable pub texts_below : (ℕ → List ℕ) → ℕ → List ℕ
+-- the texts, or the lists, of 0, of 1, and so on below n, one after another
+unfoldable pub texts_below : {A : Type 0} → (ℕ → List A) → ℕ → List A
 texts_below text zero = []
 texts_below text (suc n) = texts_below text n ++ text n
 

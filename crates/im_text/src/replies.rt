@@ -1,10 +1,9 @@
-//! The texts of requests, replies and refusals.
-ghost use Rattle.std.specs.Prelude.{◌≡◌, ℕ, List, ◌++◌, OnOk, Some, string_bytes};
-ghost use Rattle.im_text.specs.Printing.{now_line, refused_line, told_line};
+//! The texts of requests and replies.
+ghost use Rattle.std.specs.Prelude.{◌≡◌, ◌++◌, OnOk, string_bytes};
 ghost use Rattle.im_text.specs.Texts.{entry_text, kind_text, op_text, reply_text};
 
-use im_types::{Entry, Kind, Op, Refusal, Reply};
-use std::alloc::{AllocError, Global};
+use im_types::{Entry, Kind, Op, Reply};
+use std::alloc::AllocError;
 
 /// A request that had to wait, with the entry that was last kept for it.
 #[derive(Clone, Copy, Debug, PartialEq, Eq)]
@@ -73,66 +72,4 @@ pub fn add_entry(out: &mut String, entry: Entry) -> Result<(), AllocError>
         Entry::Waiting => out.push_str("waiting"),
         Entry::Answered(reply) => add_reply(out, reply),
     }
-}
-
-/// Adds the line `K.N REPLY` for a request that was served.
-fn add_line(out: &mut String, element: u16, number: u64, entry: Entry) -> Result<(), AllocError>
-    ensures { OnOk result (string_bytes out.new ≡ string_bytes out.old ++ told_line element number entry) }
-{
-    write!(out, "{element}.{number} ")?; // K.N
-    add_entry(out, entry)?;
-    out.push_str("\n")
-}
-
-/// Adds the line `K.N now REPLY` for a request that had to wait.
-fn add_now(out: &mut String, waited: Waited) -> Result<(), AllocError>
-    ensures { OnOk result (string_bytes out.new ≡ string_bytes out.old ++ now_line (Some waited)) }
-{
-    let element = waited.element;
-    let number = waited.number;
-    write!(out, "{element}.{number} now ")?;
-    add_entry(out, waited.entry)?;
-    out.push_str("\n")
-}
-
-/// Makes the line `K.N REPLY` for a request that was served.
-pub fn make_line(
-    line: &mut String,
-    element: u16,
-    number: u64,
-    entry: Entry,
-) -> Result<(), AllocError>
-    ensures { OnOk result (string_bytes line.new ≡ told_line element number entry) }
-{
-    line.clear();
-    add_line(line, element, number, entry)
-}
-
-/// Makes the line `K.N now REPLY` for a request that had to wait, if there is one.
-pub fn make_now(line: &mut String, waited: Option<Waited>) -> Result<(), AllocError>
-    ensures { OnOk result (string_bytes line.new ≡ now_line waited) }
-{
-    line.clear();
-    match waited {
-        Some(waited) => add_now(line, waited),
-        None => Ok(()),
-    }
-}
-
-// Makes the line of a refusal with this name.
-fn make_named(line: &mut String, refusal: Refusal, name: &str) -> Result<(), AllocError>
-    ensures { OnOk result (string_bytes line.new ≡ refused_line refusal name.now) }
-{
-    let number = refusal.number();
-    line.clear();
-    writeln!(line, "refused {number} {name}")
-}
-
-/// Makes the line `refused N NAME`.
-pub fn make_refusal(alloc: Global, line: &mut String, refusal: Refusal) -> Result<(), AllocError>
-    ensures { OnOk result ((name : List ℕ) × (string_bytes line.new ≡ refused_line refusal name)) }
-{
-    let mut name = String::new(alloc);
-    write!(name, "{refusal}")?;
-    make_named(line, refusal, name.as_str())
 }

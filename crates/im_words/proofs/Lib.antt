@@ -1,1 +1,3 @@
+pub mod GivenLemmas
+pub mod RowLemmas
 pub mod SpanLemmas

@@ -1,23 +1,20 @@
 //! What the words that clap found ask for.
 ghost use Rattle.std.specs.Prelude.{◌≡◌, ◌⊎◌, IfSome, IfNone, Some, None, codes, option_map};
 ghost use Rattle.clap.specs.Words.{subcommand_rows_of};
-ghost use Rattle.im_words.specs.Words.{has_statuses, is_of_script, task_in, task_of_work, telling_in, wait_in};
+ghost use Rattle.im_words.specs.Words.{has_statuses, texts_in, wait_in, work_in};
 
-use crate::copy_words::{copy_work, dump_work, load_work};
-use crate::format_words::format_work;
-use crate::look_words::{inspect_work, stat_work};
-use crate::migrate_words::migrate_work;
-use crate::parts::{is_given, seconds_given};
-use crate::script_words::{run_work, serial_work, telling_given};
-use crate::serve_words::serve_work;
+use crate::given::{is_given, seconds_given};
 use crate::words::{CommandLine, Work};
+use crate::works::{
+    copy_work, dump_work, format_work, inspect_work, load_work, migrate_work, run_work,
+    serial_work, serve_work, stat_work,
+};
 use clap::ArgMatches;
-use im_filters::Telling;
 
 /// What the command line asks for. Returns `None` if a number is not the decimal number of a u32, if a plan is to be
-/// done once, or if lines are to be told in two ways.
-fn work_of<'a>(matches: &ArgMatches<'a>) -> Option<Work<'a>>
-    ensures { option_map task_of_work result ≡ task_in (subcommand_rows_of matches.now) }
+/// done once, or if lines are to be said in two ways.
+fn work_of<'a>(matches: &ArgMatches<'a>) -> Option<Work<&'a str>>
+    ensures { option_map texts_in result ≡ work_in (subcommand_rows_of matches.now) }
 {
     match matches.subcommand() {
         None => Some(Work::Demonstration),
@@ -67,38 +64,14 @@ fn wait_of(matches: &ArgMatches<'_>) -> Option<u32>
     }
 }
 
-/// Whether a subcommand serves a script.
-fn is_of_script(name: &str) -> bool
-    ensures { result ≡ is_of_script name.now }
-{
-    name == "serial" || name == "run"
-}
-
-/// How the subcommand's lines are told.
-fn telling_of(matches: &ArgMatches<'_>) -> Telling
-    ensures { result ≡ telling_in (subcommand_rows_of matches.now) }
-{
-    match matches.subcommand() {
-        None => Telling::Plain,
-        Some((name, found)) => {
-            if is_of_script(name) {
-                telling_given(found).unwrap_or(Telling::Plain)
-            } else {
-                Telling::Plain
-            }
-        }
-    }
-}
-
-/// The work, how the program is to end, how long its openings wait, and how its lines are told. Returns `None` as
-/// [`work_of`] and [`wait_of`] do.
+/// The work, how the program is to end, and how long its openings wait. Returns `None` as [`work_of`] and [`wait_of`]
+/// do.
 pub(crate) fn line_of<'a>(matches: &ArgMatches<'a>) -> Option<CommandLine<'a>>
-    ensures work { IfSome result (λ line. task_in (subcommand_rows_of matches.now) ≡ Some (task_of_work line.work)) }
-    ensures none { IfNone result ((task_in (subcommand_rows_of matches.now) ≡ None)
+    ensures work { IfSome result (λ line. work_in (subcommand_rows_of matches.now) ≡ Some (texts_in line.work)) }
+    ensures none { IfNone result ((work_in (subcommand_rows_of matches.now) ≡ None)
         ⊎ (wait_in (subcommand_rows_of matches.now) ≡ None)) }
     ensures statuses { IfSome result (λ line. line.statuses ≡ has_statuses (subcommand_rows_of matches.now)) }
     ensures wait { IfSome result (λ line. wait_in (subcommand_rows_of matches.now) ≡ Some line.wait) }
-    ensures telling { IfSome result (λ line. line.telling ≡ telling_in (subcommand_rows_of matches.now)) }
 {
     let work = work_of(matches)?;
     let wait = wait_of(matches)?;
@@ -106,6 +79,5 @@ pub(crate) fn line_of<'a>(matches: &ArgMatches<'a>) -> Option<CommandLine<'a>>
         work,
         statuses: statuses_of(matches),
         wait,
-        telling: telling_of(matches),
     })
 }

@@ -1,7 +1,6 @@
 //! Tips for words that belong elsewhere, where clap has none.
 
-use crate::reading::imem_command;
-use crate::script_words::serial_command;
+use crate::faults::{error_of, top_error};
 use clap::Error;
 use clap::error::ErrorKind;
 use std::alloc::{AllocError, Global};
@@ -18,14 +17,7 @@ fn serial_error(alloc: Global, error: Error) -> Result<Error, AllocError> {
     if !text.as_str().contains("'--planned' found") {
         return Ok(error);
     }
-    let mut command = serial_command(alloc)?.bin_name("imem serial")?;
-    command.error(ErrorKind::UnknownArgument, NO_PLAN)
-}
-
-// The error of the program with no subcommand.
-fn top_error(alloc: Global, kind: ErrorKind, message: &str) -> Result<Error, AllocError> {
-    let mut command = imem_command(alloc)?;
-    command.error(kind, message)
+    error_of(alloc, "serial", ErrorKind::UnknownArgument, NO_PLAN)
 }
 
 /// Returns clap's error for these words, with a tip if they are right elsewhere.

@@ -1,62 +1,49 @@
 //! What the words of the command line ask for.
 
 use clap::Error;
-use im_filters::Telling;
 use im_migration::Asked;
 use im_report::View;
+use im_text::Style;
 
-/// What the program is asked to do.
+/// The number of cells of an image, if the command line doesn't say it.
+pub const DEFAULT_CELLS: u32 = 4_096;
+
+/// The number of elements of an image, if the command line doesn't say it.
+pub const DEFAULT_ELEMENTS: u32 = 16;
+
+/// The number of journal slots of an image, if the command line doesn't say it.
+pub const DEFAULT_SLOTS: u32 = 256;
+
+/// What the program is asked to do. `P` stands for a path: of the program's own work it is a text of the command line.
 #[derive(Clone, Copy)]
-pub enum Work<'a> {
+pub enum Work<P> {
     /// No subcommand: serve a short script on an image in memory.
     Demonstration,
-    /// The work of one thread on one file.
-    Alone(Job<'a>),
-    /// Run a script, the requests of each element by threads of its own.
-    Run(ScriptRun<'a>),
-    /// Give a new file what an old one means.
-    Transfer(Transfer<'a>),
-}
-
-/// The work of one thread on one file.
-#[derive(Clone, Copy)]
-pub enum Job<'a> {
     /// Make an image.
-    Format(Formatting<'a>),
+    Format(Formatting<P>),
     /// Serve the lines of a script in their order.
-    Serial(Serving<'a>),
+    Serial(Serving<P>),
+    /// Run a script, the requests of each element by threads of its own.
+    Run(ScriptRun<P>),
     /// Serve a dialogue on standard input.
-    Serve(Talking<'a>),
+    Serve(Talking<P>),
     /// Print what an image means, or some numbers of it.
-    Inspect {
-        /// The image's path.
-        image: &'a str,
-        /// What is printed.
-        look: View,
-    },
-    /// Print the dump of an image.
-    Dump {
-        /// The image's path.
-        image: &'a str,
-    },
+    Inspect(Inspection<P>),
+    /// Print the dump of the image at this path.
+    Dump(P),
     /// Make an image of the text of a dump.
-    Load(Loading<'a>),
-}
-
-/// The work of one thread on an old file, which is only read, and a new one.
-#[derive(Clone, Copy)]
-pub enum Transfer<'a> {
-    /// Move an image of the first layout version to a new file.
-    Migrate(Paths<'a>),
-    /// Copy an image to a new file.
-    Copy(Copying<'a>),
+    Load(Making<P>),
+    /// Move an image of the first layout version, which is only read, to a new file.
+    Migrate(Moving<P>),
+    /// Copy an image, which is only read, to a new file.
+    Copy(Making<P>),
 }
 
 /// The image that is made, with its sizes as given.
 #[derive(Clone, Copy)]
-pub struct Formatting<'a> {
+pub struct Formatting<P> {
     /// The path of the image.
-    pub image: &'a str,
+    pub image: P,
     /// The number of cells.
     pub cells: u32,
     /// The number of elements.
@@ -67,121 +54,85 @@ pub struct Formatting<'a> {
     pub is_new: bool,
 }
 
-/// What is served: the paths of the image and of the script, and whether it is done once.
+/// What is served: the paths of the image and of the script, and how.
 #[derive(Clone, Copy)]
-pub struct Serving<'a> {
+pub struct Serving<P> {
     /// The path of the image.
-    pub image: &'a str,
+    pub image: P,
     /// The path of the script. `-` stands for the input.
-    pub script: &'a str,
+    pub script: P,
     /// Whether what the image has of the script isn't asked anew.
     pub once: bool,
+    /// How its lines are said.
+    pub style: Style,
 }
 
 /// What is run: the paths of the image and of the script, and how.
 #[derive(Clone, Copy)]
-pub struct ScriptRun<'a> {
+pub struct ScriptRun<P> {
     /// The path of the image.
-    pub image: &'a str,
+    pub image: P,
     /// The path of the script. `-` stands for the input.
-    pub script: &'a str,
+    pub script: P,
     /// Whether the script is a plan.
     pub planned: bool,
     /// Whether what the image has of the script isn't asked anew.
     pub once: bool,
+    /// How its lines are said.
+    pub style: Style,
     /// The path of the new file for the trace, if one is asked for.
-    pub trace: Option<&'a str>,
+    pub trace: Option<P>,
 }
 
 /// What a dialogue is served on, and how.
 #[derive(Clone, Copy)]
-pub struct Talking<'a> {
+pub struct Talking<P> {
     /// The path of the image.
-    pub image: &'a str,
+    pub image: P,
     /// Whether the answers to requests that waited are printed when they come.
     pub watch: bool,
     /// The path of the folder for backups, if there is one.
-    pub backups: Option<&'a str>,
+    pub backups: Option<P>,
 }
 
-/// What an image is made of: the paths of the text and of the new file, and the sizes that are asked for.
+/// What is printed of an image.
 #[derive(Clone, Copy)]
-pub struct Loading<'a> {
-    /// The path of the text. `-` stands for the input.
-    pub text: &'a str,
-    /// The path of the new file.
-    pub new: &'a str,
-    /// The sizes.
-    pub asked: Asked,
+pub struct Inspection<P> {
+    /// The path of the image.
+    pub image: P,
+    /// What is printed.
+    pub look: View,
 }
 
 /// The paths of an old file and a new one.
 #[derive(Clone, Copy)]
-pub struct Paths<'a> {
+pub struct Moving<P> {
     /// The path of the old file.
-    pub old: &'a str,
+    pub old: P,
     /// The path of the new file.
-    pub new: &'a str,
+    pub new: P,
 }
 
-/// What a copy is made of: the paths of the image and of the new file, and the sizes that are asked for.
+/// What an image is made of: an image or the text of a dump, and the sizes that are asked for.
 #[derive(Clone, Copy)]
-pub struct Copying<'a> {
-    /// The path of the image.
-    pub old: &'a str,
+pub struct Making<P> {
+    /// The path of the image or the text. `-` stands for a text from the input.
+    pub from: P,
     /// The path of the new file.
-    pub new: &'a str,
+    pub new: P,
     /// The sizes.
     pub asked: Asked,
-}
-
-impl<'a> Job<'a> {
-    /// Returns the paths of its two files, as [`Work::paths`] does.
-    pub fn paths(&self) -> (&'a str, &'a str) {
-        match *self {
-            Job::Format(Formatting { image, .. }) => (image, ""),
-            Job::Inspect { image, .. } | Job::Dump { image } => (image, ""),
-            Job::Serial(Serving { image, script, .. }) => (image, script),
-            Job::Serve(Talking { image, .. }) => (image, "-"),
-            Job::Load(Loading { text, new, .. }) => (text, new),
-        }
-    }
-}
-
-impl<'a> Transfer<'a> {
-    /// Returns the paths of the old file and of the new one.
-    pub fn paths(&self) -> (&'a str, &'a str) {
-        match *self {
-            Transfer::Migrate(Paths { old, new }) => (old, new),
-            Transfer::Copy(Copying { old, new, .. }) => (old, new),
-        }
-    }
-}
-
-impl<'a> Work<'a> {
-    /// Returns the paths of its two files, an empty one for none. The first is that of the image, or of what a new file
-    /// is made of. The second is that of the script or the lines, or of the new file.
-    pub fn paths(&self) -> (&'a str, &'a str) {
-        match *self {
-            Work::Demonstration => ("", ""),
-            Work::Alone(job) => job.paths(),
-            Work::Run(ScriptRun { image, script, .. }) => (image, script),
-            Work::Transfer(transfer) => transfer.paths(),
-        }
-    }
 }
 
 /// What the command line asks for, and how the program is to end.
 #[derive(Clone, Copy)]
 pub struct CommandLine<'a> {
     /// What is to be done.
-    pub work: Work<'a>,
+    pub work: Work<&'a str>,
     /// Whether the exit status tells refusals apart.
     pub statuses: bool,
     /// How many seconds the opening of a file waits for its lock.
     pub wait: u32,
-    /// How the lines on standard output are told.
-    pub telling: Telling,
 }
 
 /// Why the command line asks for no work.

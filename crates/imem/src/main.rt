@@ -5,22 +5,22 @@ ghost use Rattle.std.specs.Prelude.{◌≡◌, ◌≤◌, ◌⊎◌, map, IfOk, 
 ghost use Rattle.std.specs.Process.{exit_status};
 ghost use Rattle.im_program.specs.Ending.{EndedBy};
 
+mod machine;
 mod openings;
 mod working;
 
+use crate::machine::Machine;
 use crate::openings::{Clocked, Openings};
 use crate::working::{Surroundings, work_on};
 use im_disk::{Disk, FileDisk, Start};
 use im_program::{Descriptors, Terminals, WordFault, read_words, refuse};
+use im_text::Style;
 use im_types::Refusal;
 use std::alloc::{AllocError, Global};
 use std::env::{self, Env};
-use std::fs::File;
-use std::io::{self, Eprint, Input, IsTerminal, Print, Read, Write};
+use std::io::{self, Eprint, Input, IsTerminal, Read, Write};
+use std::marker::Brand;
 use std::process::ExitCode;
-use std::rt::Files;
-use std::sync::Wait;
-use std::thread::Threads;
 
 // Returns the status once a text is printed in place of work: 2 for bad words. Else the help or the version was asked
 // for, and the status says whether it was printed.
@@ -33,49 +33,6 @@ fn status_after(is_fault: bool, printed: io::Result<()>) -> u8
     match printed {
         Ok(()) => 0,
         Err(_) => 1,
-    }
-}
-
-/// Does what the words ask for. Returns the status that the program ends with, the writer, and the disks of the files
-/// that were opened.
-fn run<
-    R: Files<File = File>
-        + AllocGlobal
-        + Print
-        + Eprint
-        + Threads
-        + Wait
-        + Copy
-        + Drop
-        + Send
-        + Sync
-        + 'static,
-    S: Start + Send,
-    T: Start,
-    M: Openings<S, T>,
-    I: Read + Drop + Send + 'static,
-    W: Write + Drop,
->(
-    place: &Surroundings<'_, R>,
-    words: &[&str],
-    mut out: W,
-    input: I,
-    openings: &M,
-) -> (u8, W, Option<FileDisk<S>>, Option<FileDisk<T>>)
-    ensures few { result.0 ≤ 5 }
-    ensures ended { EndedBy S.Start T.Start ⟦<FileDisk<S> as Disk>⟧ ⟦<FileDisk<T> as Disk>⟧ (map (λ w. w.now) words.now)
-        (I.remaining input) (W.contents out) (W.contents result.1) result.0 result.2 result.3 }
-{
-    match read_words(place.rt.alloc(), words) {
-        Ok(line) => work_on(place, &line, out, input, openings.starts(line.wait)),
-        Err(WordFault::NoMemory) => {
-            let status = refuse(place.rt.alloc(), Refusal::NoMemory, &mut out);
-            (status, out, None, None)
-        }
-        Err(WordFault::Bad(error)) => {
-            let printed = error.print(place.rt);
-            (status_after(error.use_stderr(), printed), out, None, None)
-        }
     }
 }
 
@@ -92,17 +49,7 @@ fn texts(alloc: Global, words: &[String]) -> Result<Vec<&str>, AllocError>
 /// The exit status is that of the work, or 1, 4 or 5 if that was refused: it is 0 only if all that was asked for was
 /// done and told.
 fn start<
-    R: Files<File = File>
-        + AllocGlobal
-        + Print
-        + Eprint
-        + Threads
-        + Wait
-        + Copy
-        + Drop
-        + Send
-        + Sync
-        + 'static,
+    R: Machine,
     S: Start + Send,
     T: Start,
     M: Openings<S, T>,
@@ -120,13 +67,22 @@ fn start<
         (map string_bytes words.now) (I.remaining input) (W.contents out) (W.contents result.1)
         (exit_status result.0) result.2 result.3 }
 {
-    match texts(place.rt.alloc(), words) {
-        Ok(texts) => {
-            let (status, out, disk, old) = run(place, texts.as_slice(), out, input, openings);
-            (ExitCode::from(status), out, disk, old)
+    let Ok(texts) = texts(place.rt.alloc(), words) else {
+        let status = refuse(place.rt.alloc(), Style::Text, Refusal::NoMemory, &mut out);
+        return (ExitCode::from(status), out, None, None);
+    };
+    match read_words(place.rt.alloc(), texts.as_slice()) {
+        Ok(line) => {
+            let starts = openings.starts(line.wait);
+            let done = work_on::<R, S, T, I, W, Brand>(place, &line, out, input, starts);
+            (ExitCode::from(done.0), done.1, done.2, done.3)
         }
-        Err(_) => {
-            let status = refuse(place.rt.alloc(), Refusal::NoMemory, &mut out);
+        Err(WordFault::NoMemory) => {
+            let status = refuse(place.rt.alloc(), Style::Text, Refusal::NoMemory, &mut out);
+            (ExitCode::from(status), out, None, None)
+        }
+        Err(WordFault::Bad(error)) => {
+            let status = status_after(error.use_stderr(), error.print(place.rt));
             (ExitCode::from(status), out, None, None)
         }
     }
@@ -146,7 +102,7 @@ fn no_words<R: AllocGlobal + Eprint, W: Write>(rt: &R, error: &io::Error, out: &
     ensures { (exit_status result ≡ 1) ⊎ (exit_status result ≡ 2) }
 {
     if error.kind() == io::ErrorKind::OutOfMemory {
-        return ExitCode::from(refuse(rt.alloc(), Refusal::NoMemory, out));
+        return ExitCode::from(refuse(rt.alloc(), Style::Text, Refusal::NoMemory, out));
     }
     let _printed = rt.eprintln("error: each word of the command line has to be UTF-8 text");
     ExitCode::from(2)

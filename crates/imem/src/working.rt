@@ -3,18 +3,16 @@ ghost use Rattle.std.specs.Prelude.{◌≡◌, ◌≤◌};
 ghost use Rattle.im_listening.specs.{Lending.HasBytes, Listening.still_in};
 ghost use Rattle.im_program.specs.Ending.{EndedOn};
 
+use crate::machine::Machine;
 use im_disk::{Disk, FileDisk, Start};
-use im_listening::{Ear, InputBytes, Listener};
+use im_listening::{InputBytes, Listener};
 use im_program::{
-    AtHand, CommandLine, Console, Descriptors, Job, Prompter, Terminals, Work, act_told, refuse,
-    status_for,
+    AtHand, CommandLine, Console, Descriptors, Prompter, Terminals, Work, act, refuse, status_for,
 };
+use im_text::Style;
 use im_types::Refusal;
 use std::alloc::Global;
-use std::fs::File;
 use std::io::{BufReader, Eprint, Read, Write};
-use std::marker::Brand;
-use std::rt::Files;
 use std::sync::Wait;
 use std::thread::Threads;
 
@@ -28,7 +26,7 @@ pub(crate) struct Surroundings<'a, R> {
 
 // Whether a dialogue is to be served.
 fn is_dialogue(line: &CommandLine) -> bool {
-    matches!(line.work, Work::Alone(Job::Serve(_)))
+    matches!(line.work, Work::Serve(_))
 }
 
 // Whether a person types the lines of a dialogue.
@@ -60,28 +58,34 @@ fn listen<
     listener
 }
 
-// Does the work on what is heard. Returns the status, the writer, and the disks as `act_told` does.
-fn work_heard<
-    R: Files<File = File> + AllocGlobal + Eprint + Threads + Wait + Sync,
+/// Does the work of a command line. Each read of standard input takes as much as there is, so that lines of a dialogue
+/// that come together are served together. In a dialogue a thread listens to standard input, and a person at a terminal
+/// sees a prompt. If standard input doesn't block, the program waits for it.
+pub(crate) fn work_on<
+    R: Machine,
     S: Start + Send,
     T: Start,
-    I: Read + Ear + Drop,
+    I: Read + Drop + Send + 'static,
     W: Write + Drop,
+    K: InputBytes + Send + 'static,
 >(
     place: &Surroundings<'_, R>,
     line: &CommandLine,
     mut out: W,
-    heard: I,
+    input: I,
     starts: (S, T),
 ) -> (u8, W, Option<FileDisk<S>>, Option<FileDisk<T>>)
+    requires whole { HasBytes K.whole (I.remaining input) }
     ensures few { result.0 ≤ 5 }
-    ensures ended { EndedOn S.Start T.Start ⟦<FileDisk<S> as Disk>⟧ ⟦<FileDisk<T> as Disk>⟧ line.now
-        (I.remaining heard) (W.contents out) (W.contents result.1) result.0 result.2 result.3 }
+    ensures ended { EndedOn S.Start T.Start ⟦<FileDisk<S> as Disk>⟧ ⟦<FileDisk<T> as Disk>⟧ line.now K.whole
+        (W.contents out) (W.contents result.1) result.0 result.2 result.3 }
 {
     let rt = place.rt;
+    tell_help(rt, line, place.terminals);
+    let heard: Listener<R, I, K> = listen(rt, rt.alloc(), input, line);
     let prompter = Prompter::new(rt, heard, prompts(line, place.terminals));
     let Ok(mut input) = BufReader::new(rt.alloc(), prompter) else {
-        let status = refuse(rt.alloc(), Refusal::NoMemory, &mut out);
+        let status = refuse(rt.alloc(), Style::Text, Refusal::NoMemory, &mut out);
         return (status, out, None, None);
     };
     let mut console = Console::new(rt, place.held, &line.work, place.terminals);
@@ -91,73 +95,7 @@ fn work_heard<
         input: &mut input,
         observer: &mut console,
     };
-    let (status, out, disk, old) = act_told(hand, line, out, starts);
+    let (status, disk, old) = act(hand, line, &mut out, starts);
     let ends = status_for(status, line.statuses, console.reason());
     (ends, out, disk, old)
-}
-
-// Listens to the input, and does the work on what is heard.
-fn work_listening<
-    R: Files<File = File>
-        + AllocGlobal
-        + Eprint
-        + Threads
-        + Wait
-        + Copy
-        + Drop
-        + Send
-        + Sync
-        + 'static,
-    S: Start + Send,
-    T: Start,
-    I: Read + Drop + Send + 'static,
-    W: Write + Drop,
-    K: InputBytes + Send + 'static,
->(
-    place: &Surroundings<'_, R>,
-    line: &CommandLine,
-    out: W,
-    input: I,
-    starts: (S, T),
-) -> (u8, W, Option<FileDisk<S>>, Option<FileDisk<T>>)
-    requires whole { HasBytes K.whole (I.remaining input) }
-    ensures few { result.0 ≤ 5 }
-    ensures ended { EndedOn S.Start T.Start ⟦<FileDisk<S> as Disk>⟧ ⟦<FileDisk<T> as Disk>⟧ line.now K.whole
-        (W.contents out) (W.contents result.1) result.0 result.2 result.3 }
-{
-    let listener: Listener<R, I, K> = listen(place.rt, place.rt.alloc(), input, line);
-    work_heard(place, line, out, listener, starts)
-}
-
-/// Does the work, and tells its lines as the command line says. Each read of standard input takes as much as there is,
-/// so that lines of a dialogue that come together are served together. In a dialogue a thread listens to standard
-/// input, and a person at a terminal sees a prompt. If standard input doesn't block, the program waits for it.
-pub(crate) fn work_on<
-    R: Files<File = File>
-        + AllocGlobal
-        + Eprint
-        + Threads
-        + Wait
-        + Copy
-        + Drop
-        + Send
-        + Sync
-        + 'static,
-    S: Start + Send,
-    T: Start,
-    I: Read + Drop + Send + 'static,
-    W: Write + Drop,
->(
-    place: &Surroundings<'_, R>,
-    line: &CommandLine,
-    out: W,
-    input: I,
-    starts: (S, T),
-) -> (u8, W, Option<FileDisk<S>>, Option<FileDisk<T>>)
-    ensures few { result.0 ≤ 5 }
-    ensures ended { EndedOn S.Start T.Start ⟦<FileDisk<S> as Disk>⟧ ⟦<FileDisk<T> as Disk>⟧ line.now
-        (I.remaining input) (W.contents out) (W.contents result.1) result.0 result.2 result.3 }
-{
-    tell_help(place.rt, line, place.terminals);
-    work_listening::<R, S, T, I, W, Brand>(place, line, out, input, starts)
 }

@@ -16,14 +16,14 @@ returns-in-Ok-clause-talked g c = λ honest.
     c.talk_on.result.0
     ⊎ Talked g.D.Disk s.watch c.args.disk c.talk_on.result.1 before after c.talk_on.result.0)
     c.new-dialogue.ensures.setting
-    (inr (talked g.D.Disk dialogue.setting.watch c.args.disk dialogue.session opened c.talk_on.result.1 before after
+    (inr (talked g.D.Disk dialogue.setting.watch c.args.disk dialogue.front.session opened c.talk_on.result.1 before after
     c.talk_on.result.0 c.talk_on.ensures.closed honest))
 
 pub returns-in-Ok-clause-honest : goal.returns-in-Ok-clause-honest
 returns-in-Ok-clause-honest g c = λ honest.
     let dialogue = c.new-dialogue.result in
     let opened = subst (BeginsTalk g.D.Disk c.args.disk) (sym c.new-dialogue.ensures.session) c.in-Ok.ensures.begins in
-    honest_before g.D.Disk dialogue.setting.watch c.args.disk dialogue.session opened c.talk_on.result.1
+    honest_before g.D.Disk dialogue.setting.watch c.args.disk dialogue.front.session opened c.talk_on.result.1
     (with_input (g.R.Read.remaining c.args.input.now)
     (outputs (g.W.Write.contents c.args.out.now) (g.B.Backups.kept c.args.backups.now)))
     (outputs (g.W.Write.contents c.talk_on.new.out) (g.B.Backups.kept c.talk_on.new.backups)) c.talk_on.result.0

@@ -4,7 +4,7 @@ use Rattle.im_dialogue.proofs.dialogue.talk_on.Goals as goal
 
 pub returns-in-Ok-clause-closed : goal.returns-in-Ok-clause-closed
 returns-in-Ok-clause-closed g c =
-    closed_on g.D.Disk c.args.dialogue.setting.watch c.args.dialogue.session c.serve_lines.new.self.session
+    closed_on g.D.Disk c.args.dialogue.setting.watch c.args.dialogue.front.session c.serve_lines.new.self.front.session
     c.requires.begins c.requires.works c.close.ensures.kept c.close.result c.close.ensures.disk
     (with_input (g.R.Read.remaining c.args.input.now)
     (outputs (g.W.Write.contents c.args.out.now) (g.B.Backups.kept c.args.backups.now))) 0
@@ -13,7 +13,7 @@ returns-in-Ok-clause-closed g c =
 
 pub returns-in-Err-clause-closed : goal.returns-in-Err-clause-closed
 returns-in-Err-clause-closed g c =
-    closed_by g.D.Disk c.args.dialogue.setting.watch c.args.dialogue.session c.serve_lines.new.self.session
+    closed_by g.D.Disk c.args.dialogue.setting.watch c.args.dialogue.front.session c.serve_lines.new.self.front.session
     c.requires.begins c.requires.works c.close-in-Err.ensures.kept c.close-in-Err.result c.close-in-Err.ensures.disk
     (with_input (g.R.Read.remaining c.args.input.now)
     (outputs (g.W.Write.contents c.args.out.now) (g.B.Backups.kept c.args.backups.now))) c.end.result

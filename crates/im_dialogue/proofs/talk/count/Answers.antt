@@ -6,7 +6,7 @@ use Rattle.im_dialogue.specs.declared.answers.LineAnswer.TheVariants as answer
 use Rattle.im_dialogue.proofs.talk.count.Goals as goal
 
 pub returns-clause-answered : goal.returns-clause-answered
-returns-clause-answered g c = quiet c.args.session.now (Some asks.Count) (answer.Count c.count.result) (λ m. refl)
+returns-clause-answered g c = quiet c.args.front.now.session (Some asks.Count) (answer.Count c.count.result) (λ m. refl)
     (λ f turns. ap (λ n. answer.Count n)
     (c.count.ensures ∙ ap (λ (e : EngineState _). e.count) c.engine.ensures.state))
 

@@ -6,7 +6,7 @@ use Rattle.im_dialogue.specs.declared.answers.LineAnswer.TheVariants as answer
 use Rattle.im_dialogue.proofs.talk.keep.Goals as goal
 
 pub returns-in-Ok-clause-answered : goal.returns-in-Ok-clause-answered
-returns-in-Ok-clause-answered g c = quiet c.args.session.now (Some (asks.Backup c.args.name))
+returns-in-Ok-clause-answered g c = quiet c.args.front.now.session (Some (asks.Backup c.args.name))
     (answer.Backup c.args.name (Ok c.count-count.result)) (λ m. refl)
     (λ f turns. (
       Ok c.count-count.result,
@@ -21,5 +21,5 @@ returns-in-Ok-clause-kept g c =
     c.in-Ok.ensures.kept ∙ ap (λ (m : Contents). made m ∷ g.B.Backups.kept c.args.backups.now) c.memory.ensures
 
 pub returns-in-Err-clause-answered : goal.returns-in-Err-clause-answered
-returns-in-Err-clause-answered g c = quiet c.args.session.now (Some (asks.Backup c.args.name))
+returns-in-Err-clause-answered g c = quiet c.args.front.now.session (Some (asks.Backup c.args.name))
     (answer.Backup c.args.name (Err c.in-Err.fault)) (λ m. refl) (λ f turns. (Err c.in-Err.fault, refl, tt))

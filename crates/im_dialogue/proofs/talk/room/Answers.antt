@@ -6,7 +6,7 @@ use Rattle.im_dialogue.specs.declared.answers.LineAnswer.TheVariants as answer
 use Rattle.im_dialogue.proofs.talk.room.Goals as goal
 
 pub returns-clause-answered : goal.returns-clause-answered
-returns-clause-answered g c = quiet c.args.session.now (Some asks.Room) (answer.Room c.room.result) (λ m. refl)
+returns-clause-answered g c = quiet c.args.front.now.session (Some asks.Room) (answer.Room c.room.result) (λ m. refl)
     (λ f turns. ap (λ r. answer.Room r)
     (c.room.ensures ∙ ap (λ (e : EngineState _). e.room) c.engine.ensures.state))
 

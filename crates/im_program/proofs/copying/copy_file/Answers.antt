@@ -15,7 +15,7 @@ returns-in-Ok-clause-copied g c =
     let was = g.W.Write.contents c.args.out.now in
     let between = g.W.Write.contents c.print_counted-told.new.out in
     let is = g.W.Write.contents c.end.new.out in
-    moved g.S.Start other (MeansCopy c.args.copying.now.asked) (TellsCount layout_in_use (codes "copied")) bytes
+    moved g.S.Start other (MeansCopy c.args.making.now.asked) (TellsCount layout_in_use (codes "copied")) bytes
     c.in_ok-length.length c.in_ok-to.to c.in-Ok.to old c.in_ok-to.ensures.found
     (same_bytes other opened mid old c.in_ok-from.ensures.found c.in_ok-length.ensures.reads.reads
     c.copy.ensures.reads.honest)

@@ -8,7 +8,7 @@ returns-clause-loaded g c =
     let mid = g.W.Write.contents c.print_counted-told.new.out in
     let is = g.W.Write.contents c.end.new.out in
     let line = counted_line (codes "loaded") c.in-Ok.loaded.count in
-    loaded_from c.args.loading.now.asked c.in-Ok.loaded c.in_ok-resized.resized c.in_ok-resized.ensures.whole
+    loaded_from c.args.making.now.asked c.in-Ok.loaded c.in_ok-resized.resized c.in_ok-resized.ensures.whole
     c.in_ok-resized.ensures.source g.S.Start c.in_ok-to.to c.in_ok-to.ensures.put _
     (rw c.parts-input.ensures.input at c.in-Ok.ensures) was is c.end.result
     (λ done. appends_kept was mid is line

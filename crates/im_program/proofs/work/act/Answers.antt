@@ -1,29 +1,21 @@
-use Rattle.std.proofs.Common.{⊎_elim}
-use Rattle.im_program.proofs.{OkLemmas.some_each, OkLemmas.some_then, TransferLemmas.is_of_two, TransferLemmas.of_two}
+use Rattle.{im_disk.specs.contracts.file.FileDiskDisk.TheImpl.ghosts, im_words.specs.Words.texts_in}
+use Rattle.im_program.proofs.{SourceLemmas.done_with, ToldLemmas.done_or_refused, ToldLemmas.nothing_done}
 use Rattle.im_program.proofs.work.act.Goals as goal
 
-pub returns-in-Alone-clause-done : goal.returns-in-Alone-clause-done
-returns-in-Alone-clause-done g c = rw c.in-Alone.is c.act_alone-status.ensures.done
+pub returns-then-may_do-clause-done : goal.returns-then-may_do-clause-done
+returns-then-may_do-clause-done g c = nothing_done _ _ _ _ _ _ _ c.refuse.ensures.status
 
-pub returns-in-Run-clause-done : goal.returns-in-Run-clause-done
-returns-in-Run-clause-done g c = rw c.in-Run.is c.act_at_once-status.ensures.ran
-
-pub returns-in-Transfer-clause-done : goal.returns-in-Transfer-clause-done
-returns-in-Transfer-clause-done g c = rw c.in-Transfer.is
-    (some_each _ c.act_on_two.result.1 (λ disk honest.
-    ⊎_elim (λ m. rw m.2 tt) (λ m. rw m.3 tt) (of_two c.in-Transfer.transfer)))
-
-pub returns-in-Transfer-clause-moved : goal.returns-in-Transfer-clause-moved
-returns-in-Transfer-clause-moved g c = rw c.in-Transfer.is
-    (some_then _ _ c.act_on_two.result.1 (λ disk moved of_two. moved) c.act_on_two.ensures.moved)
-
-pub returns-in-Transfer-clause-other : goal.returns-in-Transfer-clause-other
-returns-in-Transfer-clause-other g c = rw c.in-Transfer.is
-    (some_then _ _ c.act_on_two.result.2 (λ disk named. (is_of_two c.in-Transfer.transfer, named))
-    c.act_on_two.ensures.old)
-
-pub returns-in-Run-clause-named : goal.returns-in-Run-clause-named
-returns-in-Run-clause-named g c = rw c.in-Run.is c.act_at_once-status.ensures.named
-
-pub returns-in-Transfer-clause-named : goal.returns-in-Transfer-clause-named
-returns-in-Transfer-clause-named g c = rw c.in-Transfer.is c.act_on_two.ensures.named
+pub returns-clause-done : goal.returns-clause-done
+returns-clause-done g c =
+    let d = ghosts g.row.S g.S.Start g.S.Start-dict g.S.Destruct-dict in
+    let e = ghosts g.row.T g.T.Start g.T.Start-dict g.T.Destruct-dict in
+    let work = texts_in c.args.line.now.work in
+    let was = g.W.Write.contents c.args.out.now in
+    let is = g.W.Write.contents c.or_refused-status.new.out in
+    let r = c.or_refused-status.result in
+    let done = done_or_refused g.S.Start g.T.Start d e (g.I.Read.remaining c.may_do.new.input) work
+    (λ w. g.W.Write.contents w) was c.do_work-done.new.out c.or_refused-status.new.out c.do_work-done.result r
+    c.do_work-done.ensures.done c.or_refused-status.ensures in
+    rw c.parts-input.ensures.input at (done_with {I = g.row.I.Denot} g.S.Start g.T.Start d e
+    (λ i. g.I.Read.remaining i) c.parts-input.result.2.now c.may_do.new.input work c.may_do.ensures was is
+    r.0 r.1 r.2 done)

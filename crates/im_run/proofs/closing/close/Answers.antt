@@ -9,7 +9,7 @@ returns-clause-printed g c =
     let m = c.memory.result.now.contents in
     let was = g.W.Write.contents c.args.out.now in
     let is = g.W.Write.contents f.new.out in
-    let before = c.args.paper.lines in
+    let before = c.args.lines in
     subst (λ (x : Contents). Closes was before is x c.args.ending.did.items c.status_of.result) c.memory.ensures
     (subst (λ (d : List Did). Closes was before is m d c.status_of.result) c.as_slice.ensures.value
     (closed_by was (g.W.Write.contents t.new.out) is before t.new.lines f.new.lines m c.as_slice.result.now c.status_of.result t.ensures.some

@@ -1,6 +1,6 @@
 use Rattle.std.proofs.Common.{◌++◌, sym, subst}
 use Rattle.im_session.specs.Kept.{Kept, SessionState}
-use Rattle.im_text.{proofs.PrintingLemmas.prints_begins, specs.declared.Lines.Lines, specs.Printing.Prints}
+use Rattle.im_text.{proofs.SaidLemmas.prints_begins, specs.declared.Lines.Lines, specs.Said.Prints}
 use Rattle.im_run.proofs.once.refuse_rest.Goals as goal
 
 pub returns-clause-last : goal.returns-clause-last

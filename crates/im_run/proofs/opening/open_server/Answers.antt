@@ -1,5 +1,6 @@
 use Rattle.std.proofs.Common.{ap, ◌∙◌}
-use Rattle.{im_session.specs.Kept.SessionState, im_serial.proofs.OnceLemmas.ready_of}
+use Rattle.im_session.specs.Kept.{SessionState}
+use Rattle.{im_text.specs.declared.Lines.Lines, im_serial.proofs.OnceLemmas.ready_of}
 use Rattle.im_run.proofs.opening.open_server.Goals as goal
 
 pub returns-in-Ok-open-clause-nothing : goal.returns-in-Ok-open-clause-nothing
@@ -13,3 +14,6 @@ returns-in-Ok-open-clause-nothing g c =
 pub returns-in-Ok-open-clause-opened : goal.returns-in-Ok-open-clause-opened
 returns-in-Ok-open-clause-opened g c = ap (λ (s : SessionState g.row.D.Denot). s.start.disk)
     c.new-server.ensures.session ∙ c.in-Ok-open.ensures.opened
+
+pub returns-in-Ok-open-clause-style : goal.returns-in-Ok-open-clause-style
+returns-in-Ok-open-clause-style g c = ap (λ (l : Lines). l.style) c.new-server.ensures.lines ∙ c.in-Ok.ensures.style

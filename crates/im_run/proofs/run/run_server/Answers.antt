@@ -1,7 +1,8 @@
 use Rattle.std.proofs.Common.{Bool, [], ◌++◌, map, Some, sym, refl, ap, ◌∙◌, subst}
 use Rattle.im_session.specs.Kept.{SessionStart, SessionState, start_at}
-use Rattle.{im_text.specs.declared.Lines.Lines, im_serial.specs.Asked.standing, im_serial.specs.Noted.notes}
+use Rattle.im_text.specs.{declared.Lines.Lines, Said.output}
 use Rattle.im_serial.proofs.{AskedLemmas.named_here, AskedLemmas.stands_here, ScriptedLemmas.as_of}
+use Rattle.im_serial.specs.{Asked.standing, Noted.notes}
 use Rattle.im_serial.specs.Serving.{EndedAt, GoingAt, seen_by, server_of}
 use Rattle.im_run.proofs.BlocksLemmas.{begun, names_made, sets_up, setup_course}
 use Rattle.im_run.{proofs.OrdersLemmas.if_ok_at, proofs.OrdersLemmas.match_ok, proofs.RunningLemmas.ended_run}
@@ -16,7 +17,7 @@ returns-in-Ok-clause-run g c =
     let m = server.session.engine.memory in
     let start = start_at server.session.start.disk server.session.engine in
     let at = ap (λ (x : SessionState g.row.D.Denot). x.start) c.requires.ready.fresh in
-    let held = g.W.Write.contents c.args.out.now in
+    let held = output server.lines.style (g.W.Write.contents c.args.out.now) in
     let once = c.args.asked.once in
     let planned = c.args.asked.planned in
     let script = c.args.asked.script.now in
@@ -31,7 +32,7 @@ returns-in-Ok-clause-run g c =
     let there = standing (Some course) bases [] in
     let going = subst (λ (x : SessionStart g.row.D.Denot). GoingAt x held there (seen_by after from)) at
     (match_ok _ r.result.0 c.in-Ok.work c.in-Ok.is r.ensures.served.serves server.session.start held (Some course) []
-    (begun course (seen_by server held) [] c.requires.ready refl)) in
+    (begun course (seen_by server held.held) [] c.requires.ready refl)) in
     let it = going.serving in
     let orders = map ask_of c.in-Ok.work.orders.items in
     let whole = asks_in c.in-Ok.work.whole in
@@ -59,7 +60,7 @@ returns-in-Err-clause-run g c =
     let m = server.session.engine.memory in
     let start = start_at server.session.start.disk server.session.engine in
     let at = ap (λ (x : SessionState g.row.D.Denot). x.start) c.requires.ready.fresh in
-    let held = g.W.Write.contents c.args.out.now in
+    let held = output server.lines.style (g.W.Write.contents c.args.out.now) in
     let once = c.args.asked.once in
     let planned = c.args.asked.planned in
     let script = c.args.asked.script.now in
@@ -75,7 +76,7 @@ returns-in-Err-clause-run g c =
     let is = g.W.Write.contents k.new.out in
     let w = r.new.server.waited.items in
     let marks = r.new.server.places.marks.items in
-    let lines = v.result.1.lines in
+    let lines = v.result.1 in
     let served = c.new-served.result in
     let calls : TraceState = record { setup = r.result.1.items; served = served.items; recorded = served.recorded } in
     let ended = subst (λ (x : SessionStart g.row.D.Denot). EndedAt x held (Some course)
@@ -84,7 +85,7 @@ returns-in-Err-clause-run g c =
     (server_of x from l w marks)) r.new.server.session t r.new.server.lines lines
     (n.ensures.session ∙ v.ensures.session) v.ensures.lines
     (r.ensures.served.ends server.session.start held (Some course) []
-    (begun course (seen_by server held) [] c.requires.ready refl))) in
+    (begun course (seen_by server held.held) [] c.requires.ready refl))) in
     let over = ended.over in
     subst (λ (x : SessionStart g.row.D.Denot). RunWhen d once planned script x k.result.1 held is calls k.result.0) (sym
     at)

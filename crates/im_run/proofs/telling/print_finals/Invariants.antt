@@ -1,4 +1,4 @@
-use Rattle.im_text.specs.Printing.{PrintsMore}
+use Rattle.im_text.specs.Said.{PrintsMore}
 use Rattle.im_run.specs.Running.{finals}
 
 abbrev pub invariant-loop-at : Rattle.im_run.proofs.telling.print_finals.Given.invariant-loop-at

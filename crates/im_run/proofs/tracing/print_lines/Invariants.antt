@@ -1,6 +1,6 @@
 use Rattle.std.proofs.Common.{◌++◌}
-use Rattle.im_run.specs.Tracing.{PrintsMarked}
+use Rattle.im_run.specs.Tracing.{PrintsTraced}
 
 abbrev pub invariant-loop-at : Rattle.im_run.proofs.tracing.print_lines.Given.invariant-loop-at
-invariant-loop-at g l = PrintsMarked l.both.marked l.both.setup.now (l.both.setup.now ++ l.both.served.now) l.at
-    (g.W.Write.contents l.fn.out) l.fn.lines (g.W.Write.contents l.out) l.lines
+invariant-loop-at g l = PrintsTraced l.both.objects l.both.setup.now (l.both.setup.now ++ l.both.served.now) l.at
+    (g.W.Write.contents l.fn.out) l.fn.batch (g.W.Write.contents l.out) l.batch

@@ -1,5 +1,6 @@
 use Rattle.std.proofs.Common.{ap, ◌∙◌, subst, inr}
 use Rattle.im_session.specs.Kept.{SessionState}
+use Rattle.im_text.specs.{declared.Lines.Lines, declared.Style.Style, Said.output}
 use Rattle.im_serial.{proofs.OnceLemmas.ready_of, specs.Once.ServedOnce}
 use Rattle.im_serial.proofs.serial.open_and_serve_once.Goals as goal
 
@@ -16,10 +17,15 @@ serve_once_on-requires g c =
 
 pub returns-in-Ok-open-clause-served : goal.returns-in-Ok-open-clause-served
 returns-in-Ok-open-clause-served g c = λ honest.
-    inr (subst (λ (d : g.row.D.Denot). ServedOnce g.D.Disk c.args.script.now d c.serve_once_on.result.1
-    (g.W.Write.contents c.args.out.now) (g.W.Write.contents c.serve_once_on.new.out) c.serve_once_on.result.0)
-    (ap (λ (s : SessionState g.row.D.Denot). s.start.disk) c.new-server.ensures.session ∙ c.in-Ok-open.ensures.opened)
-    c.serve_once_on.ensures.served)
+    let script = c.args.styled.now.script.now in
+    let was = g.W.Write.contents c.args.out.now in
+    let is = g.W.Write.contents c.serve_once_on.new.out in
+    let r = c.serve_once_on.result in
+    let n = c.new-server in
+    inr (subst (λ (d : g.row.D.Denot). ServedOnce g.D.Disk script d r.1 (output c.args.styled.now.style was) is r.0)
+    (ap (λ (s : SessionState g.row.D.Denot). s.start.disk) n.ensures.session ∙ c.in-Ok-open.ensures.opened)
+    (subst (λ (s : Style). ServedOnce g.D.Disk script n.result.session.start.disk r.1 (output s was) is r.0)
+    (ap (λ (l : Lines). l.style) n.ensures.lines ∙ c.in-Ok.ensures.style) c.serve_once_on.ensures.served))
 
 pub returns-in-Ok-open-clause-honest : goal.returns-in-Ok-open-clause-honest
 returns-in-Ok-open-clause-honest g c = λ honest.

@@ -1,11 +1,18 @@
 use Rattle.std.proofs.Common.{subst, inr}
+use Rattle.im_text.specs.{declared.Style.Style, Said.output}
 use Rattle.im_serial.specs.Serving.{ServedScript}
 use Rattle.im_serial.proofs.serial.serial_on.Goals as goal
 
 pub returns-in-Ok-open-clause-served : goal.returns-in-Ok-open-clause-served
 returns-in-Ok-open-clause-served g c = λ honest.
-    inr (subst (λ (d : g.row.D.Denot). ServedScript g.D.Disk c.args.script.now d c.serve_on.result.1
-    (g.W.Write.contents c.args.out.now) (g.W.Write.contents c.serve_on.new.out) c.serve_on.result.0) c.in-Ok-open.ensures.opened c.serve_on.ensures.served)
+    let script = c.args.styled.now.script.now in
+    let was = g.W.Write.contents c.args.out.now in
+    let is = g.W.Write.contents c.serve_on.new.out in
+    let r = c.serve_on.result in
+    inr (subst (λ (d : g.row.D.Denot). ServedScript g.D.Disk script d r.1 (output c.args.styled.now.style was) is r.0)
+    c.in-Ok-open.ensures.opened
+    (subst (λ (s : Style). ServedScript g.D.Disk script c.in-Ok-open.session.start.disk r.1 (output s was) is r.0)
+    c.in-Ok.ensures.style c.serve_on.ensures.served))
 
 pub returns-in-Ok-open-clause-honest : goal.returns-in-Ok-open-clause-honest
 returns-in-Ok-open-clause-honest g c = λ honest.

@@ -1,7 +1,7 @@
-use Rattle.std.proofs.Common.{[], length, Some, sym, ap, ◌∙◌, subst}
+use Rattle.std.proofs.Common.{[], length, Some, sym, refl, ap, ◌∙◌, subst}
 use Rattle.{im_engine.specs.State.EngineState, im_text.proofs.PrintingLemmas.on_ok_by}
 use Rattle.im_session.specs.Kept.{SessionStart, SessionState}
-use Rattle.im_text.specs.{declared.Lines.Lines, Printing.nows, Printing.PrintsMore, Printing.PrintsNows}
+use Rattle.im_text.specs.{declared.Lines.Lines, Said.nows, Said.output, Said.PrintsMore, Said.PrintsNows}
 use Rattle.im_serial.proofs.ScriptedLemmas.{as_of, closed, ends_served, going_first}
 use Rattle.im_serial.specs.Asked.{standing, wanted_of, whole_course}
 use Rattle.im_serial.specs.Serving.{EndedAt, GoingAt, ServedScript, server_of}
@@ -9,13 +9,13 @@ use Rattle.im_serial.specs.Serving.{EndedAt, GoingAt, ServedScript, server_of}
 pub returns-clause-served : Rattle.im_serial.proofs.serial.serve_on.Goals.returns-clause-served
 returns-clause-served g c =
     let was = c.args.session in
-    let held = g.W.Write.contents c.args.out.now in
+    let held = output c.args.desk.lines.style (g.W.Write.contents c.args.out.now) in
     let script = wanted_of c.args.script.now in
     let course = whole_course script in
     let n = c.new-server in
     let first = going_first script was n.result.session held c.args.desk.lines n.result.lines n.result.waited.items
     n.result.places.marks.items n.result.bases.items c.requires.fresh c.requires.works n.ensures.memory
-    c.requires.pending n.ensures.waited n.ensures.bases n.ensures.session n.ensures.lines in
+    refl c.requires.pending n.ensures.waited n.ensures.bases n.ensures.session n.ensures.lines in
     let s = c.serve-served in
     let l = c.learn_all in
     let v = c.leave-session in
@@ -36,7 +36,7 @@ returns-clause-served g c =
     subst (λ (x : SessionStart g.row.D.Denot). ServedScript g.D.Disk c.args.script.now x.disk c.close.result held is
     c.status_at.result) begun
     (closed g.D.Disk c.args.script.now bases t c.close.result c.status_at.result from mid is held l.new.self.lines
-    v.result.1.lines c.finish-status.new.lines w l.new.self.waited.items marks c.close.ensures.kept
+    v.result.1 c.finish-status.new.lines w l.new.self.waited.items marks c.close.ensures.kept
     c.close.ensures.state (λ zero. failed ∙ c.status_at.ensures.works zero)
     (subst (λ (x : SessionStart g.row.D.Denot). EndedAt x held (Some course) (server_of t from l.new.self.lines w
     marks)) (sym begun) ended)

@@ -1,13 +1,13 @@
 use Rattle.std.proofs.Common.{length, sym, ap, ◌∙◌, subst}
 use Rattle.{im_engine.specs.State.EngineState, im_text.proofs.PrintingLemmas.on_ok_by}
 use Rattle.im_session.specs.Kept.{SessionStart, SessionState}
-use Rattle.im_text.specs.{declared.Lines.Lines, Printing.nows, Printing.PrintsMore, Printing.PrintsNows}
+use Rattle.im_text.specs.{declared.Lines.Lines, Said.nows, Said.output, Said.PrintsMore, Said.PrintsNows}
 use Rattle.im_serial.proofs.{OnceLemmas.closed_once, ScriptedLemmas.as_of}
 use Rattle.im_serial.specs.{Asked.wanted_of, Once.DoneOnce, Once.EndedOnce, Once.ServedOnce, Serving.server_of}
 
 pub returns-clause-served : Rattle.im_serial.proofs.serial.serve_once_on.Goals.returns-clause-served
 returns-clause-served g c =
-    let held = g.W.Write.contents c.args.out.now in
+    let held = output c.args.server.lines.style (g.W.Write.contents c.args.out.now) in
     let script = wanted_of c.args.script.now in
     let start = c.args.server.session.start in
     let s = c.serve_once-served in
@@ -29,7 +29,7 @@ returns-clause-served g c =
     subst (λ (x : SessionStart g.row.D.Denot). ServedOnce g.D.Disk c.args.script.now x.disk c.close.result held is
     c.status_at.result) begun
     (closed_once g.D.Disk c.args.script.now t c.close.result c.status_at.result from mid is held l.new.self.lines
-    v.result.1.lines c.finish-status.new.lines w l.new.self.waited.items marks c.close.ensures.kept
+    v.result.1 c.finish-status.new.lines w l.new.self.waited.items marks c.close.ensures.kept
     c.close.ensures.state (λ zero. failed ∙ c.status_at.ensures.works zero)
     (subst (λ (x : SessionStart g.row.D.Denot). EndedOnce x script held (server_of t from l.new.self.lines w marks))
     (sym begun) ended)

@@ -1,5 +1,5 @@
 use Rattle.std.proofs.Common.{◌≡◌, map}
-use Rattle.im_text.specs.Printing.{who_of}
+use Rattle.im_text.specs.Said.{who_of}
 use Rattle.im_serial.specs.Noted.{Learns}
 
 abbrev pub invariant-loop-number : Rattle.im_serial.proofs.waits.learn.Given.invariant-loop-number

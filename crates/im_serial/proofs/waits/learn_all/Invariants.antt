@@ -1,6 +1,6 @@
 use Rattle.std.proofs.Common.{◌≡◌, List, map}
 use Rattle.im_types.specs.Types.{Command, Contents, after}
-use Rattle.im_text.specs.Printing.{who_of}
+use Rattle.im_text.specs.Said.{who_of}
 use Rattle.im_serial.specs.Noted.{AreKnown, IsLearnt}
 
 abbrev pub invariant-loop-at : Rattle.im_serial.proofs.waits.learn_all.Given.invariant-loop-at

@@ -1,5 +1,5 @@
 use Rattle.std.proofs.Common.{◌≡◌, Some, None, sym, ◌∙◌, subst}
-use Rattle.{im_types.specs.Types.Contents, im_types.specs.Types.kept_for, im_text.specs.Printing.who_of}
+use Rattle.{im_types.specs.Types.Contents, im_types.specs.Types.kept_for, im_text.specs.Said.who_of}
 use Rattle.im_serial.proofs.NotedLemmas.{learnt_dropped, learnt_kept, learnt_past}
 use Rattle.im_serial.proofs.waits.learn_last.Goals as goal
 

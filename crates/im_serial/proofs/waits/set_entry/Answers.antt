@@ -1,5 +1,5 @@
 use Rattle.std.proofs.{Common.ap, Common.◌∙◌, Common.arith, Math.Seq.map-set_same}
-use Rattle.{im_types.specs.Types.Waiter, im_text.specs.Printing.who_of}
+use Rattle.{im_types.specs.Types.Waiter, im_text.specs.Said.who_of}
 use Rattle.im_serial.proofs.NotedLemmas.{entered_past, entered_set, entered_who}
 use Rattle.im_serial.specs.Noted.{with_entry}
 use Rattle.im_serial.proofs.waits.set_entry.Goals as goal

@@ -1,18 +1,17 @@
-use Rattle.std.proofs.Common.{ℕ, List, [], ◌++◌, sym, refl, subst, inl, append-nil}
-use Rattle.im_text.{proofs.PrintingLemmas.prints_all, specs.Printing.Prints}
+use Rattle.std.proofs.Common.{refl}
+use Rattle.im_text.proofs.SaidLemmas.{last_unprinted, prints_all}
 use Rattle.im_text.proofs.ending.finish.Goals as goal
 
 pub returns-in-Ok-flush-clause-whole : goal.returns-in-Ok-flush-clause-whole
-returns-in-Ok-flush-clause-whole g c = λ zero.
-    (rw c.in-Ok.is refl, λ start text it. prints_all start _ _ text c.in-Ok-flush.ensures.works c.in-Ok-flush.ensures.pending (c.flush.ensures.on start text it))
+returns-in-Ok-flush-clause-whole g c = λ zero. (
+  rw c.in-Ok.is refl,
+  λ from said it. prints_all from _ _ said c.in-Ok-flush.ensures.works c.in-Ok-flush.ensures.pending
+      (c.flush.ensures.on from said it),
+)
 
 -- no line of a refusal
+pub returns-in-Ok-flush-clause-last : goal.returns-in-Ok-flush-clause-last
+returns-in-Ok-flush-clause-last g c = λ from said it. last_unprinted from _ _ said (c.flush.ensures.on from said it)
+
 pub returns-in-Err-flush-clause-last : goal.returns-in-Err-flush-clause-last
-returns-in-Err-flush-clause-last g c = λ start text printed. (
-  [],
-  (
-    inl refl,
-    subst (λ (t : List ℕ). Prints start (g.W.Write.contents c.flush.new.out) c.flush.new.self t) (sym (append-nil text))
-        (c.flush.ensures.on start text printed),
-  ),
-)
+returns-in-Err-flush-clause-last g c = λ from said it. last_unprinted from _ _ said (c.flush.ensures.on from said it)

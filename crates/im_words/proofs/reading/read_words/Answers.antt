@@ -1,11 +1,13 @@
-use Rattle.std.proofs.Common.{◌≡◌, true, [], IsSome, Some, None, Option, sym, refl, ap, ◌∙◌, subst, ⊎_elim, rules}
+use Rattle.std.proofs.Common.{◌≡◌, true, [], IsSome, None, Option, sym, refl, ap, ◌∙◌, subst, ⊎_elim, rules}
 use Rattle.clap.specs.Simple.{is_simple, subcommand_of}
 use Rattle.clap.specs.Words.{App, app_of, fault_of, is_simple_and_free, takes}
 use Rattle.im_script.specs.Grammar.{texts}
-use Rattle.im_words.specs.Words.{asks_task, asks_wait, has_statuses, imem_app, task_in, telling_in, wait_in}
+use Rattle.im_words.specs.Words.{asks_wait, asks_work, has_statuses, imem_app, wait_in, with_subcommands, with_words}
+use Rattle.im_words.specs.Words.{work_in}
 use Rattle.im_words.proofs.reading.read_words.Goals as goal
 
 free : is_simple_and_free imem_app ≡ true
+unfolding imem_app with_subcommands with_words
 free = refl
 
 pub returns-in-Some-clause-sound : goal.returns-in-Some-clause-sound
@@ -20,6 +22,7 @@ returns-in-Err-try_get_matches_from-clause-taken c = λ taken some waits.
     c.fault.ensures (c.in-Err-try_get_matches_from.ensures.passes same)
 
 simple : is_simple imem_app ≡ true
+unfolding imem_app with_subcommands with_words
 simple = refl
 
 pub returns-in-Some-clause-work : goal.returns-in-Some-clause-work
@@ -27,7 +30,7 @@ returns-in-Some-clause-work c =
     let app : app_of c.in-Ok.command ≡ imem_app = c.in-Ok.ensures.app in
     let met = c.in-Ok-try_get_matches_from.ensures.matches (ap is_simple app ∙ simple) in
     let same = met.1 ∙ ap (λ (a : App). subcommand_of a (texts c.args.words.now)) app in
-    sym (ap task_in same) ∙ c.in-Some.ensures.work
+    sym (ap work_in same) ∙ c.in-Some.ensures.work
 
 pub returns-in-Some-clause-statuses : goal.returns-in-Some-clause-statuses
 returns-in-Some-clause-statuses c =
@@ -43,13 +46,6 @@ returns-in-Some-clause-wait c =
     let same = met.1 ∙ ap (λ (a : App). subcommand_of a (texts c.args.words.now)) app in
     sym (ap wait_in same) ∙ c.in-Some.ensures.wait
 
-pub returns-in-Some-clause-telling : goal.returns-in-Some-clause-telling
-returns-in-Some-clause-telling c =
-    let app : app_of c.in-Ok.command ≡ imem_app = c.in-Ok.ensures.app in
-    let met = c.in-Ok-try_get_matches_from.ensures.matches (ap is_simple app ∙ simple) in
-    let same = met.1 ∙ ap (λ (a : App). subcommand_of a (texts c.args.words.now)) app in
-    c.in-Some.ensures.telling ∙ ap telling_in same
-
 no_some : (A : Type 0) → IsSome {T = A} None → ⊥
 no_some A some = search rules
 
@@ -61,6 +57,6 @@ returns-clause-taken c = λ taken some waits.
     let app : app_of c.in-Ok.command ≡ imem_app = c.in-Ok.ensures.app in
     let met = c.in-Ok-try_get_matches_from.ensures.matches (ap is_simple app ∙ simple) in
     let same = met.1 ∙ ap (λ (a : App). subcommand_of a (texts c.args.words.now)) app in
-    ⊎_elim (λ none. absurd (none_some (asks_task (texts c.args.words.now)) (sym (ap task_in same) ∙ none) some))
+    ⊎_elim (λ none. absurd (none_some (asks_work (texts c.args.words.now)) (sym (ap work_in same) ∙ none) some))
     (λ none. absurd (none_some (asks_wait (texts c.args.words.now)) (sym (ap wait_in same) ∙ none) waits))
     c.in-None.ensures.none

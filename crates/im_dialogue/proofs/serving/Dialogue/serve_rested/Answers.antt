@@ -1,79 +1,69 @@
-use Rattle.std.proofs.Common.{None, MatchResult, sym, subst}
-use Rattle.im_dialogue.proofs.HearingLemmas.{left_some, on_default, same_left}
-use Rattle.im_dialogue.proofs.TalkLemmas.{ends_after, goes_quiet, halts_talk, on_after, rests_halts, taken_said}
-use Rattle.im_dialogue.proofs.TalkLemmas.{then_talks, to_left}
-use Rattle.im_dialogue.specs.{declared.serving.Setting.Setting, Hearing.asked_after, Hearing.questions_left}
-use Rattle.im_dialogue.specs.Talk.{outputs, TalkEnds, TalksOn, with_left}
+use Rattle.std.proofs.Common.{true, false, option_map, ◌∙◌}
+use Rattle.im_dialogue.proofs.ServeLemmas.{next_err, next_ok, settled_err, settled_ok, then_next}
+use Rattle.im_dialogue.specs.Hearing.{left_behind, questions_in, questions_left}
 use Rattle.im_dialogue.proofs.serving.Dialogue.serve_rested.Goals as goal
 
+pub returns-in-Ok-settle-clause-talks : goal.returns-in-Ok-settle-clause-talks
+returns-in-Ok-settle-clause-talks g c =
+    let old = c.args.self.now in
+    let mid = c.rest.new.self in
+    let been = c.serve_next.new.self in
+    let was = g.B.Backups.kept c.args.backups.now in
+    let is = g.B.Backups.kept c.serve_next.new.backups in
+    let known = g.R.Read.remaining c.args.input.now in
+    let later = g.R.Read.remaining c.serve_next.new.input in
+    let next = then_next old mid been was is c.rest.ensures.same known (g.R.Read.remaining c.rest.new.input) later
+    c.serve_next.result c.rest.ensures.kept c.in-Ok.ensures.talks c.serve_next.ensures.talks in
+    let on = next_ok old been was is known later c.serve_next.result next c.in-Ok-true.field-0 true c.in-Ok-true.is
+    c.in-Ok-true.field-0-test in
+    settled_ok old been c.settle.new.self was is (questions_left known)
+    (left_behind true (option_map questions_in later)) (c.serve_next.ensures.same ∙ c.rest.ensures.same) on
+    c.settle.result c.settle.ensures.talks tt c.in-Ok-settle.is
+
+pub returns-in-Err-settle-clause-talks : goal.returns-in-Err-settle-clause-talks
+returns-in-Err-settle-clause-talks g c =
+    let old = c.args.self.now in
+    let mid = c.rest.new.self in
+    let been = c.serve_next.new.self in
+    let was = g.B.Backups.kept c.args.backups.now in
+    let is = g.B.Backups.kept c.serve_next.new.backups in
+    let known = g.R.Read.remaining c.args.input.now in
+    let later = g.R.Read.remaining c.serve_next.new.input in
+    let next = then_next old mid been was is c.rest.ensures.same known (g.R.Read.remaining c.rest.new.input) later
+    c.serve_next.result c.rest.ensures.kept c.in-Ok.ensures.talks c.serve_next.ensures.talks in
+    let on = next_ok old been was is known later c.serve_next.result next c.in-Ok-true.field-0 true c.in-Ok-true.is
+    c.in-Ok-true.field-0-test in
+    settled_err old been c.settle.new.self was is (questions_left known)
+    (left_behind true (option_map questions_in later)) (c.serve_next.ensures.same ∙ c.rest.ensures.same) on
+    c.settle.result c.settle.ensures.talks c.in-Err-settle.reason c.in-Err-settle.is
+
+pub returns-in-Ok-false-clause-talks : goal.returns-in-Ok-false-clause-talks
+returns-in-Ok-false-clause-talks g c =
+    let old = c.args.self.now in
+    let mid = c.rest.new.self in
+    let been = c.serve_next.new.self in
+    let was = g.B.Backups.kept c.args.backups.now in
+    let is = g.B.Backups.kept c.serve_next.new.backups in
+    let known = g.R.Read.remaining c.args.input.now in
+    let later = g.R.Read.remaining c.serve_next.new.input in
+    let next = then_next old mid been was is c.rest.ensures.same known (g.R.Read.remaining c.rest.new.input) later
+    c.serve_next.result c.rest.ensures.kept c.in-Ok.ensures.talks c.serve_next.ensures.talks in
+    next_ok old been was is known later c.serve_next.result next c.in-Ok-false.field-0 false c.in-Ok-false.is
+    c.in-Ok-false.field-0-test
+
+pub returns-in-Err-serve_next-clause-talks : goal.returns-in-Err-serve_next-clause-talks
+returns-in-Err-serve_next-clause-talks g c =
+    let old = c.args.self.now in
+    let mid = c.rest.new.self in
+    let been = c.serve_next.new.self in
+    let was = g.B.Backups.kept c.args.backups.now in
+    let is = g.B.Backups.kept c.serve_next.new.backups in
+    let known = g.R.Read.remaining c.args.input.now in
+    let later = g.R.Read.remaining c.serve_next.new.input in
+    let next = then_next old mid been was is c.rest.ensures.same known (g.R.Read.remaining c.rest.new.input) later
+    c.serve_next.result c.rest.ensures.kept c.in-Ok.ensures.talks c.serve_next.ensures.talks in
+    next_err old been was is known later c.serve_next.result next c.in-Err-serve_next.reason c.in-Err-serve_next.is
+
 pub returns-in-Err-clause-talks : goal.returns-in-Err-clause-talks
-returns-in-Err-clause-talks g c =
-    halts_talk c.args.self.now.setting.watch c.args.self.now.session
-    c.turn_while_quiet.new.session
-    (with_left (questions_left (g.R.Read.remaining c.args.input.now))
-    (outputs (g.W.Write.contents c.args.out.now) (g.B.Backups.kept c.args.backups.now))) None
-    (rests_halts c.args.self.now.session c.turn_while_quiet.new.session c.turn_while_quiet.ensures.same)
-
-pub returns-then-many-eq0-clause-talks : goal.returns-then-many-eq0-clause-talks
-returns-then-many-eq0-clause-talks g c =
-    let kept = g.B.Backups.kept c.args.backups.now in
-    let known = questions_left (g.R.Read.remaining c.args.input.now) in
-    let later = g.R.Read.remaining c.serve_together.new.input in
-    let was = with_left known (outputs (g.W.Write.contents c.args.out.now) kept) in
-    let been = with_left (questions_left later) (outputs (g.W.Write.contents c.serve_together.new.out) kept) in
-    let is = outputs (g.W.Write.contents c.serve_alone.new.out) (g.B.Backups.kept c.serve_alone.new.backups) in
-    let now = g.R.Read.remaining c.serve_alone.new.input in
-    then_talks c.args.self.now.setting.watch c.args.self.now.session
-    c.serve_together.new.self.session c.serve_alone.new.self.session was been
-    (λ many. with_left (asked_after many now) is)
-    is c.serve_alone.result
-    (on_after c.args.self.now.setting.watch c.args.self.now.session
-    c.turn_while_quiet.new.session c.serve_together.new.self.session was
-    (with_left (questions_left (g.R.Read.remaining c.turn_while_quiet.new.ear))
-    (outputs (g.W.Write.contents c.args.out.now) kept)) been
-    (goes_quiet c.args.self.now.setting.watch c.args.self.now.session
-    c.turn_while_quiet.new.session (outputs (g.W.Write.contents c.args.out.now) kept) _ _
-    (taken_said c.args.self.now.session c.turn_while_quiet.new.session (on_default c.turn_while_quiet.result
-    c.turn_while_quiet.ensures.turned c.in_default.not-Err)) c.turn_while_quiet.ensures.kept)
-    (c.in-Ok.ensures.talks kept))
-    (subst (λ (s : Setting). MatchResult c.serve_alone.result
-    (λ many. TalksOn s.watch c.serve_together.new.self.session been c.serve_alone.new.self.session
-    (with_left (asked_after many now) is))
-    (λ e. TalkEnds s.watch c.serve_together.new.self.session been c.serve_alone.new.self.session is))
-    c.serve_together.ensures.same c.serve_alone.ensures.talks)
-
-pub returns-else-many-eq0-clause-talks : goal.returns-else-many-eq0-clause-talks
-returns-else-many-eq0-clause-talks g c =
-    let kept = g.B.Backups.kept c.args.backups.now in
-    let known = questions_left (g.R.Read.remaining c.args.input.now) in
-    let later = g.R.Read.remaining c.serve_together.new.input in
-    let was = with_left known (outputs (g.W.Write.contents c.args.out.now) kept) in
-    let is = outputs (g.W.Write.contents c.serve_together.new.out) kept in
-    to_left c.args.self.now.setting.watch c.args.self.now.session
-    c.serve_together.new.self.session was is (questions_left later) (asked_after c.in-Ok.many later)
-    (same_left _ _ (sym (left_some c.in-Ok.many later c.if-many-eq0.false)))
-    (on_after c.args.self.now.setting.watch c.args.self.now.session
-    c.turn_while_quiet.new.session c.serve_together.new.self.session was
-    (with_left (questions_left (g.R.Read.remaining c.turn_while_quiet.new.ear))
-    (outputs (g.W.Write.contents c.args.out.now) kept)) (with_left (questions_left later) is)
-    (goes_quiet c.args.self.now.setting.watch c.args.self.now.session
-    c.turn_while_quiet.new.session (outputs (g.W.Write.contents c.args.out.now) kept) _ _
-    (taken_said c.args.self.now.session c.turn_while_quiet.new.session (on_default c.turn_while_quiet.result
-    c.turn_while_quiet.ensures.turned c.in_default.not-Err)) c.turn_while_quiet.ensures.kept)
-    (c.in-Ok.ensures.talks kept))
-
-pub returns-in-Err-serve_together-clause-talks : goal.returns-in-Err-serve_together-clause-talks
-returns-in-Err-serve_together-clause-talks g c =
-    let kept = g.B.Backups.kept c.args.backups.now in
-    let known = questions_left (g.R.Read.remaining c.args.input.now) in
-    let was = with_left known (outputs (g.W.Write.contents c.args.out.now) kept) in
-    let is = outputs (g.W.Write.contents c.serve_together.new.out) kept in
-    ends_after c.args.self.now.setting.watch c.args.self.now.session
-    c.turn_while_quiet.new.session c.serve_together.new.self.session was
-    (with_left (questions_left (g.R.Read.remaining c.turn_while_quiet.new.ear))
-    (outputs (g.W.Write.contents c.args.out.now) kept)) is
-    (goes_quiet c.args.self.now.setting.watch c.args.self.now.session
-    c.turn_while_quiet.new.session (outputs (g.W.Write.contents c.args.out.now) kept) _ _
-    (taken_said c.args.self.now.session c.turn_while_quiet.new.session (on_default c.turn_while_quiet.result
-    c.turn_while_quiet.ensures.turned c.in_default.not-Err)) c.turn_while_quiet.ensures.kept)
-    (c.in-Err-serve_together.ensures.talks kept)
+returns-in-Err-clause-talks g c = c.in-Err.ensures.talks (g.B.Backups.kept c.args.backups.now)
+    (questions_left (g.R.Read.remaining c.args.input.now))

@@ -1,5 +1,5 @@
 use Rattle.std.proofs.Common.{map, length, sym, ap, ◌∙◌, subst}
-use Rattle.im_text.specs.Printing.{who_of}
+use Rattle.im_text.specs.Said.{who_of}
 use Rattle.im_serial.{proofs.NotedLemmas.written_back, specs.Noted.AreKnown, specs.Noted.AreLast}
 
 pub returns-clause-last : Rattle.im_serial.proofs.server.Server.learn_all.Goals.returns-clause-last

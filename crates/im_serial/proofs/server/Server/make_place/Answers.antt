@@ -1,5 +1,5 @@
 use Rattle.std.proofs.Common.{map, length, sym, ap, ◌∙◌, subst}
-use Rattle.im_text.specs.Printing.{who_of}
+use Rattle.im_text.specs.Said.{who_of}
 use Rattle.im_serial.{proofs.NotedLemmas.noted_from, proofs.NotedLemmas.written_back, specs.Noted.AreNoted}
 use Rattle.im_serial.proofs.{PlaceLemmas.due_bounds, ScriptedLemmas.drops_then, ScriptedLemmas.learns}
 

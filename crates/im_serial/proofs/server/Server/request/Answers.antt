@@ -1,5 +1,5 @@
 use Rattle.std.proofs.Common.{◌∷◌, sym, subst}
-use Rattle.im_text.specs.{declared.Lines.Lines, Printing.Prints}
+use Rattle.im_text.specs.{declared.Lines.Lines, Said.Prints}
 use Rattle.im_serial.{proofs.ScriptedLemmas.asked_then, proofs.ScriptedLemmas.prepared_goes, specs.Asked.standing}
 use Rattle.im_serial.proofs.server.Server.request.Goals as goal
 

@@ -1,8 +1,0 @@
-pub mod CallLemmas
-pub mod CutLemmas
-pub mod DigitLemmas
-pub mod JoinLemmas
-pub mod LineLemmas
-pub mod SiftLemmas
-pub mod ToldLemmas
-pub mod TextLemmas

@@ -1,4 +1,0 @@
-pub mod Objects
-pub mod Calls
-pub mod Tellings
-pub mod Sieves
