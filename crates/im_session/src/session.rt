@@ -1,8 +1,8 @@
 //! A session, and its calls.
-ghost use Rattle.std.specs.Prelude.{◌≡◌, [], length, take};
+ghost use Rattle.std.specs.Prelude.{◌≡◌, [], length, take, IfOk};
 ghost use Rattle.im_groups.specs.Ahead.{ServesPrefix};
 ghost use Rattle.im_engine.specs.Answered.{Answered, SweepAnswered, TurnAnswered};
-ghost use Rattle.im_engine.specs.{Chain.Advances, Commands.commands_put, Commands.CommandsAnswered};
+ghost use Rattle.im_engine.specs.{Chain.Advances, Chain.TakesNext, Commands.commands_put, Commands.CommandsAnswered};
 ghost use Rattle.im_session.specs.Kept.{Kept};
 ghost use Rattle.im_session.specs.Serving.{Rests, served_answer, served_one, served_together};
 
@@ -85,6 +85,8 @@ impl<D: Disk> Session<D> {
     ) -> Result<usize, Refusal>
         requires empty { served.old.items ≡ [] }
         ensures answered { Advances self.old.engine next.now.items result served.new.items self.new.engine }
+        // How many of the next members are ahead, and where they end.
+        ensures takes { IfOk result (λ many. TakesNext self.old.engine next.now.items self.new.engine many) }
         ensures put { self.new ≡ served_together self.old self.old.engine.ahead self.new.engine }
     {
         self.advance_kept(next, served)
