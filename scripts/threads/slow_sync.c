@@ -3,6 +3,7 @@
 #include <errno.h>
 #include <stdatomic.h>
 #include <stdlib.h>
+#include <sys/prctl.h>
 #include <sys/types.h>
 #include <sys/uio.h>
 #include <time.h>
@@ -23,10 +24,19 @@ static int fails(void) {
     return 1;
 }
 
+/* Else the kernel lets a thread sleep on for 50 microseconds more. */
+static void sleep_no_longer(void) {
+    static _Thread_local int is_exact;
+    if (!is_exact) is_exact = prctl(PR_SET_TIMERSLACK, 1UL, 0UL, 0UL, 0UL) == 0;
+}
+
 static int slow_sync(void) {
     const char *word = getenv("SYNC_US");
     struct timespec time = {0, (word ? atol(word) : 0) * 1000};
-    if (time.tv_nsec > 0) clock_nanosleep(CLOCK_MONOTONIC, 0, &time, NULL);
+    if (time.tv_nsec > 0) {
+        sleep_no_longer();
+        clock_nanosleep(CLOCK_MONOTONIC, 0, &time, NULL);
+    }
     return fails() ? -1 : 0;
 }
 

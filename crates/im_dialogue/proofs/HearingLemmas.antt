@@ -1,5 +1,5 @@
 -- What the lines of an input ask for, and what of it was heard.
-use Rattle.std.proofs.Common.{◌≡◌, ℕ, zero, suc, ◌+◌, ◌-◌, ◌<◌, ◌≤◌, Bool, true, false, ◌&&◌, List, [], ◌∷◌, ◌++◌, map}
+use Rattle.std.proofs.Common.{◌≡◌, ℕ, zero, suc, ◌+◌, ◌<◌, ◌≤◌, Bool, true, false, ◌&&◌, List, [], ◌∷◌, ◌++◌, map}
 use Rattle.std.proofs.Common.{length, get_or, take, drop, IfSome, if◌then◌else◌, OnOk, nat_lt, nat_le, ◌==◌, Some, None}
 use Rattle.std.proofs.Common.{Ok, Err, Option, Result, option_map, sym, refl, ap, ◌∙◌, subst, append_assoc, append-nil}
 use Rattle.std.proofs.Common.{arith, take-append-drop, length-take-le, take_all}

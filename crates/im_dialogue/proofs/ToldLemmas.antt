@@ -2,7 +2,7 @@
 use Rattle.std.proofs.Common.{◌≡◌, ℕ, zero, suc, ◌+◌, ◌<◌, ◌≤◌, max, Bool, true, false, List, [], ◌∷◌, ◌++◌, map}
 use Rattle.std.proofs.Common.{length, get_or, drop, IfSome, IfOk, OnOk, ◌==◌, Some, None, Ok, Err, Option, Result, sym}
 use Rattle.std.proofs.Common.{refl, ap, ◌∙◌, subst, inl, inr, append_assoc, append-nil, arith, length-append}
-use Rattle.std.proofs.{Math.Seq.drop-cons, lemmas.Bool.Decides.nat_tests, lemmas.List.map-append}
+use Rattle.std.proofs.{lemmas.Bool.Decides.nat_tests, lemmas.List.map-append, Math.Seq.drop-cons}
 use Rattle.im_types.specs.Types.{Command, Outcome, Served, Refusal, LAST, Contents, as_served}
 use Rattle.im_groups.proofs.{CommandLemmas.left_behind as places_left, EnoughLemmas.at_most_members}
 use Rattle.im_groups.specs.Commands.{answer_with, answers_with, contents_with, places, places_behind}
@@ -11,8 +11,9 @@ use Rattle.im_front.specs.declared.{AskedCommand.AskedCommand, ToldAnswer.ToldAn
 use Rattle.im_front.specs.Lists.{answers_told, asks_told, commands_told}
 use Rattle.im_dialogue.proofs.GroupTalk.{left_and_put, told_member, told_none}
 use Rattle.im_dialogue.proofs.{ReachLemmas.contents_behind, TalkLemmas.Left}
-use Rattle.im_dialogue.specs.{Answers.answer_text, Answers.served_line, Serving.behind_asked, Telling.SaysAll, Watching.told_with}
-use Rattle.im_dialogue.specs.declared.{answers.LineAnswer.LineAnswer, answers.LineAnswer.TheVariants.Served as ServedAs, asking.Question.Question}
+use Rattle.im_dialogue.specs.{Answers.answer_text, Answers.served_line, declared.asking.Question.Question}
+use Rattle.im_dialogue.specs.{Serving.behind_asked, Telling.SaysAll, Watching.told_with}
+use Rattle.im_dialogue.specs.declared.answers.LineAnswer.{LineAnswer, TheVariants.Served as ServedAs}
 use Rattle.im_dialogue.specs.Hearing.{asking, Hears, left_behind, until_quit}
 use Rattle.im_dialogue.specs.Together.{answer_told, AreAsked, AreLinesOf, first_text, FitInto, GroupStart, later_texts}
 use Rattle.im_dialogue.specs.Together.{memory_between, places_between, point_between, questions_asked, TellWatchers}

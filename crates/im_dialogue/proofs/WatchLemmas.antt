@@ -4,16 +4,15 @@ use Rattle.std.proofs.Common.{Option, option_map, sym, refl, ap, ◌∙◌, subs
 use Rattle.std.specs.List.{list_any}
 use Rattle.im_types.specs.Types.{Kind, Op, Reply, Waiter, Block, Answered, I, M, Alloc, Release, Reset, Fetch, Store}
 use Rattle.im_types.specs.Types.{Take, Put, BadLength, WrongKind, Released, StillWaiting, Cleared, Command, CellState}
-use Rattle.im_types.specs.Types.{Empty, Full, Clashed, Held, Contents, bounds, held_at, place, fill, change_each}
+use Rattle.im_types.specs.Types.{Empty, Full, Clashed, Held, Contents, held_at, place, fill, change_each}
 use Rattle.im_types.specs.Types.{ServedCell as Served, fetch, take_from, only_tells, same_kind, serve_cell, at_cell}
-use Rattle.im_types.specs.Types.{allocate_at, block_with_base, is_waiting_cell, unless_waited_for, emptied, act}
+use Rattle.im_types.specs.Types.{allocate_at, block_with_base, is_waiting_cell, unless_waited_for, emptied, act, bounds}
 use Rattle.{im_checkpoint.specs.declared.TurnDone.TurnDone, im_turning.specs.Turning.Point}
-use Rattle.im_dialogue.specs.Answers.{answer_text, look_text}
-use Rattle.im_dialogue.specs.{Asking.command_in, Talk.about_of, Talk.AnswersQuestion, Watching.is_quiet, Watching.watch_text}
-use Rattle.im_dialogue.specs.declared.answers.LineAnswer.{LineAnswer}
+use Rattle.im_dialogue.specs.{Answers.answer_text, Answers.look_text, Asking.command_in, Talk.about_of}
+use Rattle.im_dialogue.specs.{Talk.AnswersQuestion, Watching.is_quiet, Watching.watch_text}
+use Rattle.im_dialogue.specs.declared.{answers.LineAnswer.LineAnswer, asking.Question.Question, look.Look.Look}
 use Rattle.im_dialogue.specs.declared.answers.LineAnswer.TheVariants.{About as Facts, Backup as BackedUp, Count, Looked}
 use Rattle.im_dialogue.specs.declared.answers.LineAnswer.TheVariants.{Room, Turned, Window, Wrong}
-use Rattle.im_dialogue.specs.declared.{asking.Question.Question, look.Look.Look}
 use Rattle.im_dialogue.specs.declared.asking.Question.TheVariants as asks
 
 -- ---- who is resumed

@@ -1,5 +1,5 @@
 use Rattle.std.proofs.Common.{refl, ◌∙◌, rules}
-use Rattle.im_session.proofs.RoomLemmas.{rests_none, rests_then}
+use Rattle.im_session.proofs.RoomLemmas.{rests_then}
 use Rattle.im_dialogue.proofs.TalkLemmas.{taken_more, taken_none}
 use Rattle.im_dialogue.proofs.talk.turn_while_quiet.Goals as goal
 

@@ -1,6 +1,5 @@
-use Rattle.std.proofs.Common.{true, string_bytes, sym, ◌∙◌, subst}
-use Rattle.im_types.specs.Types.{Command}
-use Rattle.im_dialogue.{proofs.WatchedLemmas.told_quiet, specs.Together.TellsWatchers}
+use Rattle.std.proofs.Common.{true, string_bytes, sym, ◌∙◌}
+use Rattle.im_dialogue.proofs.WatchedLemmas.{told_quiet}
 
 pub returns-then-answers_nobody : Rattle.im_dialogue.proofs.watching.add_behind.Goals.returns-then-answers_nobody
 returns-then-answers_nobody c = λ known b same.

@@ -1,4 +1,4 @@
-use Rattle.std.proofs.Common.{◌≡◌, ℕ, true, [], ◌++◌, map, length, drop, string_bytes}
+use Rattle.std.proofs.Common.{◌≡◌, true, [], ◌++◌, map, length, drop, string_bytes}
 use Rattle.im_front.specs.Lists.{commands_asked}
 use Rattle.im_dialogue.specs.Together.{GroupStart, TellWatchers}
 

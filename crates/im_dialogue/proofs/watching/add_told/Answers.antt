@@ -1,4 +1,4 @@
-use Rattle.std.proofs.Common.{◌≡◌, true, List, [], ◌++◌, length, string_bytes, sym, ap, ◌∙◌, subst, rules}
+use Rattle.std.proofs.Common.{◌≡◌, true, List, [], ◌++◌, string_bytes, sym, ap, ◌∙◌, subst, rules}
 use Rattle.im_types.specs.Types.{Command, Contents}
 use Rattle.im_dialogue.proofs.WatchedLemmas.{no_command, told_alone}
 use Rattle.im_dialogue.specs.{Together.TellsWatchers, Watching.nows_text, Watching.resumed_by}

@@ -1,5 +1,4 @@
-use Rattle.std.proofs.Common.{None, subst}
-use Rattle.im_turning.proofs.TurningLemmas.{spent_behind}
+use Rattle.std.proofs.Common.{None}
 use Rattle.im_dialogue.proofs.{ServeLemmas.turns_failed, ServeLemmas.turns_told, TalkLemmas.then_talks}
 use Rattle.im_dialogue.specs.Serving.{told_by_it, told_so}
 use Rattle.im_dialogue.proofs.serving.Dialogue.advance.Goals as goal

@@ -1,5 +1,5 @@
-use Rattle.std.proofs.Common.{true, List, [], ◌∷◌, ◌++◌, Some, string_bytes, sym, subst}
-use Rattle.im_front.specs.{declared.AskedCommand.AskedCommand, Lists.with_ticket, State.front_of, State.FrontState}
+use Rattle.std.proofs.Common.{true, [], ◌∷◌, ◌++◌, Some, string_bytes, sym, subst}
+use Rattle.im_front.specs.{Lists.with_ticket, State.FrontState}
 use Rattle.im_dialogue.proofs.{TalkLemmas.to_left, ToldLemmas.asked_more, ToldLemmas.asks_more}
 use Rattle.im_dialogue.specs.{Hearing.asking, Hearing.left_behind, Talk.outputs, Talk.TalksOn, Together.AreAsked}
 use Rattle.im_dialogue.specs.Serving.{behind_asked, told_by_it, told_so}

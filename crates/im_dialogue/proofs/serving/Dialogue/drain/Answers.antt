@@ -1,4 +1,4 @@
-use Rattle.std.proofs.Common.{ℕ, List, length, None, Option, refl, ◌∙◌, subst, arith}
+use Rattle.std.proofs.Common.{None, refl, ◌∙◌, subst, arith}
 use Rattle.im_front.specs.declared.asks.TheConstants.{MOST_ASKED}
 use Rattle.im_dialogue.proofs.ServeLemmas.{none_left}
 use Rattle.im_dialogue.proofs.TalkLemmas.{ends_after, goes_talk, nothing_said, on_after}

@@ -1,5 +1,5 @@
-use Rattle.im_dialogue.proofs.{HearingLemmas.on_default, TalkLemmas.goes_talk, TalkLemmas.nothing_said}
-use Rattle.im_dialogue.{proofs.ServeLemmas.turns_failed, proofs.ServeLemmas.turns_told, specs.Serving.told_by_it}
+use Rattle.im_dialogue.proofs.ServeLemmas.{turns_failed, turns_told}
+use Rattle.im_dialogue.{proofs.TalkLemmas.goes_talk, proofs.TalkLemmas.nothing_said, specs.Serving.told_by_it}
 use Rattle.im_dialogue.proofs.serving.Dialogue.rest.Goals as goal
 
 pub returns-then-self-clause-talks : goal.returns-then-self-clause-talks

@@ -1,4 +1,4 @@
-use Rattle.std.proofs.Common.{◌≡◌, Some, None, Option, sym, ◌∙◌, subst, rules}
+use Rattle.std.proofs.Common.{◌≡◌, None, Option, sym, ◌∙◌, subst, rules}
 use Rattle.im_dialogue.proofs.{TalkLemmas.talk_ends_here, WatchLemmas.command_some}
 use Rattle.im_dialogue.proofs.ToldLemmas.{asked_if, never_if, none_if}
 use Rattle.im_dialogue.specs.{Asking.asked_of, declared.asking.Question.Question, Hearing.asking}

@@ -1,4 +1,4 @@
-use Rattle.std.proofs.Common.{true, false, None}
+use Rattle.std.proofs.Common.{None}
 use Rattle.im_dialogue.proofs.{HearingLemmas.asked_line, HearingLemmas.asked_nothing, ServeLemmas.end_next}
 use Rattle.im_dialogue.proofs.{ServeLemmas.line_next, TalkLemmas.talk_ends_here, ToldLemmas.none_asked}
 use Rattle.im_dialogue.specs.{Asking.asked_of, Hearing.questions_left, Serving.told_by_it}

@@ -1,9 +1,8 @@
 use Rattle.std.proofs.Common.{◌≡◌, true, false, List, [], Some, None, string_bytes, sym, ap, ◌∙◌, subst, append-nil}
 use Rattle.im_front.specs.{declared.AskedCommand.AskedCommand, State.FrontState}
-use Rattle.im_dialogue.proofs.{HearingLemmas.hears_line, HearingLemmas.hears_quit, WatchLemmas.alone_line}
-use Rattle.im_dialogue.proofs.WatchLemmas.{same_asked}
+use Rattle.im_dialogue.proofs.{HearingLemmas.hears_line, HearingLemmas.hears_quit, ToldLemmas.hears_alone}
+use Rattle.im_dialogue.proofs.{ToldLemmas.same_behind, WatchLemmas.alone_line, WatchLemmas.same_asked}
 use Rattle.im_dialogue.proofs.TalkLemmas.{halts_talk, not_quit, quit_talk, talk_ends, talks_on}
-use Rattle.im_dialogue.proofs.ToldLemmas.{hears_alone, same_behind}
 use Rattle.im_dialogue.specs.{Backups.Backup, declared.asking.Question.Question, Serving.behind_asked, Serving.told_so}
 use Rattle.im_dialogue.specs.Hearing.{asking, is_quit, left_behind}
 use Rattle.im_dialogue.specs.Talk.{outputs, TalkEnds, TalksOn}
