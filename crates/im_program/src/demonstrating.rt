@@ -8,8 +8,8 @@ use im_disk::MemDisk;
 use im_engine::Engine;
 use im_image::image_length;
 use im_script::read_script;
-use im_serial::serial_on;
-use im_text::{News, Reason};
+use im_serial::{StyledScript, serial_on};
+use im_text::{News, Reason, Style};
 use im_types::{Observer, Refusal};
 use im_words::{DEFAULT_CELLS, DEFAULT_ELEMENTS, DEFAULT_SLOTS};
 use std::alloc::Global;
@@ -60,7 +60,11 @@ fn serve_in_memory<W: Write, N: Observer<News>>(
         Ok(disk) => disk,
         Err(refusal) => return Err(told(refusal, observer)),
     };
-    let (status, _) = serial_on(alloc, disk, &script, out, observer);
+    let styled = StyledScript {
+        script: &script,
+        style: Style::Text,
+    };
+    let (status, _) = serial_on(alloc, disk, &styled, out, observer);
     Ok(status)
 }
 
@@ -71,6 +75,6 @@ pub fn demonstrate<W: Write, N: Observer<News>>(alloc: Global, out: &mut W, obse
 {
     match serve_in_memory(alloc, out, observer) {
         Ok(status) => status,
-        Err(refusal) => refuse(alloc, refusal, out),
+        Err(refusal) => refuse(alloc, Style::Text, refusal, out),
     }
 }
