@@ -76,3 +76,33 @@ returns-in-Copy-clause-done g c = rw c.in-Copy.is (rw c.of_two-in-Copy.ensures (
   both = (_, refl, c.in_ok-copy_file.ensures.old);
   none = tt;
 }))
+
+pub returns-in-Demonstration-clause-status : goal.returns-in-Demonstration-clause-status
+returns-in-Demonstration-clause-status g c = inl c.demonstrate_at.ensures
+
+pub returns-in-Format-clause-status : goal.returns-in-Format-clause-status
+returns-in-Format-clause-status g c = rw c.of_one.ensures (inl c.in_ok-format_image.ensures.status)
+
+pub returns-in-Serial-clause-status : goal.returns-in-Serial-clause-status
+returns-in-Serial-clause-status g c = rw c.of_one-in-Serial.ensures (inl c.in_ok-serve_file.ensures.status)
+
+pub returns-in-Run-clause-status : goal.returns-in-Run-clause-status
+returns-in-Run-clause-status g c = rw c.of_one-in-Run.ensures c.in_ok-run_traced.ensures.status
+
+pub returns-in-Serve-clause-status : goal.returns-in-Serve-clause-status
+returns-in-Serve-clause-status g c = rw c.of_one-in-Serve.ensures (inl c.in_ok-talk_file.ensures.status)
+
+pub returns-in-Inspect-clause-status : goal.returns-in-Inspect-clause-status
+returns-in-Inspect-clause-status g c = rw c.of_one-in-Inspect.ensures (inl c.in_ok-inspect_file.ensures.status)
+
+pub returns-in-Dump-clause-status : goal.returns-in-Dump-clause-status
+returns-in-Dump-clause-status g c = rw c.of_one-in-Dump.ensures (inl c.in_ok-dump_file.ensures.status)
+
+pub returns-in-Load-clause-status : goal.returns-in-Load-clause-status
+returns-in-Load-clause-status g c = rw c.of_one-in-Load.ensures (inl c.in_ok-load_file.ensures.status)
+
+pub returns-in-Migrate-clause-status : goal.returns-in-Migrate-clause-status
+returns-in-Migrate-clause-status g c = rw c.of_two.ensures (inl c.in_ok-migrate_file.ensures.status)
+
+pub returns-in-Copy-clause-status : goal.returns-in-Copy-clause-status
+returns-in-Copy-clause-status g c = rw c.of_two-in-Copy.ensures (inl c.in_ok-copy_file.ensures.status)
