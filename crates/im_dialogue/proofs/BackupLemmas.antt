@@ -9,6 +9,6 @@ pub few_in : (word : List ℕ) → is_backup_name word ≡ true → length word 
 few_in word is =
     let both = and_both (is_ascii_lowercase (slice_index_or word 0 0))
     (nat_le (length word) 64 && list_all is_backup_byte word) is in
-    let few : nat_le (length word) 64 ≡ true = (and_both (nat_le (length word) 64) (list_all is_backup_byte word) both.1).0
-    in
+    let few : nat_le (length word) 64 ≡ true
+    = (and_both (nat_le (length word) 64) (list_all is_backup_byte word) both.1).0 in
     grind (arith, nat_tests)

@@ -21,13 +21,17 @@ pub same_length : (cells elements slots c e bytes : ℕ) → c ≡ cells → e �
     → bytes ≡ image_length layout_in_use (record { cells = cells; elements = elements; slots = slots })
     → bytes ≡ image_length layout_in_use (record { cells = c; elements = e; slots = slots })
 same_length cells elements slots c e bytes same_c same_e is =
-    subst (λ (n : ℕ). bytes ≡ image_length layout_in_use (record { cells = n; elements = e; slots = slots })) (sym same_c)
-    (subst (λ (n : ℕ). bytes ≡ image_length layout_in_use (record { cells = cells; elements = n; slots = slots })) (sym same_e) is)
+    subst (λ (n : ℕ). bytes ≡ image_length layout_in_use (record { cells = n; elements = e; slots = slots }))
+    (sym same_c)
+    (subst (λ (n : ℕ). bytes ≡ image_length layout_in_use (record { cells = cells; elements = n; slots = slots }))
+    (sym same_e) is)
 
 -- what is left since a moment is left since the same moment
 pub same_start : (was is new : Moment) (past_was past_is past_new : List Moment) → is ≡ was → past_is ≡ past_was
     → Leaves is new past_is past_new (Left is) → Leaves was new past_was past_new (Left was)
-same_start was is new past_was past_is past_new now past it = subst (λ (m : Moment). Leaves m new past_was past_new (Left m)) now (subst (λ (p : List Moment). Leaves is new p past_new (Left is)) past it)
+same_start was is new past_was past_is past_new now past it =
+    subst (λ (m : Moment). Leaves m new past_was past_new (Left m)) now
+    (subst (λ (p : List Moment). Leaves is new p past_new (Left is)) past it)
 
 -- an opening leaves nothing new, and what it found was there
 pub was_opened : {D : Type 0} (disk : Ghosts D) (old mid : D) (engine : EngineState D) → disk.now mid ≡ disk.now old

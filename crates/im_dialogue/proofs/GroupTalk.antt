@@ -59,14 +59,16 @@ room_next n k room low = ap (λ (b : Bool). if b then 0 else room - k) below
     below = grind (arith, nat_tests, low)
 
 moved_all : (k : ℕ) (p : Point) → suc k ≤ LAST - p.count
-    → point_behind (suc k) p ≡ record p { count = p.count + suc k; room = if p.count + suc k == LAST then 0 else p.room - suc k }
+    → point_behind (suc k) p
+    ≡ record p { count = p.count + suc k; room = if p.count + suc k == LAST then 0 else p.room - suc k }
 moved_all zero p low = refl
 moved_all (suc k) p low =
     let before = moved_all k p (omega (arith, low)) in
     let room : (if p.count + suc k == LAST then 0 else p.room - suc k) ≡ p.room - suc k
     = room_next p.count (suc k) p.room (omega (arith, low)) in
     let count : (p.count + suc k) + 1 ≡ p.count + suc (suc k) = omega arith in
-    let left : (if p.count + suc k == LAST then 0 else p.room - suc k) - 1 ≡ p.room - suc (suc k) = omega (arith, room) in
+    let left : (if p.count + suc k == LAST then 0 else p.room - suc k) - 1 ≡ p.room - suc (suc k)
+    = omega (arith, room) in
     ap (λ (q : Point). with_one q) before
     ∙ (λ i. record {
       header = p.header;

@@ -246,7 +246,8 @@ read_last (Some bytes) b c line more (whole, rest, there, kept, none, all) (byte
       ap questions_in (all ∙ ap (λ (l : List ℕ). whole ++ l) (is ∙ append_assoc bytes_read (10 ∷ []) left)
           ∙ sym (append_assoc whole bytes_read (10 ∷ left)))
           ∙ line_first (whole ++ bytes_read) left (All-append (λ byte. (byte == 10) ≡ false) whole bytes_read none part)
-          ∙ ap (λ (o : Option Question). o ∷ questions_in left) (sym (ap asked_of line_now ∙ kept_asks (whole ++ bytes_read))),
+          ∙ ap (λ (o : Option Question). o ∷ questions_in left)
+          (sym (ap asked_of line_now ∙ kept_asks (whole ++ bytes_read))),
     )
 
 -- the end of the input

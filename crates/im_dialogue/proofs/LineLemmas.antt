@@ -6,7 +6,8 @@ use lib.Seq.{take-append-add}
 -- what fits is kept whole
 pub kept_all : (line part : List ℕ) (most : ℕ) → length line ≤ most → length part ≤ most - length line
     → line ++ part ≡ take most (line ++ part)
-kept_all line part most few fits = sym (take_all most (line ++ part) (omega (arith, length-append line part, few, fits)))
+kept_all line part most few fits =
+    sym (take_all most (line ++ part) (omega (arith, length-append line part, few, fits)))
 
 -- and of what doesn't its beginning
 pub kept_some : (line part : List ℕ) (most : ℕ) → length line ≤ most

@@ -40,7 +40,8 @@ told_commands all rest told most order few =
     many told = length-map (asks_told told) (λ (a : AskedCommand). a.command)
         ∙ length-map told (λ (t : ToldAnswer). t.asked)
 
-module _ {D : Type 0} (watch : Bool) (old new : FrontState D) (told : List ToldAnswer) (it : Advanced old told new) where
+module _ {D : Type 0} (watch : Bool) (old new : FrontState D) (told : List ToldAnswer)
+    (it : Advanced old told new) where
   -- what was told, and what those that watch are told
   pub was_told : (nows : List (List ℕ)) (most : ℕ) → AreAsked old.asked → length told ≤ min most MAX_GROUP
       → TellWatchers watch (group_start old.session.engine) [] (take most (commands_asked old.asked)) nows
@@ -53,7 +54,8 @@ module _ {D : Type 0} (watch : Bool) (old new : FrontState D) (told : List ToldA
       let works = worked e new.session.engine (commands_told told) (answers_told told) it.answered alive in
       record {
         asked = (asked_split (asks_told told) new.asked (subst AreAsked it.order asked)).0;
-        answers = (done_by e new.session.engine (commands_told told) (answers_told told) it.answered works alive).answers;
+        answers =
+            (done_by e new.session.engine (commands_told told) (answers_told told) it.answered works alive).answers;
         room = fits_told b e.count e.room (length told) refl refl it.room within last spent;
         watched = subst (λ (l : List Command). TellWatchers watch b [] l nows)
             (told_commands old.asked new.asked told most it.order (omega (arith, few)))
@@ -390,7 +392,8 @@ end_next old new kept known later read on =
     (same_behind new.front.asked (questions_left known) (left_behind false (option_map questions_in later)) read)
     (on (questions_left known))
 
-module _ {D E : Type 0} (old new : Dialogue D) (was is : List Backup) (known later : Option (List ℕ)) (r : Result Bool E)
+module _ {D E : Type 0} (old new : Dialogue D) (was is : List Backup) (known later : Option (List ℕ))
+    (r : Result Bool E)
     (next : TalksNext old was known new is later r) where
   -- a line was served, or there was none
   pub next_ok : (goes_on test : Bool) → r ≡ Ok goes_on → goes_on ≡ test
@@ -412,7 +415,8 @@ module _ {D E T : Type 0} (old mid new : Dialogue D) (was is : List Backup) (kno
     (on : TalksOn old.setting.watch old.front.session (told_by_it old was known) mid.front.session
     (told_by_it mid is left)) (r : Result T E) (within : TalksWithin mid new r) where
   pub settled_ok : (x : T) → r ≡ Ok x
-      → TalksOn old.setting.watch old.front.session (told_by_it old was known) new.front.session (told_by_it new is left)
+      → TalksOn old.setting.watch old.front.session (told_by_it old was known) new.front.session
+      (told_by_it new is left)
   settled_ok x at = on_after old.setting.watch old.front.session mid.front.session new.front.session
       (told_by_it old was known) (told_by_it mid is left) (told_by_it new is left) on
       (subst (λ (s : Setting). TalksOn s.watch mid.front.session (told_by_it mid is left) new.front.session

@@ -18,14 +18,14 @@ use Rattle.im_dialogue.specs.declared.asking.Question.TheVariants as asks
 -- ---- who is resumed
 
 -- by a cell of the kind that the operation is for
-at_one : (kind : Kind) (serve : CellState
-    → Served) (cells : List (Option Held)) (a : ℕ) (held : Held) (to : CellState
-    → List (Waiter × Reply)) → ((s : CellState) → (serve s).resumed ≡ to s)
+at_one : (kind : Kind) (serve : CellState → Served) (cells : List (Option Held)) (a : ℕ) (held : Held)
+    (to : CellState → List (Waiter × Reply)) → ((s : CellState) → (serve s).resumed ≡ to s)
     → (at_cell kind serve cells a (Some held)).resumed ≡ (if same_kind kind held.block.kind then to held.state else [])
 at_one kind serve cells a held to is = by_test (same_kind kind held.block.kind)
   where
     by_test : (b : Bool)
-        → (if b then serve_cell cells a held.block (serve held.state) else only_tells cells WrongKind).resumed ≡ (if b then to held.state else [])
+        → (if b then serve_cell cells a held.block (serve held.state) else only_tells cells WrongKind).resumed
+        ≡ (if b then to held.state else [])
     by_test true = is held.state
     by_test false = refl
 
@@ -34,7 +34,8 @@ at_one kind serve cells a held to is = by_test (same_kind kind held.block.kind)
 none_resumed : (kind : Kind) (serve : CellState → Served) (cells : List (Option Held)) (a : ℕ) (held : Option Held)
     → ((s : CellState) → (serve s).resumed ≡ []) → (at_cell kind serve cells a held).resumed ≡ []
 none_resumed kind serve cells a None none = refl
-none_resumed kind serve cells a (Some held) none = at_one kind serve cells a held (λ s. []) none ∙ same [] (same_kind kind held.block.kind)
+none_resumed kind serve cells a (Some held) none =
+    at_one kind serve cells a held (λ s. []) none ∙ same [] (same_kind kind held.block.kind)
   where
     same : (xs : List (Waiter × Reply)) (b : Bool) → (if b then xs else xs) ≡ xs
     same xs true = refl
@@ -56,22 +57,25 @@ alloc_resumes cells kind n true found = refl
 alloc_resumes cells kind n false None = refl
 alloc_resumes cells kind n false (Some base) = refl
 
-whole_resumes : (after : Block
-    → List (Option Held)) (reply : Reply) (cells : List (Option Held)) (a : ℕ) (found : Option Block)
-    → (unless_waited_for after reply cells a found).resumed ≡ []
+whole_resumes : (after : Block → List (Option Held)) (reply : Reply) (cells : List (Option Held)) (a : ℕ)
+    (found : Option Block) → (unless_waited_for after reply cells a found).resumed ≡ []
 whole_resumes after reply cells a None = refl
 whole_resumes after reply cells a (Some block) = by_test (list_any is_waiting_cell (take block.length (drop a cells)))
   where
     by_test : (b : Bool)
-        → (if b then only_tells cells StillWaiting else record { cells = after block; entry = Answered reply; resumed = [] }).resumed ≡ []
+        → (if b then only_tells cells StillWaiting
+        else record { cells = after block; entry = Answered reply; resumed = [] }).resumed ≡ []
     by_test true = refl
     by_test false = refl
 
 pub quiet_resumes : (cells : List (Option Held)) (who : Waiter) (op : Op) → is_quiet op ≡ true
     → (act cells who op).resumed ≡ []
 quiet_resumes cells who (Alloc kind n) quiet = alloc_resumes cells kind n (n == 0) (place n cells)
-quiet_resumes cells who (Release a) quiet = whole_resumes (λ block. fill cells a block.length None) Released cells a (block_with_base a (held_at cells a))
-quiet_resumes cells who (Reset a) quiet = whole_resumes (λ block. change_each emptied cells a block.length) Cleared cells a (block_with_base a (held_at cells a))
+quiet_resumes cells who (Release a) quiet = whole_resumes (λ block. fill cells a block.length None) Released cells a
+    (block_with_base a (held_at cells a))
+quiet_resumes cells who (Reset a) quiet =
+    whole_resumes (λ block. change_each emptied cells a block.length) Cleared cells a
+    (block_with_base a (held_at cells a))
 quiet_resumes cells who (Fetch a) quiet = none_resumed I (fetch who) cells a (held_at cells a) (fetch_resumes who)
 quiet_resumes cells who (Take a) quiet = none_resumed M (take_from who) cells a (held_at cells a) (take_resumes who)
 quiet_resumes cells who (Store a v) quiet = absurd (cc)
@@ -99,12 +103,15 @@ alone_line watch name m now n turns here asked answer none same = by_asked asked
     by_asked (Some (asks.Serve command)) none same it = absurd (cc)
     by_asked (Some (asks.Look look)) none same is =
         subst is_it (sym is) (plain (Looked look) (ap (λ (k : Contents). look_text name k look) (same look refl)) refl)
-    by_asked (Some (asks.Window element)) none same is = subst is_it (sym is) (plain (Window element (bounds m.windows element)) refl refl)
+    by_asked (Some (asks.Window element)) none same is =
+        subst is_it (sym is) (plain (Window element (bounds m.windows element)) refl refl)
     by_asked (Some asks.Room) none same is = subst is_it (sym is) (plain (Room here.room) refl refl)
     by_asked (Some asks.Turn) none same (done, (is, last)) = subst is_it (sym is) (plain (Turned done) refl refl)
     by_asked (Some asks.Count) none same is = subst is_it (sym is) (plain (Count n) refl refl)
-    by_asked (Some asks.About) none same (slots, is) = subst is_it (sym is) (plain (Facts (about_of m slots n here.room)) refl refl)
-    by_asked (Some (asks.Backup backup)) none same (kept, is, of) = subst is_it (sym is) (plain (BackedUp backup kept) refl refl)
+    by_asked (Some asks.About) none same (slots, is) =
+        subst is_it (sym is) (plain (Facts (about_of m slots n here.room)) refl refl)
+    by_asked (Some (asks.Backup backup)) none same (kept, is, of) =
+        subst is_it (sym is) (plain (BackedUp backup kept) refl refl)
     by_asked (Some asks.Quit) none same it = absurd it
     by_asked None none same (number, (fault, is)) = subst is_it (sym is) (plain (Wrong number fault) refl refl)
 

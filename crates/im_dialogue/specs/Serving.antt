@@ -45,8 +45,8 @@ module _ {D E : Type 0} where
       (λ e. TalkEnds old.setting.watch old.front.session (told_by_it old kept left) new.front.session
       (told_by_it new kept None))
 
-  -- What a call comes to that serves this line, given the backups that were kept and are, whatever is left behind it. It
-  -- returns whether the dialogue continues.
+  -- What a call comes to that serves this line, given the backups that were kept and are, whatever is left behind it.
+  -- It returns whether the dialogue continues.
   abbrev pub TalksLine : Option Question → Dialogue D → List Backup → Dialogue D → List Backup → Result Bool E → Type 0
   TalksLine asked old was new is result = (rest : Option (List (Option Question))) → MatchResult result
       (λ goes_on. TalksOn old.setting.watch old.front.session (told_by_it old was (asking asked rest))

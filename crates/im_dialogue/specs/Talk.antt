@@ -1,12 +1,12 @@
 -- A dialogue over a session: what was asked, what it was answered, and what was put. (Own.)
 use Rattle.std.specs.Prelude.{◌≡◌, ℕ, zero, suc, ◌+◌, ◌≤◌, Bool, true, false, ◌⊎◌, List, [], ◌∷◌, ◌++◌, length, IfOk}
-use Rattle.std.specs.Prelude.{MatchOption, MatchResult, Some, None, Ok, Err, Option, Result}
+use Rattle.std.specs.Prelude.{IfErr, MatchOption, MatchResult, Some, None, Ok, Err, Option, Result}
 use Rattle.std.specs.Io.KnownBytes.{Appends}
-use Rattle.im_types.specs.Types.{Command, Outcome, Refusal, JournalFull, Device, Failed, MAX_GROUP, Contents, bounds}
-use Rattle.im_types.specs.Types.{step, is_accepted, after, layout_in_use}
+use Rattle.im_types.specs.Types.{Command, Outcome, Refusal, JournalFull, MAX_GROUP, Contents, bounds, step, is_accepted}
+use Rattle.im_types.specs.Types.{after, layout_in_use}
 use Rattle.{im_checkpoint.specs.declared.TurnDone.TurnDone, im_text.specs.Printing.Begins}
 use Rattle.im_turning.specs.Turning.{IsSpent, Point, point_of, TurnsLead, with_one}
-use Rattle.im_session.specs.{Kept.session_of, Kept.SessionState, Put.sure_by, Serving.Rests}
+use Rattle.im_session.specs.{Kept.session_of, Kept.SessionState, Put.sure_by, Serving.IsBroken, Serving.Rests}
 use Rattle.im_script.specs.declared.LineFault.{LineFault}
 use Rattle.im_dialogue.specs.{Answers.answer_text, Asking.asked_of, Backups.Backup, Backups.bytes_of}
 use Rattle.im_dialogue.specs.{declared.backups.BackupFault.BackupFault, Watching.watch_text}
@@ -117,12 +117,6 @@ abbrev pub backups_of : Contents → List Exchange → List Backup
 backups_of m [] = []
 backups_of m (x ∷ xs) = backup_by (after m (put_of m xs)) x.answer ++ backups_of m xs
 
--- the refusal says that a call of the disk failed, and ends the dialogue
-abbrev pub is_end : Refusal → Bool
-is_end Device = true
-is_end Failed = true
-is_end refusal = false
-
 -- ---- with a session
 
 -- a line with this answer and this name of a refusal was said where the engine stood here
@@ -173,6 +167,10 @@ module _ {D : Type 0} (old new : SessionState D) where
   AnswersOrHalts asked result = MatchResult result
       (λ given. MatchOption given ((asked ≡ asks.Quit) × (new ≡ old)) (λ answer. SaysLine (Some asked) answer))
       (λ e. Halts)
+
+-- a refusal says that a call of the disk failed, now or before, and the engine doesn't work
+abbrev pub BreaksOff : {D T : Type 0} → Result T Refusal → SessionState D → Type 0
+BreaksOff result new = IfErr result (λ e. IsBroken e × (new.engine.failed ≡ true))
 
 -- this was asked and answered, and the session is as it was
 abbrev pub SaysNow : {D : Type 0} → SessionState D → Option Question → LineAnswer → Type 0

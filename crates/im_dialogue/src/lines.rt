@@ -112,8 +112,8 @@ fn read_part<R: BufRead>(
 
 /// Reads the next line, without its line feed. If the line is longer than [`MAX_LINE`], it keeps only the first
 /// [`KEPT`] bytes, and reads on to the line feed. Returns false at the end of the input. A line that ends without a
-/// line feed is no line: what was cut off isn't asked. Notes whether another whole line stands behind it in the reader's
-/// buffer, so that reading it doesn't wait.
+/// line feed is no line: what was cut off isn't asked. Notes whether another whole line stands behind it in the
+/// reader's buffer, so that reading it doesn't wait.
 pub(crate) fn next_line<R: BufRead>(
     input: &mut R,
     line: &mut Vec<u8>,

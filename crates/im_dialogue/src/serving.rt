@@ -1,8 +1,8 @@
 //! Serves a dialogue, line by line.
 //!
-//! A line is read and parsed once. A command is asked of the front, and its answer waits for those ahead of it. Any other
-//! line is answered behind all that is asked. Answers are told as a text, which is put out once no whole line is left in
-//! the reader's buffer.
+//! A line is read and parsed once. A command is asked of the front, and its answer waits for those ahead of it. Any
+//! other line is answered behind all that is asked. Answers are told as a text, which is put out once no whole line is
+//! left in the reader's buffer.
 ghost use Rattle.std.specs.Prelude.{◌≡◌, ◌<◌, true, false, List, [], length, IfOk, OnOk, Some, None};
 ghost use Rattle.im_turning.specs.Turning.{IsSpent, point_of};
 ghost use Rattle.{im_session.specs.Kept.Kept, im_front.specs.declared.asks.TheConstants.MOST_ASKED};
@@ -403,19 +403,21 @@ impl<D: Disk> Dialogue<D> {
         }
     }
 
-    /// Serves a dialogue, until the input ends or `quit` is asked. Each line of the input is answered by
-    /// one line, in order. The answer is written and put through after what it tells is on the disk.
+    /// Serves a dialogue, until the input ends or `quit` is asked. Each line of the input is answered by one line, in
+    /// order. The answer is written and put through after what it tells is on the disk.
     ///
     /// A line that isn't in the grammar is answered by where it goes wrong, and changes nothing. A line of more than
     /// 4,096 bytes is such a line, and no more of it is kept. An end of the input without a line feed before it is no
     /// line. What is answered is what the lines of the input ask for, all of them, or the first ones after an error.
     ///
-    /// Up to 16 requests and confirmations are served as one group, if their lines follow each other in the reader's
-    /// buffer, with lines between them that change nothing. Their answers are written together, and are those that the
-    /// lines would have by themselves. A group ends before a confirmation that would drop an entry of which it isn't
-    /// known, before the group acts, that it is answered: one that waits, or that a fetch or a take of the group makes.
-    /// It also ends before a command that may change what a line ahead of it shows that only looks. No line waits for
-    /// another. All other lines are answered before the next one is read.
+    /// A request or confirmation is asked of the front, and served with those behind it: up to 16 as one group, if
+    /// their lines follow each other in the reader's buffer. Their answers are those that the lines would have by
+    /// themselves. A group ends before a confirmation that would drop an entry of which it isn't known, before the
+    /// group acts, that it is answered: one that waits, or that a fetch or a take of the group makes. Any other line is
+    /// answered behind all that was asked, so it ends a group. No line waits for one that isn't in the buffer.
+    ///
+    /// Answers are told in one text. It is written once no whole line is left in the buffer, or 64 KB are told. So many
+    /// lines that only look are answered by one write.
     ///
     /// The reader tells whether something is there to be read. While nothing is, turns of a checkpoint are taken if
     /// there is room for less than half as many commands as the journal has slots.

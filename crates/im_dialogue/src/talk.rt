@@ -3,8 +3,8 @@ ghost use Rattle.std.specs.Prelude.{◌≡◌, ◌≤◌, true, ◌++◌, IfOk, 
 ghost use Rattle.im_front.specs.State.{FrontRests};
 ghost use Rattle.im_dialogue.specs.{Asking.command_in, declared.look.Look.Look};
 ghost use Rattle.im_dialogue.specs.declared.asking.Question.TheVariants.{Backup, Count, Room, Turn, Window};
-ghost use Rattle.im_dialogue.specs.Talk.{about_of, AnswersOrHalts, backup_by, KeepsAnswered, KeepsNone, OnlyTurned};
-ghost use Rattle.im_dialogue.specs.Talk.{SaysNow, SaysOrHalts};
+ghost use Rattle.im_dialogue.specs.Talk.{about_of, AnswersOrHalts, backup_by, BreaksOff, KeepsAnswered, KeepsNone};
+ghost use Rattle.im_dialogue.specs.Talk.{OnlyTurned, SaysNow, SaysOrHalts};
 ghost use Rattle.im_dialogue.specs.declared.answers.LineAnswer.TheVariants as answer;
 
 use crate::about::About;
@@ -52,11 +52,12 @@ pub(crate) fn turn_while_quiet<D: Disk, E: Ear>(
     Ok(())
 }
 
-// Takes a turn, and returns what it did as an answer.
+// Takes a turn, and returns what it did as an answer. It is refused only if a call of the disk failed.
 fn turn<D: Disk>(front: &mut Front<D>) -> Result<LineAnswer, Refusal>
     ensures answered { SaysOrHalts front.old.session front.new.session (Some Turn) result }
     ensures asked { front.new.asked ≡ front.old.asked }
     ensures same { IfOk result (λ answer. KeepsNone answer) }
+    ensures refused { BreaksOff result front.new.session }
 {
     // A crash in this call leaves the memory as it is.
     match front.turn() {
@@ -129,14 +130,15 @@ pub(crate) fn wrong<D: Disk>(front: &Front<D>, number: u64, fault: LineFault) ->
     LineAnswer::Wrong(number, fault)
 }
 
-/// Does what a line asks that is no command, and returns the answer. Returns `None` if that ends the dialogue. The answer
-/// to a line that only looks is what the memory shows then ([`crate::add_answer`]). `room` and `about` tell the engine's
-/// room, and `turn` the turn that was taken. `slots` is how many slots the journal has.
+/// Does what a line asks that is no command, and returns the answer. Returns `None` if that ends the dialogue. The
+/// answer to a line that only looks is what the memory shows then ([`crate::add_answer`]). `room` and `about` tell the
+/// engine's room, and `turn` the turn that was taken. `slots` is how many slots the journal has.
 ///
 /// A backup is kept of the memory as it is, with the count of its commands. Each other line leaves the backups as they
 /// are.
 ///
-/// Returns `Device` or `Failed` if a call of the disk failed. What was said before stays.
+/// Returns `Device` if a call of the disk failed, or `Failed` if one had failed before, and nothing else. What was said
+/// before stays.
 pub(crate) fn answer<D: Disk, B: Backups>(
     front: &mut Front<D>,
     backups: &mut B,
@@ -148,6 +150,7 @@ pub(crate) fn answer<D: Disk, B: Backups>(
     ensures asked { front.new.asked ≡ front.old.asked }
     ensures same { (look : Look) → asked ≡ Question.Look look → front.new ≡ front.old }
     ensures kept { KeepsAnswered front.old.session.engine.memory (B.kept backups.old) (B.kept backups.new) result }
+    ensures refused { BreaksOff result front.new.session }
 {
     match asked {
         Question::Serve(_command) => Ok(None), // It is no command.

@@ -228,9 +228,9 @@ fn add_now_of(
     Ok(())
 }
 
-/// Makes what those that watch are told behind each of the first commands that are asked: of as many as are one group at
-/// most, and if the dialogue is watched, as far as it is known before they act. Returns of how many it is, and of one at
-/// least.
+/// Makes what those that watch are told behind each of the first commands that are asked: of as many as are one group
+/// at most, and if the dialogue is watched, as far as it is known before they act. Returns of how many it is, and of
+/// one at least.
 pub(crate) fn make_nows(
     alloc: Global,
     memory: &Memory,

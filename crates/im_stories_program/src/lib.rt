@@ -14,7 +14,7 @@ mod spelling;
 mod writers;
 
 use im_disk::Mode;
-use im_program::Descriptors;
+use im_program::{Descriptors, Machine};
 use im_script::Said;
 use im_story::{Phrase, Printout, Saying, Subject, walk_file};
 use im_story_disk::StoryFile;
@@ -23,9 +23,9 @@ use writers::ObserverNotes;
 
 /// What a story works with: a script, an image in memory, what was last printed, and the folder's files.
 #[derive(Drop)]
-struct ProgramDesk<'a> {
+struct ProgramDesk<'a, R> {
     /// The folder's files, and standard output.
-    rt: &'a HostRuntime,
+    rt: &'a R,
     /// What occupies the numbers of the standard streams.
     held: &'a Descriptors,
     /// The image in memory.
@@ -46,8 +46,8 @@ struct ProgramDesk<'a> {
     notes: ObserverNotes,
 }
 
-impl<'a> ProgramDesk<'a> {
-    fn new(rt: &'a HostRuntime, held: &'a Descriptors) -> ProgramDesk<'a> {
+impl<'a, R: Machine> ProgramDesk<'a, R> {
+    fn new(rt: &'a R, held: &'a Descriptors) -> ProgramDesk<'a, R> {
         let alloc = rt.alloc();
         ProgramDesk {
             rt,
@@ -96,7 +96,7 @@ impl<'a> ProgramDesk<'a> {
     }
 }
 
-impl<'a> Subject for ProgramDesk<'a> {
+impl<'a, R: Machine> Subject for ProgramDesk<'a, R> {
     fn begin(&mut self) {
         *self = ProgramDesk::new(self.rt, self.held);
     }
@@ -136,6 +136,12 @@ impl<'a> Subject for ProgramDesk<'a> {
 }
 
 /// Walks the stories of a file. Returns whether nothing was answered otherwise.
-pub fn walk(rt: &HostRuntime, held: &Descriptors, file: &str, said: &mut Saying) -> bool {
-    walk_file(rt, file, &mut ProgramDesk::new(rt, held), said)
+pub fn walk<R: Machine>(
+    rt: &HostRuntime,
+    machine: &R,
+    held: &Descriptors,
+    file: &str,
+    said: &mut Saying,
+) -> bool {
+    walk_file(rt, file, &mut ProgramDesk::new(machine, held), said)
 }

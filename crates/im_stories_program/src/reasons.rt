@@ -2,9 +2,9 @@
 
 use crate::ProgramDesk;
 use im_damage::Damage;
-use im_program::refuse;
+use im_program::{Machine, refuse};
 use im_story::{Phrase, Saying};
-use im_text::{CallFault, PathFault, Reason};
+use im_text::{CallFault, PathFault, Reason, Style};
 use im_types::Refusal;
 use std::io::ErrorKind;
 
@@ -60,8 +60,13 @@ pub fn tell(call: &Phrase, said: &mut Saying) {
 }
 
 /// Prints that there was no memory. Tells the status.
-pub fn refuse_memory(desk: &mut ProgramDesk, said: &mut Saying) {
+pub fn refuse_memory<R: Machine>(desk: &mut ProgramDesk<'_, R>, said: &mut Saying) {
     desk.print(usize::MAX);
-    let status = refuse(desk.rt.alloc(), Refusal::NoMemory, &mut desk.out);
+    let status = refuse(
+        desk.rt.alloc(),
+        Style::Text,
+        Refusal::NoMemory,
+        &mut desk.out,
+    );
     said.number(status)
 }

@@ -16,8 +16,8 @@ returns-in-Ok-clause-talked g c = λ honest.
     c.talk_on.result.0
     ⊎ Talked g.D.Disk s.watch c.args.disk c.talk_on.result.1 before after c.talk_on.result.0)
     c.new-dialogue.ensures.setting
-    (inr (talked g.D.Disk dialogue.setting.watch c.args.disk dialogue.front.session opened c.talk_on.result.1 before after
-    c.talk_on.result.0 c.talk_on.ensures.closed honest))
+    (inr (talked g.D.Disk dialogue.setting.watch c.args.disk dialogue.front.session opened c.talk_on.result.1 before
+    after c.talk_on.result.0 c.talk_on.ensures.closed honest))
 
 pub returns-in-Ok-clause-honest : goal.returns-in-Ok-clause-honest
 returns-in-Ok-clause-honest g c = λ honest.

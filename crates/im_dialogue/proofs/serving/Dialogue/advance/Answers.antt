@@ -21,5 +21,5 @@ returns-in-Ok-clause-talks g c = λ kept left.
 
 pub returns-in-Err-clause-talks : goal.returns-in-Err-clause-talks
 returns-in-Err-clause-talks g c = λ kept left.
-    turns_failed c.args.self.now.setting.watch c.args.self.now.front c.make_room.new.self c.make_room.ensures.same _ kept
-    left
+    turns_failed c.args.self.now.setting.watch c.args.self.now.front c.make_room.new.self c.make_room.ensures.same _
+    kept left

@@ -9,7 +9,8 @@ use Rattle.im_dialogue.proofs.serving.Dialogue.serve_group.Goals as goal
 
 pub returns-in-Err-clause-talks : goal.returns-in-Err-clause-talks
 returns-in-Err-clause-talks g c = λ kept left.
-    talk_ends_here c.args.self.now.setting.watch c.args.self.now.front.session (told_by_it c.args.self.now kept left) None
+    talk_ends_here c.args.self.now.setting.watch c.args.self.now.front.session
+    (told_by_it c.args.self.now kept left) None
 
 pub returns-then-failed-clause-talks : goal.returns-then-failed-clause-talks
 returns-then-failed-clause-talks g c = λ kept left.
@@ -31,8 +32,8 @@ returns-in-Ok-say_all-clause-talks g c = λ kept left.
     let watched = subst (λ (l : List AskedCommand). TellWatchers old.setting.watch
     (group_start old.front.session.engine) [] (take c.in-Ok.most (commands_asked l)) nows) c.asked.ensures
     (c.in-Ok.ensures.known (group_start old.front.session.engine) (sym c.memory.ensures)) in
-    let was = was_told old.setting.watch old.front new told c.advance.ensures.advanced nows c.in-Ok.most c.requires.asked
-    c.advance.ensures.few watched within last c.requires.spent alive in
+    let was = was_told old.setting.watch old.front new told c.advance.ensures.advanced nows c.in-Ok.most
+    c.requires.asked c.advance.ensures.few watched within last c.requires.spent alive in
     let said = c.in-Ok-say_all.ensures.said in
     group_told old.setting.watch old.front new told c.advance.ensures.advanced nows said.0 _ _ was
     (lines_as _ told _ nows said.0 c.as_slice.ensures.value
@@ -51,8 +52,8 @@ returns-in-Err-say_all-clause-talks g c = λ kept left.
     let watched = subst (λ (l : List AskedCommand). TellWatchers old.setting.watch
     (group_start old.front.session.engine) [] (take c.in-Ok.most (commands_asked l)) nows) c.asked.ensures
     (c.in-Ok.ensures.known (group_start old.front.session.engine) (sym c.memory.ensures)) in
-    let was = was_told old.setting.watch old.front new told c.advance.ensures.advanced nows c.in-Ok.most c.requires.asked
-    c.advance.ensures.few watched within last c.requires.spent alive in
+    let was = was_told old.setting.watch old.front new told c.advance.ensures.advanced nows c.in-Ok.most
+    c.requires.asked c.advance.ensures.few watched within last c.requires.spent alive in
     group_untold old.setting.watch old.front new told c.advance.ensures.advanced nows _ _ was
     c.in-Err-say_all.ensures.same alive kept left
 

@@ -22,9 +22,10 @@ returns-in-Some-clause-talks g c =
 
 pub ask-requires-clause-line : goal.ask-requires-clause-line
 ask-requires-clause-line g c =
-    let read : asked_of c.args.self.now.drafts.line.items ≡ c.in-Ok.asked = search rules in
-    (c.args.self.now.drafts.line.items,
-    read ∙ command_some c.in-Ok.asked c.in-Some.command (sym c.command_in.ensures ∙ c.in-Some.is))
+    let read : asked_of c.args.self.now.drafts.line.items ≡ c.in-Ok.asked = search rules in (
+      c.args.self.now.drafts.line.items,
+      read ∙ command_some c.in-Ok.asked c.in-Some.command (sym c.command_in.ensures ∙ c.in-Some.is),
+    )
 
 pub returns-in-None-clause-talks : goal.returns-in-None-clause-talks
 returns-in-None-clause-talks g c =

@@ -156,7 +156,7 @@ returns-clause-talks g c =
     let was = with_input (g.R.Read.remaining c.args.input.now)
     (outputs (g.W.Write.contents c.args.out.now) (g.B.Backups.kept c.args.backups.now)) in
     let known = questions_left (g.R.Read.remaining c.loop-served.input) in
-    ended_put start.setting.watch start.front.session mid.front.session was held held mid.front.asked text inv.grown.0 kept
-    None inv.grown.1 (0, Appends-nil held)
+    ended_put start.setting.watch start.front.session mid.front.session was held held mid.front.asked text inv.grown.0
+    kept None inv.grown.1 (0, Appends-nil held)
     (end_here start.setting.watch start.front.session mid.front.session was
     (told_onto held mid.front.asked text kept known) None inv.talks)

@@ -9,7 +9,8 @@ returns-in-Ok-true-clause-talks g c =
     let known = g.R.Read.remaining c.args.input.now in
     let later = g.R.Read.remaining c.next_line.new.input in
     let line = c.next_line.new.line.items in
-    line_next c.args.self.now c.serve_line.new.self (g.B.Backups.kept c.args.backups.now) (g.B.Backups.kept c.serve_line.new.backups)
+    line_next c.args.self.now c.serve_line.new.self (g.B.Backups.kept c.args.backups.now)
+    (g.B.Backups.kept c.serve_line.new.backups)
     known later (asked_of line) c.serve_line.result
     (asked_line known later line (rw c.in-Ok-true.field-0-test at c.in-Ok-true.ensures.read)) c.serve_line.ensures.talks
 

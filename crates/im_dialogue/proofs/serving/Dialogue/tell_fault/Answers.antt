@@ -17,7 +17,8 @@ returns-in-Ok-say-clause-talks g c = λ kept rest.
     (λ n turns here a. alone_line watch said.0 old.session.engine.memory _ n turns here None c.wrong-answer.result refl
     (λ look is. c.memory.ensures) a)
     (ap (λ (a : LineAnswer). backup_by old.session.engine.memory a ++ kept) (sym c.wrong-answer.ensures.answer)) said.1
-    (λ n turns here a. hears_alone old.asked old.asked _ _ _ c.requires.none c.requires.none (hears_line None rest refl))
+    (λ n turns here a. hears_alone old.asked old.asked _ _ _ c.requires.none c.requires.none
+    (hears_line None rest refl))
 
 pub returns-in-Err-say-clause-talks : goal.returns-in-Err-say-clause-talks
 returns-in-Err-say-clause-talks g c = λ kept rest.
@@ -31,7 +32,8 @@ returns-in-Err-say-clause-talks g c = λ kept rest.
     (λ look is. c.memory.ensures) a)
     (ap (λ (a : LineAnswer). backup_by old.session.engine.memory a ++ kept) (sym c.wrong-answer.ensures.answer))
     (behind_asked old.asked (left_behind true rest)) (0, c.in-Err-say.ensures.same ∙ sym (append-nil _))
-    (λ n turns here a. hears_alone old.asked old.asked _ _ _ c.requires.none c.requires.none (hears_line None rest refl))
+    (λ n turns here a. hears_alone old.asked old.asked _ _ _ c.requires.none c.requires.none
+    (hears_line None rest refl))
 
 pub returns-in-Err-clause-talks : goal.returns-in-Err-clause-talks
 returns-in-Err-clause-talks g c = λ kept rest.

@@ -7,7 +7,7 @@ use std::sync::Wait;
 use std::thread::Threads;
 
 /// A machine has files, memory, standard streams and threads. Each type that has them is one.
-pub(crate) trait Machine: Files<File = File>
+pub trait Machine: Files<File = File>
     + AllocGlobal
     + Print
     + Eprint
