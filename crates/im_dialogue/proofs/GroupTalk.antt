@@ -2,7 +2,7 @@
 use Rattle.std.proofs.Common.{◌≡◌, ℕ, zero, suc, ◌+◌, ◌-◌, ◌<◌, ◌≤◌, Bool, true, false, ◌&&◌, List, [], ◌∷◌, ◌++◌}
 use Rattle.std.proofs.Common.{length, if◌then◌else◌, nat_lt, ◌==◌, Some, Err, Option, Result, sym, refl, ap, ◌∙◌, subst}
 use Rattle.std.proofs.Common.{ap₂, inl, inr, ⊎_elim, append-nil, arith, length-append}
-use Rattle.std.{proofs.KnownBytes.Appends-nil, proofs.lemmas.Bool.Decides.nat_tests, specs.Io.KnownBytes.Appends}
+use Rattle.std.{proofs.lemmas.Bool.Decides.nat_tests, specs.Io.KnownBytes.Appends}
 use Rattle.im_types.specs.Types.{Command, Outcome, Served, Refusal, JournalFull, MAX_GROUP, LAST, Contents, step}
 use Rattle.im_types.specs.Types.{is_accepted, after}
 use Rattle.im_laws.proofs.{RunLemmas.after-append, Tests.true_or_false}
@@ -322,6 +322,3 @@ module _ {D : Type 0} (old new : SessionState D) (cs : List Command) (ss : List 
       heard = subst (λ (l : List (Option Question)). HearsSome before l) (sym told.asks) hears;
     }
 
--- nothing of a text
-pub none_of : (was : Option (List ℕ)) (text : List ℕ) → Begins was was text
-none_of was text = (0, Appends-nil was)

@@ -1,10 +1,10 @@
 -- What the lines of an input ask for, and what of it was heard.
 use Rattle.std.proofs.Common.{◌≡◌, ℕ, zero, suc, ◌+◌, ◌<◌, ◌≤◌, Bool, true, false, ◌&&◌, List, [], ◌∷◌, ◌++◌, map}
-use Rattle.std.proofs.Common.{length, get_or, take, drop, IfSome, if◌then◌else◌, OnOk, nat_lt, nat_le, ◌==◌, Some, None}
-use Rattle.std.proofs.Common.{Ok, Err, Option, Result, option_map, sym, refl, ap, ◌∙◌, subst, append_assoc, append-nil}
-use Rattle.std.proofs.Common.{arith, take-append-drop, length-take-le, take_all}
+use Rattle.std.proofs.Common.{length, take, IfSome, if◌then◌else◌, OnOk, nat_lt, nat_le, ◌==◌, Some, None, Ok, Err}
+use Rattle.std.proofs.Common.{Option, Result, option_map, sym, refl, ap, ◌∙◌, subst, append_assoc, append-nil, arith}
+use Rattle.std.proofs.Common.{length-take-le, take_all}
 use Rattle.std.proofs.KnownBytes.{Consumes-kept, Consumes-nil}
-use Rattle.std.proofs.lemmas.{Bool.Decides.nat_tests, List.drop_more, List.Elements.All-append, List.Elements.All-nil}
+use Rattle.std.proofs.lemmas.{Bool.Decides.nat_tests, List.Elements.All-append, List.Elements.All-nil}
 use Rattle.std.proofs.lemmas.List.Splits.{length-slice_split, slice_split_at, slice_split_none}
 use Rattle.std.specs.{Char.is_ascii, Io.KnownBytes.Consumes, Io.KnownBytes.IsAtEnd, Io.KnownBytes.Keeps, List.list_all}
 use Rattle.im_script.specs.{Grammar.words_of, Script.lines_of}
@@ -58,12 +58,6 @@ same_left (Some l) b same = sym same
 pub on_default : {A E P : Type 0} (r : Result A E) → OnOk r P → ((e : E) → r ≡ Err e → ⊥) → P
 on_default (Ok a) it not_err = it
 on_default (Err e) it not_err = absurd (not_err e refl)
-
--- none of it was heard
-pub none_heard : (a b : Left) → Hears a b [] → IfSome a (λ l. b ≡ Some l)
-none_heard None b it = tt
-none_heard (Some all) None it = absurd it
-none_heard (Some all) (Some left) it = ap (λ (l : List (Option Question)). Some l) (sym it)
 
 -- nothing is left
 pub heard_all : (a : Left) (now : Option (List ℕ)) (xs : List (Option Question)) (status : ℕ)
@@ -140,13 +134,6 @@ keep_more (suc k) (x ∷ a) b = ap (λ (l : List ℕ). x ∷ l) (keep_more k a b
 
 pub part_none : IsLinePart []
 part_none = All-nil (λ byte. (byte == 10) ≡ false)
-
--- the first line feed of a text
-pub cut_at : (text : List ℕ) (i : ℕ) → i < length text → get_or text i 0 ≡ 10
-    → text ≡ take i text ++ 10 ∷ drop (i + 1) text
-cut_at text i inside is = sym (take-append-drop i text)
-    ∙ ap (λ (l : List ℕ). take i text ++ l) (drop_more text i 0 inside)
-    ∙ ap (λ (n : ℕ). take i text ++ n ∷ drop (i + 1) text) is
 
 -- no line feed to the end
 pub whole_part : (text : List ℕ) (i : ℕ) → length text ≤ i → IsLinePart (take i text)

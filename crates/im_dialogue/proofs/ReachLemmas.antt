@@ -21,13 +21,6 @@ pub contents_behind : (m : Contents) (left : ℕ) (cs : List Command) (c : Comma
 contents_behind m left [] c = refl
 contents_behind m left (d ∷ cs) c = contents_behind (contents_with m left d) (places_behind m left d) cs c
 
-pub after_memory : (cells elements : ℕ) (m : Contents) (left : ℕ) (cs : List Command) → IsMemory cells elements m
-    → IsMemory cells elements (contents_after_all m left cs)
-after_memory cells elements m left [] is = is
-after_memory cells elements m left (c ∷ cs) is = after_memory cells elements (contents_with m left c)
-    (places_behind m left c) cs
-    (with_memory m left c cells elements is)
-
 -- ---- a request that nobody asked yet
 
 none_step : (cells elements : ℕ) (m : Contents) (c : Command) (who : Waiter) → IsMemory cells elements m

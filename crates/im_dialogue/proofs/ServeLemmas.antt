@@ -23,7 +23,7 @@ use Rattle.im_dialogue.specs.Hearing.{asking, Hears, left_behind, questions_in, 
 use Rattle.im_dialogue.specs.Serving.{behind_asked, PutsOut, TalksLine, TalksNext, TalksWithin, told_by_it, told_onto}
 use Rattle.im_dialogue.specs.Serving.{told_so}
 use Rattle.im_dialogue.specs.Talk.{OnlyTurned, Outputs, outputs, TalkEnds, TalksOn, with_left}
-use Rattle.im_dialogue.specs.Together.{AreAsked, AreLinesOf, group_start, questions_asked, TellWatchers, WasTold}
+use Rattle.im_dialogue.specs.Together.{AreAsked, AreLinesOf, group_start, GroupTold, questions_asked, TellWatchers}
 
 -- ---- a group
 
@@ -47,7 +47,7 @@ module _ {D : Type 0} (watch : Bool) (old new : FrontState D) (told : List ToldA
       → TellWatchers watch (group_start old.session.engine) [] (take most (commands_asked old.asked)) nows
       → old.session.engine.count ≤ LAST → (old.session.engine.count ≡ LAST → old.session.engine.room ≡ 0)
       → (old.session.engine.room ≡ 0 → IsSpent (point_of old.session.engine))
-      → new.session.engine.failed ≡ false → WasTold watch (group_start old.session.engine) told nows
+      → new.session.engine.failed ≡ false → GroupTold watch (group_start old.session.engine) told nows
   was_told nows most asked few watched within last spent alive =
       let e = old.session.engine in
       let b = group_start e in
@@ -64,7 +64,7 @@ module _ {D : Type 0} (watch : Bool) (old new : FrontState D) (told : List ToldA
 
   -- its lines were told
   pub group_told : (nows : List (List ℕ)) (text was is : List ℕ)
-      → WasTold watch (group_start old.session.engine) told nows → AreLinesOf told nows text → is ≡ was ++ text
+      → GroupTold watch (group_start old.session.engine) told nows → AreLinesOf told nows text → is ≡ was ++ text
       → new.session.engine.failed ≡ false → (kept : List Backup) (left : Left)
       → TalksOn watch old.session (told_so old.asked was kept left) new.session (told_so new.asked is kept left)
   group_told nows text was is answered lines same alive kept left =
@@ -76,7 +76,7 @@ module _ {D : Type 0} (watch : Bool) (old new : FrontState D) (told : List ToldA
 
   -- there was no memory for its lines
   pub group_untold : (nows : List (List ℕ)) (was is : List ℕ)
-      → WasTold watch (group_start old.session.engine) told nows → is ≡ was → new.session.engine.failed ≡ false
+      → GroupTold watch (group_start old.session.engine) told nows → is ≡ was → new.session.engine.failed ≡ false
       → (kept : List Backup) (left : Left)
       → TalkEnds watch old.session (told_so old.asked was kept left) new.session (told_so new.asked is kept None)
   group_untold nows was is answered same alive kept left =
@@ -141,10 +141,6 @@ module _ {D : Type 0} (watch : Bool) (old new : FrontState D) (rests : FrontRest
 pub none_left : (xs : List AskedCommand) (i most : ℕ) → length xs + i ≤ most → (i < most → ⊥) → xs ≡ []
 none_left [] i most few over = refl
 none_left (x ∷ xs) i most few over = absurd (over (omega (arith, few)))
-
-pub none_there : (xs : List AskedCommand) → length xs ≡ 0 → xs ≡ []
-none_there [] none = refl
-none_there (x ∷ xs) none = absurd (omega (arith, none))
 
 -- ---- what was told is put out
 

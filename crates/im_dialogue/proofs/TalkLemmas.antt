@@ -1,17 +1,16 @@
 -- What was said over a session, line by line.
-use Rattle.std.proofs.Common.{◌≡◌, ℕ, suc, ◌+◌, Bool, false, List, [], ◌∷◌, ◌++◌, length, take, IfSome, OnOk, Some}
-use Rattle.std.proofs.Common.{None, Ok, Err, Option, Result, MatchResult, sym, refl, ap, ◌∙◌, subst, ap₂, append_assoc}
+use Rattle.std.proofs.Common.{◌≡◌, ℕ, suc, ◌+◌, Bool, false, List, [], ◌∷◌, ◌++◌, length, take, IfSome, Some, None, Ok}
+use Rattle.std.proofs.Common.{Err, Option, Result, MatchResult, sym, refl, ap, ◌∙◌, subst, ap₂, append_assoc}
 use Rattle.std.proofs.Common.{append-nil, arith, length-append}
 use Rattle.std.{proofs.KnownBytes.Appends-nil, proofs.KnownBytes.Appends-trans, specs.Io.KnownBytes.Appends}
 use Rattle.im_types.specs.Types.{Command, Refusal, Contents, after}
 use Rattle.im_laws.proofs.RunLemmas.{after-append}
 use Rattle.{im_checkpoint.specs.declared.TurnDone.TurnDone, im_engine.specs.Answered.TurnAnswered}
 use Rattle.{im_turning.proofs.TurningLemmas.turn_leads, im_text.specs.Printing.Begins}
-use Rattle.im_turning.specs.Turning.{HasMadeRoom, Point, point_of, TurnsLead}
+use Rattle.im_turning.specs.Turning.{Point, point_of, TurnsLead}
 use Rattle.im_session.proofs.RoomLemmas.{rests_none, rests_then, turn_works}
 use Rattle.im_session.specs.{Kept.session_of, Kept.SessionState, Serving.Rests}
-use Rattle.im_dialogue.proofs.HearingLemmas.{heard_some, hears_as, hears_none, hears_on, hears_some_on, on_default}
-use Rattle.im_dialogue.proofs.HearingLemmas.{same_left}
+use Rattle.im_dialogue.proofs.HearingLemmas.{heard_some, hears_as, hears_none, hears_on, hears_some_on, same_left}
 use Rattle.im_dialogue.specs.{Answers.answer_text, Asking.asked_of, Backups.Backup, declared.asking.Question.Question}
 use Rattle.im_dialogue.specs.{Hearing.Hears, Hearing.HearsSome, Hearing.is_quit, Watching.watch_text}
 use Rattle.im_dialogue.specs.declared.answers.LineAnswer.{LineAnswer, TheVariants.Turned}
@@ -248,18 +247,6 @@ taken_more old mid new a done it rests answered is = record {
   works = turn_works mid.engine new.engine a done answered is ∙ it.works;
   turns = done ∷ it.turns;
   lead = (point_of mid.engine, (it.lead, turn_leads mid.engine new.engine a done answered is));
-}
-
--- the same by a call that made room
-pub taken_room : {D T E : Type 0} (old new : SessionState D) (least : ℕ) (r : Result T E) → Rests old new
-    → OnOk r (new.engine.failed ≡ old.engine.failed)
-    → OnOk r (HasMadeRoom least (point_of old.engine) (point_of new.engine))
-    → ((e : E) → r ≡ Err e → ⊥) → OnlyTurned old new
-taken_room old new least r rests works room done = let made = on_default r room done in record {
-  rests = rests;
-  works = on_default r works done;
-  turns = made.turns;
-  lead = made.lead;
 }
 
 -- nothing was said by them
@@ -517,13 +504,6 @@ module _ {D : Type 0} (watch : Bool) where
   pub left_as : (s : SessionState D) (was : Outputs) (before later : Left) → IfSome before (λ l. later ≡ Some l)
       → On s (with_left before was) s (with_left later was)
   left_as s was before later same = nothing_talked s s (with_left before was) later (nothing_said s) same
-
-  -- the same before a call, and behind it
-  pub from_left : (old new : SessionState D) (was is : Outputs) (before mid : Left)
-      → IfSome before (λ l. mid ≡ Some l) → On old (with_left mid was) new is
-      → On old (with_left before was) new is
-  from_left old new was is before mid same on =
-      on_after old old new (with_left before was) (with_left mid was) is (left_as old was before mid same) on
 
   pub to_left : (old new : SessionState D) (was is : Outputs) (mid later : Left)
       → IfSome mid (λ l. later ≡ Some l) → On old was new (with_left mid is)

@@ -15,9 +15,9 @@ use Rattle.im_dialogue.specs.{Answers.answer_text, Answers.served_line, declared
 use Rattle.im_dialogue.specs.{Serving.behind_asked, Telling.SaysAll, Watching.told_with}
 use Rattle.im_dialogue.specs.declared.answers.LineAnswer.{LineAnswer, TheVariants.Served as ServedAs}
 use Rattle.im_dialogue.specs.Hearing.{asking, Hears, left_behind, until_quit}
-use Rattle.im_dialogue.specs.Together.{answer_told, AreAsked, AreLinesOf, first_text, FitInto, GroupStart, later_texts}
-use Rattle.im_dialogue.specs.Together.{memory_between, places_between, point_between, questions_asked, TellWatchers}
-use Rattle.im_dialogue.specs.Together.{WasTold}
+use Rattle.im_dialogue.specs.Together.{answer_told, AreAsked, AreLinesOf, first_text, FitInto, GroupStart, GroupTold}
+use Rattle.im_dialogue.specs.Together.{later_texts, memory_between, places_between, point_between, questions_asked}
+use Rattle.im_dialogue.specs.Together.{TellWatchers}
 use Rattle.im_dialogue.specs.declared.asking.Question.TheVariants as asks
 
 member_answered : (s : Served) (a : Result Outcome Refusal) → s ≡ as_served a → served_answer s ≡ a
@@ -109,7 +109,7 @@ module _ (watch : Bool) (b : GroupStart) where
       next = omega (arith, length-append ahead (c ∷ []))
 
   -- what was told was said
-  pub says_told : (told : List ToldAnswer) (nows : List (List ℕ)) (text : List ℕ) → WasTold watch b told nows
+  pub says_told : (told : List ToldAnswer) (nows : List (List ℕ)) (text : List ℕ) → GroupTold watch b told nows
       → AreLinesOf told nows text → SaysAll watch b (commands_told told) text (questions_asked (asks_told told))
   says_told told nows text was lines =
       says_from told [] nows [] text [] (told_none watch b) was.asked was.answers

@@ -8,7 +8,7 @@ use Rattle.im_types.specs.Types.{Empty, Full, Clashed, Held, Contents, held_at, 
 use Rattle.im_types.specs.Types.{ServedCell as Served, fetch, take_from, only_tells, same_kind, serve_cell, at_cell}
 use Rattle.im_types.specs.Types.{allocate_at, block_with_base, is_waiting_cell, unless_waited_for, emptied, act, bounds}
 use Rattle.{im_checkpoint.specs.declared.TurnDone.TurnDone, im_turning.specs.Turning.Point}
-use Rattle.im_dialogue.specs.{Answers.answer_text, Answers.look_text, Asking.command_in, Talk.about_of}
+use Rattle.im_dialogue.specs.{Answers.answer_text, Answers.look_text, Asking.question_command, Talk.about_of}
 use Rattle.im_dialogue.specs.{Talk.AnswersQuestion, Watching.is_quiet, Watching.watch_text}
 use Rattle.im_dialogue.specs.declared.{answers.LineAnswer.LineAnswer, asking.Question.Question, look.Look.Look}
 use Rattle.im_dialogue.specs.declared.answers.LineAnswer.TheVariants.{About as Facts, Backup as BackedUp, Count, Looked}
@@ -86,7 +86,7 @@ quiet_resumes cells who (Put a v) quiet = absurd (cc)
 -- Of a line that is no command: nothing is told behind it. It is the same on the memory after it, which is the same if
 -- the line only looks.
 pub alone_line : (watch : Bool) (name : List ℕ) (m now : Contents) (n : ℕ) (turns : List TurnDone) (here : Point)
-    (asked : Option Question) (answer : LineAnswer) → command_in asked ≡ None
+    (asked : Option Question) (answer : LineAnswer) → question_command asked ≡ None
     → ((look : Look) → asked ≡ Some (asks.Look look) → now ≡ m) → AnswersQuestion m n turns here asked answer
     → answer_text name now answer ≡ answer_text name m answer ++ watch_text watch m answer
 alone_line watch name m now n turns here asked answer none same = by_asked asked none same
@@ -98,7 +98,7 @@ alone_line watch name m now n turns here asked answer none same = by_asked asked
     plain x same none = same ∙ sym (append-nil (answer_text name m x))
         ∙ ap (λ (l : List ℕ). answer_text name m x ++ l) (sym none)
 
-    by_asked : (q : Option Question) → command_in q ≡ None → ((look : Look) → q ≡ Some (asks.Look look) → now ≡ m)
+    by_asked : (q : Option Question) → question_command q ≡ None → ((look : Look) → q ≡ Some (asks.Look look) → now ≡ m)
         → AnswersQuestion m n turns here q answer → is_it answer
     by_asked (Some (asks.Serve command)) none same it = absurd (cc)
     by_asked (Some (asks.Look look)) none same is =
@@ -115,9 +115,9 @@ alone_line watch name m now n turns here asked answer none same = by_asked asked
     by_asked (Some asks.Quit) none same it = absurd it
     by_asked None none same (number, (fault, is)) = subst is_it (sym is) (plain (Wrong number fault) refl refl)
 
-pub not_command : (asked : Question) (c : Command) → command_in (Some asked) ≡ None → asked ≡ asks.Serve c → ⊥
+pub not_command : (asked : Question) (c : Command) → question_command (Some asked) ≡ None → asked ≡ asks.Serve c → ⊥
 not_command asked c none is =
-    no_command (subst (λ (q : Question). command_in (Some q) ≡ None) is none)
+    no_command (subst (λ (q : Question). question_command (Some q) ≡ None) is none)
   where
     no_command : Some c ≡ None → ⊥
     no_command same = absurd (cc)
@@ -126,7 +126,7 @@ pub same_asked : (a b : Question) → Some a ≡ Some b → a ≡ b
 same_asked a b same = cc
 
 -- the command that is asked for
-pub command_some : (asked : Option Question) (c : Command) → command_in asked ≡ Some c → asked ≡ Some (asks.Serve c)
+pub command_some : (asked : Option Question) (c : Command) → question_command asked ≡ Some c → asked ≡ Some (asks.Serve c)
 command_some (Some (asks.Serve d)) c is = ap (λ (o : Option Command). option_map (λ (x : Command). asks.Serve x) o) is
 command_some (Some (asks.Look look)) c is = absurd (cc)
 command_some (Some (asks.Window element)) c is = absurd (cc)

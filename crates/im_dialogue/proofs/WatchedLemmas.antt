@@ -188,8 +188,3 @@ ahead_next asked i d ahead now within all is =
     ∙ ap (λ (l : List AskedCommand). ahead ++ commands_asked l) (sym (drop-cons asked i d within))
     ∙ all
 
--- of one at least, if the first is known
-pub some_ahead : (ahead : List Command) (known : Bool) → (length ahead ≡ 0 → known ≡ true) → known ≡ false
-    → 0 < length ahead
-some_ahead [] known first not = absurd (true_false (sym (first refl) ∙ not))
-some_ahead (c ∷ ahead) known first not = omega arith

@@ -86,6 +86,6 @@ abbrev pub asked_of : List ℕ → Option Question
 asked_of line = if is_line line then asked_in (words_of line) else None
 
 -- the command that is asked for, if it is one
-abbrev pub command_in : Option Question → Option Command
-command_in (Some (Serve command)) = Some command
-command_in asked = None
+abbrev pub question_command : Option Question → Option Command
+question_command (Some (Serve command)) = Some command
+question_command asked = None

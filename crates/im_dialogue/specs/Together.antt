@@ -99,7 +99,7 @@ AreLinesOf (first ∷ others) nows text = (name : List ℕ) × (rest : List ℕ)
     × AreLinesOf others (later_texts nows) rest
 
 -- these answers were told from this start on
-pub record WasTold (watch : Bool) (b : GroupStart) (told : List ToldAnswer) (nows : List (List ℕ)) : Type 0 where
+pub record GroupTold (watch : Bool) (b : GroupStart) (told : List ToldAnswer) (nows : List (List ℕ)) : Type 0 where
   pub asked : AreAsked (asks_told told)
   pub answers : answers_told told ≡ map as_served (answers_with b.memory b.places (commands_told told))
   pub room : FitInto b (length told)

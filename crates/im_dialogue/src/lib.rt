@@ -13,6 +13,7 @@ mod drafts;
 mod explaining;
 mod firsts;
 mod line_part;
+mod line_serving;
 mod lines;
 mod look;
 mod resting;

@@ -1,7 +1,7 @@
 //! Does what a line asks that is no command.
 ghost use Rattle.std.specs.Prelude.{◌≡◌, ◌≤◌, true, ◌++◌, IfOk, OnOk, Some, None};
 ghost use Rattle.im_front.specs.State.{FrontRests};
-ghost use Rattle.im_dialogue.specs.{Asking.command_in, declared.look.Look.Look};
+ghost use Rattle.im_dialogue.specs.{Asking.question_command, declared.look.Look.Look};
 ghost use Rattle.im_dialogue.specs.declared.asking.Question.TheVariants.{Backup, Count, Room, Turn, Window};
 ghost use Rattle.im_dialogue.specs.Talk.{about_of, AnswersOrHalts, backup_by, BreaksOff, KeepsAnswered, KeepsNone};
 ghost use Rattle.im_dialogue.specs.Talk.{OnlyTurned, SaysNow, SaysOrHalts};
@@ -145,7 +145,7 @@ pub(crate) fn answer<D: Disk, B: Backups>(
     slots: u32,
     asked: Question,
 ) -> Result<Option<LineAnswer>, Refusal>
-    requires other { command_in (Some asked) ≡ None }
+    requires other { question_command (Some asked) ≡ None }
     ensures answered { AnswersOrHalts front.old.session front.new.session asked result }
     ensures asked { front.new.asked ≡ front.old.asked }
     ensures same { (look : Look) → asked ≡ Question.Look look → front.new ≡ front.old }

@@ -4,7 +4,7 @@ use Rattle.im_dialogue.proofs.ToldLemmas.{asked_if, never_if, none_if}
 use Rattle.im_dialogue.specs.{Asking.asked_of, declared.asking.Question.Question, Hearing.asking}
 use Rattle.im_dialogue.specs.Serving.{TalksLine, told_by_it}
 use Rattle.im_dialogue.specs.declared.asking.Question.TheVariants as asks
-use Rattle.im_dialogue.proofs.serving.Dialogue.serve_line.Goals as goal
+use Rattle.im_dialogue.proofs.line_serving.Dialogue.serve_line.Goals as goal
 
 pub returns-in-Err-clause-talks : goal.returns-in-Err-clause-talks
 returns-in-Err-clause-talks g c = λ rest.
@@ -16,7 +16,7 @@ pub returns-in-Some-clause-talks : goal.returns-in-Some-clause-talks
 returns-in-Some-clause-talks g c =
     let kept = g.B.Backups.kept c.args.backups.now in
     let read : asked_of c.args.self.now.drafts.line.items ≡ c.in-Ok.asked = search rules in
-    let is = command_some c.in-Ok.asked c.in-Some.command (sym c.command_in.ensures ∙ c.in-Some.is) in
+    let is = command_some c.in-Ok.asked c.in-Some.command (sym c.question_command.ensures ∙ c.in-Some.is) in
     subst (λ (o : Option Question). TalksLine o c.args.self.now kept c.ask.new.self kept c.ask.result)
     (sym (read ∙ is)) (c.ask.ensures.talks kept)
 
@@ -24,7 +24,7 @@ pub ask-requires-clause-line : goal.ask-requires-clause-line
 ask-requires-clause-line g c =
     let read : asked_of c.args.self.now.drafts.line.items ≡ c.in-Ok.asked = search rules in (
       c.args.self.now.drafts.line.items,
-      read ∙ command_some c.in-Ok.asked c.in-Some.command (sym c.command_in.ensures ∙ c.in-Some.is),
+      read ∙ command_some c.in-Ok.asked c.in-Some.command (sym c.question_command.ensures ∙ c.in-Some.is),
     )
 
 pub returns-in-None-clause-talks : goal.returns-in-None-clause-talks
