@@ -1,5 +1,5 @@
 //! The trace of a run: its calls in the order that was kept, each with its answer and its marks.
-ghost use Rattle.std.specs.Prelude.{◌≡◌, [], ◌++◌, length, OnOk, slice_get};
+ghost use Rattle.std.specs.Prelude.{◌≡◌, true, [], ◌++◌, length, OnOk, slice_get};
 ghost use Rattle.im_text.specs.Printing.{TakesText};
 ghost use Rattle.im_run.specs.Tracing.{BeginsTrace, MayStand, PrintsAll, PrintsSome, traced_text, unmarked};
 ghost use Rattle.im_run.specs.Tracing.{WritesTrace};

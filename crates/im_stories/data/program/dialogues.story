@@ -261,11 +261,12 @@ printed 2 = 2.1 stored
 printed 3 = 1.2 now value 6
 count = 4
 
-# A line that changes nothing ends no group, and is answered in its place
+# A line that is no command ends a group, and is answered in its place
 disk 450560 = 450560 bytes
 format 4096 16 256 = formatted
 script 1.1 fetch 0 / 2.1 fetch 0 / count / 3.1 fetch 0 / 4.1 fetch 0 / 5.1 fetch 0 / = 6 lines
-talk = 0, 8 calls
+-- Two commands, five calls; three, six.
+talk = 0, 11 calls
 printed = 6 lines
 printed 0 = 1.1 nocell
 printed 1 = 2.1 nocell
@@ -277,9 +278,8 @@ disk 450560 = 450560 bytes
 format 4096 16 256 = formatted
 script room / collect 1.1 / 0.1 alloc i 2 / window 0 / 1.1 store 0 5 / collect 1.1 / collect 1.2 / entry 1.1 / window 1 / = 9 lines
 script 1.3 store 1 5 / window 1 / 2.1 store 1 6 / count / room / 2.2 fetch 0 / about / confirm 2 3 / window 2 / = 18 lines
--- Four calls for one command, since the next one was asked for ahead of it. Six for three; the confirmation would drop
--- a fetch of the group, and takes four.
-talk = 0, 14 calls
+-- Five commands, each with lines behind it that are none: four calls each.
+talk = 0, 20 calls
 printed = 18 lines
 printed 0 = room 256
 printed 1 = 1.1 refused 1 Gap
@@ -352,7 +352,7 @@ printed 14 = 3.2 stored
 printed 15 = 0.3 released
 printed 16 = stat cells 4096 blocks 1 empty 0 waiting 1 full 1 clashed 0 kept 9 deferred 1
 
-# A line that looks stands in a group, and a command that may change what it shows begins the next one
+# A line that looks shows the memory behind the commands ahead of it
 disk 450560 = 450560 bytes
 format 4096 16 256 = formatted
 script 0.1 alloc i 2 / 1.1 fetch 0 / = 2 lines
@@ -373,12 +373,12 @@ printed 8 = stat cells 4096 blocks 1 empty 0 waiting 1 full 1 clashed 0 kept 5 d
 printed 9 = 3.2 stored
 count = 6
 
-# A look behind commands of its group that don't reach its cell ends no group
+# A look ends a group, though the commands ahead don't reach its cell
 disk 450560 = 450560 bytes
 format 4096 16 256 = formatted
 script 0.1 alloc i 8 / cell 7 / 1.1 store 0 1 / cell 0 / block 9 / 1.2 store 1 2 / help / 1.3 fetch 2 / cell 2 / 2.1 store 3 4 / = 10 lines
--- Five commands in one group.
-talk = 0, 8 calls
+-- Five groups of one command.
+talk = 0, 20 calls
 printed = 10 lines
 printed 1 = cell 7 i empty
 printed 3 = cell 0 i full 1
@@ -421,8 +421,8 @@ format 4096 16 256 = formatted
 script 0.1 alloc m 3 / 1.1 take 0 / 2.1 take 1 / = 3 lines
 talk = 0, 6 calls
 script 3.1 put 1 5 / collect 2.1 / collect 1.1 / 3.2 put 2 6 / collect 1.1 / 3.3 put 0 7 / collect 1.1 / 3.4 put 1 8 / = 8 lines
--- A put answers the request that was asked for ahead of it, so it begins the next group: five calls, and five.
-talk = 0, 10 calls
+-- Four groups of one command.
+talk = 0, 16 calls
 printed = 8 lines
 printed 0 = 3.1 stored
 printed 1 = 2.1 value 5
@@ -732,13 +732,13 @@ printed 2 = 0 window 1 1
 printed 3 = room 0
 
 # A line is refused for want of a place once turns have made none
--- Two commands are left to the last count that there is: a group of five calls. Before the confirmation is refused, a
--- checkpoint of three pages takes nine calls, and closing the two slots three.
+-- Two commands are left to the last count that there is: a group of five calls. Before the confirmation is refused,
+-- room is looked for once for all that is asked: a checkpoint of three pages takes nine calls.
 disk 33792 = 33792 bytes
 format 1 1 16 = formatted
 write 16 fe ff ff ff ff ff ff 3f = 00 00 00 00 00 00 00 00
 script 0.1 fetch 0 / 0.2 store 0 5 / confirm 0 2 / 0.1 fetch 0 / 0.3 fetch 0 / room / = 6 lines
-talk = 0, 17 calls
+talk = 0, 14 calls
 printed = 6 lines
 printed 0 = 0.1 nocell
 printed 1 = 0.2 nocell
