@@ -99,8 +99,8 @@ module _ {D : Type 0} (disk : Ghosts D) (script : List Wanted) (old mid : Script
       fit = subst (FitsScript found) same (subst (λ (m : Contents). FitsScript m script) found_is fit);
       made = subst (HasMade found) same (subst (λ (m : Contents). HasMade m script) found_is it.made);
       mid = mid.held;
-      shown = subst (λ (s : List Wanted). SaysWhole (output_of old) mid.held (lines_had found (numbers_had found) s)) same
-          (shown_written script bases known old mid it fit ready);
+      shown = subst (λ (s : List Wanted). SaysWhole (output_of old) mid.held (lines_had found (numbers_had found) s))
+          same (shown_written script bases known old mid it fit ready);
       run = subst (λ (t : SessionState D). RunWhen disk true planned text t.start new (output old.lines.style mid.held)
           is calls status) it.session
           (subst (λ (s : Style). RunWhen disk true planned text mid.session.start new (output s mid.held) is calls

@@ -7,7 +7,8 @@ use Rattle.im_run.proofs.tracing.print_lines.Goals as goal
 pub loop-at-init : goal.loop-at-init
 loop-at-init g c =
     let p = c.args.both in
-    none_printed p.objects p.setup.now (p.setup.now ++ p.served.now) (g.W.Write.contents c.args.out.now) c.args.batch.now
+    none_printed p.objects p.setup.now (p.setup.now ++ p.served.now) (g.W.Write.contents c.args.out.now)
+    c.args.batch.now
 
 pub loop-at-preserved : goal.loop-at-preserved
 loop-at-preserved g c =
