@@ -35,7 +35,9 @@ fn digest(entry: Entry) -> u64 {
     }
 }
 
-fn fetch_each(table: &mut CellTable, arena: &mut Arena, count: u32) -> u64
+// Fetches from each cell, or takes from it.
+#[inline(always)]
+fn read_each(kind: Kind, table: &mut CellTable, arena: &mut Arena, count: u32) -> u64
     requires { Agree table.old arena.old }
     ensures { Agree table.new arena.new }
 {
@@ -44,21 +46,11 @@ fn fetch_each(table: &mut CellTable, arena: &mut Arena, count: u32) -> u64
         if arena.is_full() {
             return sum;
         }
-        sum = sum.wrapping_add(digest(fetch(table, arena, a, waiter(a))));
-    }
-    sum
-}
-
-fn take_each(table: &mut CellTable, arena: &mut Arena, count: u32) -> u64
-    requires { Agree table.old arena.old }
-    ensures { Agree table.new arena.new }
-{
-    let mut sum = 0u64;
-    for a in 0..count {
-        if arena.is_full() {
-            return sum;
-        }
-        sum = sum.wrapping_add(digest(take(table, arena, a, waiter(a))));
+        let entry = match kind {
+            Kind::I => fetch(table, arena, a, waiter(a)),
+            Kind::M => take(table, arena, a, waiter(a)),
+        };
+        sum = sum.wrapping_add(digest(entry));
     }
     sum
 }
@@ -101,30 +93,30 @@ fn put_each(table: &mut CellTable, arena: &mut Arena, count: u32) -> u64
     sum
 }
 
-/// Stores to `count` cells. The first `readers` cells have a reader each.
-pub fn stores(alloc: Global, readers: u32, count: u32) -> Result<u64, Refusal> {
-    let (mut table, mut arena) = one_block(alloc, Kind::I)?;
-    let _ = fetch_each(&mut table, &mut arena, readers);
-    Ok(store_each(&mut table, &mut arena, count))
+// Stores to each cell, or puts to it.
+#[inline(always)]
+fn write_each(kind: Kind, table: &mut CellTable, arena: &mut Arena, count: u32) -> u64
+    requires { Agree table.old arena.old }
+    ensures { Agree table.new arena.new }
+{
+    match kind {
+        Kind::I => store_each(table, arena, count),
+        Kind::M => put_each(table, arena, count),
+    }
 }
 
-/// Fetches from `count` cells. The first `full` cells are full.
-pub fn fetches(alloc: Global, full: u32, count: u32) -> Result<u64, Refusal> {
-    let (mut table, mut arena) = one_block(alloc, Kind::I)?;
-    let _ = store_each(&mut table, &mut arena, full);
-    Ok(fetch_each(&mut table, &mut arena, count))
+/// Fetches from `count` cells of a block of this kind, or takes from them. The first `full` cells are full.
+#[inline(always)]
+pub fn reads(alloc: Global, kind: Kind, full: u32, count: u32) -> Result<u64, Refusal> {
+    let (mut table, mut arena) = one_block(alloc, kind)?;
+    let _ = write_each(kind, &mut table, &mut arena, full);
+    Ok(read_each(kind, &mut table, &mut arena, count))
 }
 
-/// Puts to `count` cells. The first `takers` cells have a taker each.
-pub fn puts(alloc: Global, takers: u32, count: u32) -> Result<u64, Refusal> {
-    let (mut table, mut arena) = one_block(alloc, Kind::M)?;
-    let _ = take_each(&mut table, &mut arena, takers);
-    Ok(put_each(&mut table, &mut arena, count))
-}
-
-/// Takes from `count` cells. The first `full` cells are full.
-pub fn takes(alloc: Global, full: u32, count: u32) -> Result<u64, Refusal> {
-    let (mut table, mut arena) = one_block(alloc, Kind::M)?;
-    let _ = put_each(&mut table, &mut arena, full);
-    Ok(take_each(&mut table, &mut arena, count))
+/// Stores to `count` cells of a block of this kind, or puts to them. The first `waiters` cells have one that waits each.
+#[inline(always)]
+pub fn writes(alloc: Global, kind: Kind, waiters: u32, count: u32) -> Result<u64, Refusal> {
+    let (mut table, mut arena) = one_block(alloc, kind)?;
+    let _ = read_each(kind, &mut table, &mut arena, waiters);
+    Ok(write_each(kind, &mut table, &mut arena, count))
 }

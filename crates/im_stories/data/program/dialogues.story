@@ -358,7 +358,7 @@ format 4096 16 256 = formatted
 script 0.1 alloc i 2 / 1.1 fetch 0 / = 2 lines
 talk = 0, 5 calls
 script cell 0 / 1.2 fetch 1 / cell 1 / cell 0 / 2.1 fetch 1 / block 0 / 3.1 store 0 5 / cell 0 / stat / 3.2 store 1 6 / = 10 lines
--- The fetches of cell 1, and the stores, begin groups: a look at the cell, at its block or at all cells stands ahead.
+-- Four groups of one command.
 talk = 0, 16 calls
 printed = 10 lines
 printed 0 = cell 0 i waiting 1.1
