@@ -113,7 +113,7 @@ pub fn reads(alloc: Global, kind: Kind, full: u32, count: u32) -> Result<u64, Re
     Ok(read_each(kind, &mut table, &mut arena, count))
 }
 
-/// Stores to `count` cells of a block of this kind, or puts to them. The first `waiters` cells have one that waits each.
+/// Stores to `count` cells of a block of this kind, or puts to them. At each of the first `waiters` cells one waits.
 #[inline(always)]
 pub fn writes(alloc: Global, kind: Kind, waiters: u32, count: u32) -> Result<u64, Refusal> {
     let (mut table, mut arena) = one_block(alloc, kind)?;

@@ -321,4 +321,3 @@ module _ {D : Type 0} (old new : SessionState D) (cs : List Command) (ss : List 
       backups = ap (λ (l : List Backup). l ++ kept) (sym told.backups);
       heard = subst (λ (l : List (Option Question)). HearsSome before l) (sym told.asks) hears;
     }
-

@@ -1,8 +1,7 @@
 -- What the lines of an input ask for, and what of it was heard.
 use Rattle.std.proofs.Common.{◌≡◌, ℕ, zero, suc, ◌+◌, ◌<◌, ◌≤◌, Bool, true, false, ◌&&◌, List, [], ◌∷◌, ◌++◌, map}
-use Rattle.std.proofs.Common.{length, take, IfSome, if◌then◌else◌, OnOk, nat_lt, nat_le, ◌==◌, Some, None, Ok, Err}
-use Rattle.std.proofs.Common.{Option, Result, option_map, sym, refl, ap, ◌∙◌, subst, append_assoc, append-nil, arith}
-use Rattle.std.proofs.Common.{length-take-le, take_all}
+use Rattle.std.proofs.Common.{length, take, IfSome, if◌then◌else◌, nat_lt, nat_le, ◌==◌, Some, None, Option, option_map}
+use Rattle.std.proofs.Common.{sym, refl, ap, ◌∙◌, subst, append_assoc, append-nil, arith, length-take-le, take_all}
 use Rattle.std.proofs.KnownBytes.{Consumes-kept, Consumes-nil}
 use Rattle.std.proofs.lemmas.{Bool.Decides.nat_tests, List.Elements.All-append, List.Elements.All-nil}
 use Rattle.std.proofs.lemmas.List.Splits.{length-slice_split, slice_split_at, slice_split_none}
@@ -53,11 +52,6 @@ hears_as (Some all) (Some left) c xs one same = subst (λ (o : Left). Hears (Som
 pub same_left : (a b : Left) → a ≡ b → IfSome a (λ l. b ≡ Some l)
 same_left None b same = tt
 same_left (Some l) b same = sym same
-
--- what holds if the call succeeded
-pub on_default : {A E P : Type 0} (r : Result A E) → OnOk r P → ((e : E) → r ≡ Err e → ⊥) → P
-on_default (Ok a) it not_err = it
-on_default (Err e) it not_err = absurd (not_err e refl)
 
 -- nothing is left
 pub heard_all : (a : Left) (now : Option (List ℕ)) (xs : List (Option Question)) (status : ℕ)

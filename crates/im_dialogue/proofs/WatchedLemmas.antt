@@ -187,4 +187,3 @@ ahead_next asked i d ahead now within all is =
     ∙ ap (λ (n : ℕ). ahead ++ ((get_or asked i d).command ∷ commands_asked (drop n asked))) (sym next)
     ∙ ap (λ (l : List AskedCommand). ahead ++ commands_asked l) (sym (drop-cons asked i d within))
     ∙ all
-
