@@ -2,7 +2,7 @@ use Rattle.std.proofs.Common.{None}
 use Rattle.im_dialogue.proofs.{HearingLemmas.asked_line, HearingLemmas.asked_nothing, ServeLemmas.end_next}
 use Rattle.im_dialogue.proofs.{ServeLemmas.line_next, TalkLemmas.talk_ends_here, ToldLemmas.none_asked}
 use Rattle.im_dialogue.specs.{Asking.asked_of, Hearing.questions_left, Serving.told_by_it}
-use Rattle.im_dialogue.proofs.line_serving.Dialogue.serve_next.Goals as goal
+use Rattle.im_dialogue.proofs.serving.Dialogue.serve_next.Goals as goal
 
 pub returns-in-Ok-true-clause-talks : goal.returns-in-Ok-true-clause-talks
 returns-in-Ok-true-clause-talks g c =

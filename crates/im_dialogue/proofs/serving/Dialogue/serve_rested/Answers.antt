@@ -1,7 +1,7 @@
 use Rattle.std.proofs.Common.{true, false, option_map, ◌∙◌}
 use Rattle.im_dialogue.proofs.ServeLemmas.{next_err, next_ok, settled_err, settled_ok, then_next}
 use Rattle.im_dialogue.specs.Hearing.{left_behind, questions_in, questions_left}
-use Rattle.im_dialogue.proofs.line_serving.Dialogue.serve_rested.Goals as goal
+use Rattle.im_dialogue.proofs.serving.Dialogue.serve_rested.Goals as goal
 
 pub returns-in-Ok-settle-clause-talks : goal.returns-in-Ok-settle-clause-talks
 returns-in-Ok-settle-clause-talks g c =

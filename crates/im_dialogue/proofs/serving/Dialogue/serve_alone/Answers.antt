@@ -1,7 +1,7 @@
 use Rattle.std.proofs.Common.{Some, None, Option, sym, subst}
 use Rattle.im_dialogue.proofs.ServeLemmas.{then_line}
 use Rattle.im_dialogue.specs.{declared.asking.Question.Question, Hearing.asking, Serving.TalksLine}
-use Rattle.im_dialogue.proofs.line_serving.Dialogue.serve_alone.Goals as goal
+use Rattle.im_dialogue.proofs.serving.Dialogue.serve_alone.Goals as goal
 
 pub returns-in-Some-clause-talks : goal.returns-in-Some-clause-talks
 returns-in-Some-clause-talks g c =

@@ -3,7 +3,7 @@ use Rattle.std.specs.Io.KnownBytes.{Appends}
 use Rattle.im_dialogue.specs.{Hearing.questions_left, Serving.told_onto, Together.AreAsked}
 use Rattle.im_dialogue.specs.Talk.{outputs, TalksOn, with_input}
 
-abbrev pub invariant-loop-served : Rattle.im_dialogue.proofs.line_serving.Dialogue.serve_lines.Given.invariant-loop-served
+abbrev pub invariant-loop-served : Rattle.im_dialogue.proofs.serving.Dialogue.serve_lines.Given.invariant-loop-served
 invariant-loop-served g l = record {
   talks : TalksOn l.fn.self.setting.watch l.fn.self.front.session
       (with_input (g.R.Read.remaining l.fn.input)

@@ -1,6 +1,6 @@
 use Rattle.im_dialogue.proofs.ServeLemmas.{turns_failed, turns_told}
 use Rattle.im_dialogue.{proofs.TalkLemmas.goes_talk, proofs.TalkLemmas.nothing_said, specs.Serving.told_by_it}
-use Rattle.im_dialogue.proofs.line_serving.Dialogue.rest.Goals as goal
+use Rattle.im_dialogue.proofs.serving.Dialogue.rest.Goals as goal
 
 pub returns-then-self-clause-talks : goal.returns-then-self-clause-talks
 returns-then-self-clause-talks g c = λ kept left.

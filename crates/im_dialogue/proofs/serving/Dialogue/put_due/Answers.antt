@@ -1,6 +1,6 @@
 use Rattle.std.proofs.{Common.[], Common.refl, KnownBytes.Appends-nil}
 use Rattle.im_dialogue.proofs.ServeLemmas.{put_whole}
-use Rattle.im_dialogue.proofs.line_serving.Dialogue.put_due.Goals as goal
+use Rattle.im_dialogue.proofs.serving.Dialogue.put_due.Goals as goal
 
 pub returns-then-is_due-clause-put : goal.returns-then-is_due-clause-put
 returns-then-is_due-clause-put g c = put_whole c.put_out.result _ _ _ _ c.put_out.ensures.whole c.put_out.ensures.none

@@ -9,7 +9,7 @@ use Rattle.im_dialogue.specs.declared.{asking.Question.Question, serving.Setting
 use Rattle.im_dialogue.specs.Hearing.{left_behind, questions_in, questions_left}
 use Rattle.im_dialogue.specs.{Serving.told_by_it, Serving.told_onto, Together.AreAsked}
 use Rattle.im_dialogue.specs.Talk.{outputs, TalkEnds, TalksOn, with_input, with_left}
-use Rattle.im_dialogue.proofs.line_serving.Dialogue.serve_lines.Goals as goal
+use Rattle.im_dialogue.proofs.serving.Dialogue.serve_lines.Goals as goal
 
 pub loop-served-init : goal.loop-served-init
 loop-served-init g c = record {

@@ -7,7 +7,7 @@ use Rattle.im_dialogue.specs.{Backups.Backup, declared.asking.Question.Question,
 use Rattle.im_dialogue.specs.Hearing.{asking, is_quit, left_behind}
 use Rattle.im_dialogue.specs.Talk.{outputs, TalkEnds, TalksOn}
 use Rattle.im_dialogue.specs.declared.asking.Question.TheVariants as asks
-use Rattle.im_dialogue.proofs.line_serving.Dialogue.tell.Goals as goal
+use Rattle.im_dialogue.proofs.serving.Dialogue.tell.Goals as goal
 
 pub returns-in-Ok-clause-talks : goal.returns-in-Ok-clause-talks
 returns-in-Ok-clause-talks g c = λ rest.

@@ -3,7 +3,7 @@ use Rattle.im_dialogue.proofs.{HearingLemmas.hears_line, ToldLemmas.hears_alone,
 use Rattle.im_dialogue.proofs.TalkLemmas.{talk_ends, talk_ends_here, talks_on}
 use Rattle.im_dialogue.specs.{declared.answers.LineAnswer.LineAnswer, Hearing.asking, Hearing.left_behind}
 use Rattle.im_dialogue.specs.{Serving.behind_asked, Serving.told_so, Talk.backup_by}
-use Rattle.im_dialogue.proofs.line_serving.Dialogue.tell_fault.Goals as goal
+use Rattle.im_dialogue.proofs.serving.Dialogue.tell_fault.Goals as goal
 
 pub returns-in-Ok-say-clause-talks : goal.returns-in-Ok-say-clause-talks
 returns-in-Ok-say-clause-talks g c = λ kept rest.
