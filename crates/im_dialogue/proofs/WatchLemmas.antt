@@ -126,7 +126,8 @@ pub same_asked : (a b : Question) → Some a ≡ Some b → a ≡ b
 same_asked a b same = cc
 
 -- the command that is asked for
-pub command_some : (asked : Option Question) (c : Command) → question_command asked ≡ Some c → asked ≡ Some (asks.Serve c)
+pub command_some : (asked : Option Question) (c : Command) → question_command asked ≡ Some c
+    → asked ≡ Some (asks.Serve c)
 command_some (Some (asks.Serve d)) c is = ap (λ (o : Option Command). option_map (λ (x : Command). asks.Serve x) o) is
 command_some (Some (asks.Look look)) c is = absurd (cc)
 command_some (Some (asks.Window element)) c is = absurd (cc)

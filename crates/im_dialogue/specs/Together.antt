@@ -1,6 +1,6 @@
 -- Commands that are served as one group: where the engine stands between two of them, and what is told of each. (Own.)
 use Rattle.std.specs.Prelude.{◌≡◌, ℕ, ◌+◌, ◌≤◌, Bool, ◌⊎◌, List, [], ◌∷◌, ◌++◌, map, length, Some, Option, Result}
-use Rattle.im_types.specs.Types.{Command, Outcome, Served, Refusal, Contents, as_served}
+use Rattle.im_types.specs.Types.{Command, Outcome, Refusal, Contents, as_served}
 use Rattle.im_groups.specs.Commands.{answer_with, answers_with, commands_at, contents_after_all, left_after, places}
 use Rattle.{im_engine.specs.State.EngineState, im_session.specs.Serving.served_answer}
 use Rattle.im_turning.specs.Turning.{IsSpent, Point, point_of}

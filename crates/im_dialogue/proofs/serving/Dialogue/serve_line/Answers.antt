@@ -3,7 +3,6 @@ use Rattle.im_dialogue.proofs.{TalkLemmas.talk_ends_here, WatchLemmas.command_so
 use Rattle.im_dialogue.proofs.ToldLemmas.{asked_if, never_if, none_if}
 use Rattle.im_dialogue.specs.{Asking.asked_of, declared.asking.Question.Question, Hearing.asking}
 use Rattle.im_dialogue.specs.Serving.{TalksLine, told_by_it}
-use Rattle.im_dialogue.specs.declared.asking.Question.TheVariants as asks
 use Rattle.im_dialogue.proofs.serving.Dialogue.serve_line.Goals as goal
 
 pub returns-in-Err-clause-talks : goal.returns-in-Err-clause-talks
