@@ -1,4 +1,4 @@
-use Rattle.std.proofs.Common.{ℕ, false, List, subst}
+use Rattle.std.proofs.Common.{ℕ, List, subst}
 use Rattle.im_serial.specs.{Once.HasServedNothing, Serving.seen_by}
 use Rattle.im_run.proofs.script.run_opened.Goals as goal
 
