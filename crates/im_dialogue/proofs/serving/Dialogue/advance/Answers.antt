@@ -1,4 +1,5 @@
-use Rattle.std.proofs.Common.{None}
+use Rattle.std.proofs.Common.{None, inl, inr, ⊎_elim, arith}
+use Rattle.im_turning.proofs.TurningLemmas.{spent_behind}
 use Rattle.im_dialogue.proofs.{ServeLemmas.turns_failed, ServeLemmas.turns_told, TalkLemmas.then_talks}
 use Rattle.im_dialogue.specs.Serving.{told_by_it, told_so}
 use Rattle.im_dialogue.proofs.serving.Dialogue.advance.Goals as goal
@@ -23,3 +24,10 @@ pub returns-in-Err-clause-talks : goal.returns-in-Err-clause-talks
 returns-in-Err-clause-talks g c = λ kept left.
     turns_failed c.args.self.now.setting.watch c.args.self.now.front c.make_room.new.self c.make_room.ensures.same _
     kept left
+
+pub serve_group-requires-clause-spent : goal.serve_group-requires-clause-spent
+serve_group-requires-clause-spent g c = let made = c.in-Ok.ensures.room in spent_behind _ _ (record {
+  turns = made.turns;
+  lead = made.lead;
+  room = ⊎_elim (λ enough. inl (omega (arith, enough, c.requires.some))) inr made.room;
+})
