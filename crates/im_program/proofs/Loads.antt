@@ -1,9 +1,9 @@
 -- What is dumped, and what a new file is given of a text.
-use Rattle.std.proofs.Common.{◌≡◌, ℕ, ◌⊎◌, List, [], ◌∷◌, codes, Option, ap, ◌∙◌, subst, inl, inr, ⊎_elim, arith}
+use Rattle.std.proofs.Common.{◌≡◌, ℕ, ◌⊎◌, List, codes, Option, ap, ◌∙◌, subst, inl, inr, ⊎_elim, arith}
 use Rattle.std.specs.Io.KnownBytes.{Appends, Keeps}
 use Rattle.im_types.specs.Types.{Sizes, sizes_of, Header, header_of}
-use Rattle.im_disk.specs.{Account.IsHonest, declared.FileDisk.FileDisk, declared.Start.Ghosts, File.account_of}
-use Rattle.im_disk.specs.{Moment.Left, Moment.LeftSince, Since.Leaves, Since.LeavesNow}
+use Rattle.im_disk.specs.{Account.IsHonest, File.account_of, Moment.Left, Since.Leaves, Since.LeavesNow}
+use Rattle.im_disk.specs.declared.{FileDisk.FileDisk, Start.Ghosts}
 use Rattle.{im_image.specs.Headers.seen, im_text.proofs.PrintingLemmas.appends_kept}
 use Rattle.im_migration.specs.{Copying.IsWhole, Resizing.IsResized, Resizing.sizes_asked}
 use Rattle.im_migration.specs.declared.{Asked.Asked, Resized.Resized}

@@ -2,8 +2,8 @@ use Rattle.{im_disk.specs.contracts.file.FileDiskDisk.TheImpl.ghosts, im_words.s
 use Rattle.im_program.proofs.{SourceLemmas.done_with, ToldLemmas.done_or_refused, ToldLemmas.nothing_done}
 use Rattle.im_program.proofs.work.act.Goals as goal
 
-pub returns-then-may_do-clause-done : goal.returns-then-may_do-clause-done
-returns-then-may_do-clause-done g c = nothing_done _ _ _ _ _ _ _ c.refuse.ensures.status
+pub returns-then-not-may_do-clause-done : goal.returns-then-not-may_do-clause-done
+returns-then-not-may_do-clause-done g c = nothing_done _ _ _ _ _ _ _ c.refuse-status.ensures.status
 
 pub returns-clause-done : goal.returns-clause-done
 returns-clause-done g c =
