@@ -4,10 +4,10 @@ use crate::again::run_again;
 use crate::gates::After;
 use crate::heard::Hearing;
 use crate::scripts::script_of;
-use im_disk::Mode;
+use im_disk::{Disk, Mode};
 use im_report::inspect_on;
 use im_run::{Assignment, RunContext, Trace, run_on, run_on_plan, run_once_on, write_trace};
-use im_script::read_script_with_glances;
+use im_script::{Script, read_script_with_glances};
 use im_serial::StyledScript;
 use im_serving::{EarlierAnswer, Gate, Host, Open};
 use im_story::{Printout, Saying};
@@ -76,6 +76,37 @@ impl Observer<News> for Noted {
             _ => {}
         }
     }
+}
+
+// A script that is run, and how.
+struct Task<'a> {
+    script: &'a Script<'a>,
+    how: How,
+}
+
+// Runs a script on the image of a disk.
+fn run_as<D: Disk + Drop + Send, G: Gate + Sync, R: Host>(
+    context: &RunContext<'_, G, Hearing<'_, R>, R>,
+    disk: D,
+    task: Task<'_>,
+    out: &mut Printout,
+    noted: &mut Noted,
+) -> (u8, D, Trace) {
+    let Task { script, how } = task;
+    let (style, planned) = (Style::Text, how.planned);
+    if how.once {
+        let asked = Assignment {
+            script,
+            style,
+            planned,
+        };
+        return run_once_on(context, disk, asked, out, noted);
+    }
+    let styled = StyledScript { script, style };
+    if planned {
+        return run_on_plan(context, disk, &styled, out, noted);
+    }
+    run_on(context, disk, &styled, out, noted)
 }
 
 /// An image, what was printed, and what is told.
@@ -154,20 +185,8 @@ impl<'a> RunDesk<'a> {
         let hearing = Hearing { rt, heard: &heard };
         let (out, noted) = (&mut self.out, &mut self.noted);
         let context = RunContext::new(rt, alloc, gate, hearing, how.recorded);
-        let (script, style, planned) = (&script, Style::Text, how.planned);
-        let styled = StyledScript { script, style };
-        let (status, disk, trace) = if how.once {
-            let asked = Assignment {
-                script,
-                style,
-                planned,
-            };
-            run_once_on(&context, disk, asked, out, noted)
-        } else if planned {
-            run_on_plan(&context, disk, &styled, out, noted)
-        } else {
-            run_on(&context, disk, &styled, out, noted)
-        };
+        let script = &script;
+        let (status, disk, trace) = run_as(&context, disk, Task { script, how }, out, noted);
         self.noted.note_told(heard.lock(rt).as_slice());
         self.place.lay_down(disk);
         self.print_trace(how.recorded, &trace);
