@@ -385,6 +385,16 @@ printed 3 = cell 0 i full 1
 printed 4 = block 9 noblock
 printed 8 = cell 2 i waiting 1.3
 
+# Lines that look stand together behind a group, and none of them makes a call
+disk 450560 = 450560 bytes
+format 4096 16 256 = formatted
+script 0.1 alloc i 2 / 1.1 store 0 5 / cell 0 / cell 1 / block 0 / stat / count / = 7 lines
+talk = 0, 5 calls
+printed = 7 lines
+printed 2 = cell 0 i full 5
+printed 3 = cell 1 i empty
+printed 6 = count 2
+
 # Where it is watched, a line that looks is told behind those that were answered
 disk 450560 = 450560 bytes
 format 4096 16 256 = formatted
