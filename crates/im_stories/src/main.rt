@@ -4,7 +4,7 @@
 //! of layers whose scenes stand in code: `threads`, `growths`, `listening`.
 #![tactic(auto)]
 
-use im_program::{Descriptors, Machine};
+use im_program::Descriptors;
 use im_serving::Host;
 use im_stories_listening::Audience;
 use im_story::Saying;
@@ -25,7 +25,7 @@ fn played<F: FnOnce(&mut Saying)>(word: &str, said: &mut Saying, show: F) -> boo
 }
 
 // Tells of a word: its layer is the name of the file's folder, or the word itself. Returns whether all is well.
-fn tell<R: Audience + Host + Machine>(
+fn tell<R: Audience + Host>(
     rt: &HostRuntime,
     held: &Descriptors,
     threads: &R,
@@ -38,8 +38,8 @@ fn tell<R: Audience + Host + Machine>(
         "image" => im_stories_image::walk(rt, word, said),
         "engine" => im_stories_engine::walk(rt, word, said),
         "listed" => im_stories_listed::walk(rt, word, said),
-        "program" => im_stories_program::walk(rt, threads, held, word, said),
-        "migration" => im_stories_migration::walk(rt, threads, held, word, said),
+        "program" => im_stories_program::walk(rt, held, word, said),
+        "migration" => im_stories_migration::walk(rt, held, word, said),
         "run" => played(
             word,
             said,

@@ -27,15 +27,15 @@ mod stops;
 
 use crate::moves::{are_same, move_on, tell_length, tell_with};
 use crate::programs::{load, run, save, tell_of_file};
-use im_program::{Descriptors, Machine};
+use im_program::Descriptors;
 use im_story::{Phrase, Printout, Saying, Subject, walk_file};
 use im_story_disk::StoryFile;
 use im_text::Reason;
 
 /// Two files, and what was last printed and told.
-struct MigrationDesk<'a, R> {
+struct MigrationDesk<'a> {
     /// The folder's files, and standard output.
-    rt: &'a R,
+    rt: &'a HostRuntime,
     /// What occupies the numbers of the standard streams.
     held: &'a Descriptors,
     /// The old file.
@@ -49,7 +49,7 @@ struct MigrationDesk<'a, R> {
 }
 
 // By one call, wherever its owner may end.
-impl<R> Drop for MigrationDesk<'_, R> {
+impl Drop for MigrationDesk<'_> {
     fn drop(self) {
         let MigrationDesk {
             rt: _,
@@ -62,9 +62,9 @@ impl<R> Drop for MigrationDesk<'_, R> {
     }
 }
 
-impl<'a, R: Machine> MigrationDesk<'a, R> {
+impl<'a> MigrationDesk<'a> {
     // Starts with nothing.
-    fn new(rt: &'a R, held: &'a Descriptors) -> MigrationDesk<'a, R> {
+    fn new(rt: &'a HostRuntime, held: &'a Descriptors) -> MigrationDesk<'a> {
         MigrationDesk {
             rt,
             held,
@@ -77,7 +77,7 @@ impl<'a, R: Machine> MigrationDesk<'a, R> {
 }
 
 // Makes a call by its first word. It is one of the new file, or else of the old one.
-fn tell_by_word<R: Machine>(desk: &mut MigrationDesk<'_, R>, call: &Phrase, said: &mut Saying) {
+fn tell_by_word(desk: &mut MigrationDesk, call: &Phrase, said: &mut Saying) {
     match call.word(0) {
         "with" => tell_with(&desk.old, &desk.new, call, said),
         "in" => stops::tell(&desk.old, &desk.new, call, said),
@@ -94,7 +94,7 @@ fn tell_by_word<R: Machine>(desk: &mut MigrationDesk<'_, R>, call: &Phrase, said
     }
 }
 
-impl<'a, R: Machine> Subject for MigrationDesk<'a, R> {
+impl<'a> Subject for MigrationDesk<'a> {
     fn begin(&mut self) {
         *self = MigrationDesk::new(self.rt, self.held);
     }
@@ -121,12 +121,6 @@ impl<'a, R: Machine> Subject for MigrationDesk<'a, R> {
 }
 
 /// Walks the stories of a file. Returns whether nothing was answered otherwise.
-pub fn walk<R: Machine>(
-    rt: &HostRuntime,
-    machine: &R,
-    held: &Descriptors,
-    file: &str,
-    said: &mut Saying,
-) -> bool {
-    walk_file(rt, file, &mut MigrationDesk::new(machine, held), said)
+pub fn walk(rt: &HostRuntime, held: &Descriptors, file: &str, said: &mut Saying) -> bool {
+    walk_file(rt, file, &mut MigrationDesk::new(rt, held), said)
 }

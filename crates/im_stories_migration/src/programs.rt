@@ -2,8 +2,8 @@
 
 use crate::MigrationDesk;
 use crate::moves::report;
-use im_disk::Unknown;
-use im_program::{AtHand, Console, Machine, Terminals, act, read_words};
+use im_program::{AtHand, Console, Terminals, read_words};
+use im_stories_program::work;
 use im_story::{Phrase, Printout, Saying, bytes};
 use im_story_disk::StoryFile;
 use std::fs;
@@ -17,7 +17,7 @@ const NOBODY: Terminals = Terminals {
 };
 
 /// Does the work of a command line. Tells the status.
-pub fn run<R: Machine>(desk: &mut MigrationDesk<'_, R>, call: &Phrase, said: &mut Saying) {
+pub fn run(desk: &mut MigrationDesk, call: &Phrase, said: &mut Saying) {
     let Ok(line) = read_words(call.alloc(), call.rest(1)) else {
         return said.fail("bad words");
     };
@@ -30,13 +30,13 @@ pub fn run<R: Machine>(desk: &mut MigrationDesk<'_, R>, call: &Phrase, said: &mu
         input: &mut nothing,
         observer: &mut console,
     };
-    let (status, _, _) = act(hand, &line, &mut desk.out, (Unknown, Unknown));
+    let status = work(hand, &line, &mut desk.out);
     desk.told = console.reason();
     write!(said, "{status}")
 }
 
 /// Makes a file of these lines. Each line is the words up to a slash.
-pub fn save<R: Machine>(rt: &R, call: &Phrase, said: &mut Saying) {
+pub fn save(rt: &HostRuntime, call: &Phrase, said: &mut Saying) {
     let mut text = Saying::new(call.alloc());
     for word in call.rest(2) {
         text.either(*word == "/", "\n", word);
@@ -47,7 +47,7 @@ pub fn save<R: Machine>(rt: &R, call: &Phrase, said: &mut Saying) {
 }
 
 /// Makes a file in memory of a file of the folder. Tells its length, or that it doesn't exist.
-pub fn load<R: Machine>(rt: &R, name: &str, file: &mut StoryFile, said: &mut Saying) {
+pub fn load(rt: &HostRuntime, name: &str, file: &mut StoryFile, said: &mut Saying) {
     match fs::read(rt, name) {
         Ok(bytes) => {
             said.so(file.lay(bytes.as_slice(), bytes.len()), "");
@@ -58,7 +58,7 @@ pub fn load<R: Machine>(rt: &R, name: &str, file: &mut StoryFile, said: &mut Say
 }
 
 // Makes a file of the folder of a file in memory. Tells its length.
-fn keep<R: Machine>(rt: &R, name: &str, file: &StoryFile, said: &mut Saying) {
+fn keep(rt: &HostRuntime, name: &str, file: &StoryFile, said: &mut Saying) {
     said.so(fs::write(rt, name, file.bytes()).is_ok(), "");
     write!(said, "{} bytes", file.bytes().len())
 }
@@ -75,8 +75,8 @@ fn write(file: &mut StoryFile, call: &Phrase, said: &mut Saying) {
 }
 
 /// Makes a call of a file in memory: `old CALL` or `new CALL`. An `old image` is one of the first version.
-pub fn tell_of_file<R: Machine>(
-    rt: &R,
+pub fn tell_of_file(
+    rt: &HostRuntime,
     file: &mut StoryFile,
     out: &mut Printout,
     call: &Phrase,

@@ -3,7 +3,7 @@
 use crate::ProgramDesk;
 use crate::spelling::{add_text, add_word};
 use im_migration::Asked;
-use im_program::{CommandLine, Machine, WordFault, Work, read_words};
+use im_program::{CommandLine, WordFault, Work, read_words};
 use im_report::View;
 use im_story::{Phrase, Saying};
 use im_text::Style;
@@ -97,7 +97,7 @@ fn add_line(said: &mut Saying, line: &CommandLine) {
 }
 
 /// Reads a command line, whose words are spelled as in a text. Tells its work, or the status that it ends with.
-pub fn read<R: Machine>(desk: &mut ProgramDesk<'_, R>, call: &Phrase, said: &mut Saying) {
+pub fn read(desk: &mut ProgramDesk, call: &Phrase, said: &mut Saying) {
     let alloc = call.alloc();
     let mut spelled = Vec::new(alloc);
     for word in call.words() {
@@ -120,7 +120,7 @@ pub fn read<R: Machine>(desk: &mut ProgramDesk<'_, R>, call: &Phrase, said: &mut
 }
 
 /// Tells whether these words are in what was said about a bad command line.
-pub fn find<R: Machine>(desk: &ProgramDesk<'_, R>, call: &Phrase, said: &mut Saying) {
+pub fn find(desk: &ProgramDesk, call: &Phrase, said: &mut Saying) {
     let mut spelled = Vec::new(call.alloc());
     add_text(&mut spelled, call.rest(1), said);
     let text = str::from_utf8(spelled.as_slice()).unwrap_or("\n\n");

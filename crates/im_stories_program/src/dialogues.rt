@@ -4,7 +4,6 @@
 use crate::ProgramDesk;
 use im_dialogue::{NoBackups, dialogue_on};
 use im_listening::Ear;
-use im_program::Machine;
 use im_story::{Phrase, Saying};
 use std::io::{self, BufReader, Read};
 
@@ -32,7 +31,7 @@ impl<'a> Ear for Client<'a> {
 }
 
 // Holds a dialogue in which this is said. Tells the status, and how many calls the disk got behind those of an opening.
-fn hold<R: Machine>(desk: &mut ProgramDesk<'_, R>, text: &[u8], call: &Phrase, said: &mut Saying) {
+fn hold(desk: &mut ProgramDesk, text: &[u8], call: &Phrase, said: &mut Saying) {
     let words = call.rest(1);
     for word in words {
         said.so(MANNERS.contains(word) || word.parse::<u64>().is_ok(), "");
@@ -64,7 +63,7 @@ fn hold<R: Machine>(desk: &mut ProgramDesk<'_, R>, text: &[u8], call: &Phrase, s
 }
 
 /// Holds a dialogue on the image, in which the text is said that was put together.
-pub fn talk<R: Machine>(desk: &mut ProgramDesk<'_, R>, call: &Phrase, said: &mut Saying) {
+pub fn talk(desk: &mut ProgramDesk, call: &Phrase, said: &mut Saying) {
     let text = desk.take_text();
     hold(desk, text.as_slice(), call, said)
 }

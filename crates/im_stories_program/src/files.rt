@@ -1,11 +1,12 @@
 //! Files, and the program's work on them.
 
 use crate::ProgramDesk;
+use crate::work::work;
 use crate::writers::ObserverNotes;
 use im_disk::Unknown;
 use im_program::{
-    AtHand, Console, Descriptors, Machine, Serving, Terminals, act, format_file, inspect_file,
-    read_words, serve_file, status_for,
+    AtHand, Console, Descriptors, Serving, Terminals, format_file, inspect_file, read_words,
+    serve_file, status_for,
 };
 use im_report::View;
 use im_story::{Phrase, Printout, Saying};
@@ -23,7 +24,7 @@ const NOBODY: Terminals = Terminals {
 
 /// Does the work of a command line that takes one thread. Standard input is the text that was put together. Tells the
 /// status.
-pub fn run<R: Machine>(desk: &mut ProgramDesk<'_, R>, call: &Phrase, said: &mut Saying) {
+pub fn run(desk: &mut ProgramDesk, call: &Phrase, said: &mut Saying) {
     let Ok(line) = read_words(call.alloc(), call.rest(1)) else {
         return said.fail("bad words");
     };
@@ -36,14 +37,14 @@ pub fn run<R: Machine>(desk: &mut ProgramDesk<'_, R>, call: &Phrase, said: &mut 
         input: &mut input,
         observer: &mut console,
     };
-    let (status, _, _) = act(hand, &line, &mut desk.out, (Unknown, Unknown));
+    let status = work(hand, &line, &mut desk.out);
     desk.text.clear();
     said.number(status_for(status, line.statuses, console.reason()))
 }
 
 // Serves a file's script, tells about an image, or makes one. Returns whether that is done.
-fn is_done<'a, R: Machine>(
-    rt: &'a R,
+fn is_done<'a>(
+    rt: &'a HostRuntime,
     held: &'a Descriptors,
     call: &Phrase,
     out: &mut Printout,
@@ -71,14 +72,14 @@ fn is_done<'a, R: Machine>(
 }
 
 /// Does one of these, and tells whether it is done.
-pub fn attempt<R: Machine>(desk: &mut ProgramDesk<'_, R>, call: &Phrase, said: &mut Saying) {
+pub fn attempt(desk: &mut ProgramDesk, call: &Phrase, said: &mut Saying) {
     desk.print(usize::MAX);
     let is_done = is_done(desk.rt, desk.held, call, &mut desk.out, &mut desk.notes);
     said.either(is_done, "done", "refused")
 }
 
 /// Makes a file of the text that was put together, or of the image in memory. Tells how many bytes there are.
-pub fn write<R: Machine>(desk: &mut ProgramDesk<'_, R>, call: &Phrase, said: &mut Saying) {
+pub fn write(desk: &mut ProgramDesk, call: &Phrase, said: &mut Saying) {
     let is_text = call.word(0) == "save";
     let bytes = if is_text {
         desk.text.as_slice()
@@ -93,7 +94,7 @@ pub fn write<R: Machine>(desk: &mut ProgramDesk<'_, R>, call: &Phrase, said: &mu
 }
 
 /// Tells how long a file is, if it exists. Makes an image in memory of it, if that is asked for.
-pub fn read<R: Machine>(desk: &mut ProgramDesk<'_, R>, call: &Phrase, said: &mut Saying) {
+pub fn read(desk: &mut ProgramDesk, call: &Phrase, said: &mut Saying) {
     match fs::read(desk.rt, call.word(1)) {
         Ok(bytes) => {
             let (bytes, is_loaded) = (bytes.as_slice(), call.word(0) == "load");

@@ -11,21 +11,24 @@ mod reasons;
 mod scripts;
 mod serving;
 mod spelling;
+mod work;
 mod writers;
 
 use im_disk::Mode;
-use im_program::{Descriptors, Machine};
+use im_program::Descriptors;
 use im_script::Said;
 use im_story::{Phrase, Printout, Saying, Subject, walk_file};
 use im_story_disk::StoryFile;
 use std::{fs, mem};
 use writers::ObserverNotes;
 
+pub use work::work;
+
 /// What a story works with: a script, an image in memory, what was last printed, and the folder's files.
 #[derive(Drop)]
-struct ProgramDesk<'a, R> {
+struct ProgramDesk<'a> {
     /// The folder's files, and standard output.
-    rt: &'a R,
+    rt: &'a HostRuntime,
     /// What occupies the numbers of the standard streams.
     held: &'a Descriptors,
     /// The image in memory.
@@ -46,8 +49,8 @@ struct ProgramDesk<'a, R> {
     notes: ObserverNotes,
 }
 
-impl<'a, R: Machine> ProgramDesk<'a, R> {
-    fn new(rt: &'a R, held: &'a Descriptors) -> ProgramDesk<'a, R> {
+impl<'a> ProgramDesk<'a> {
+    fn new(rt: &'a HostRuntime, held: &'a Descriptors) -> ProgramDesk<'a> {
         let alloc = rt.alloc();
         ProgramDesk {
             rt,
@@ -96,7 +99,7 @@ impl<'a, R: Machine> ProgramDesk<'a, R> {
     }
 }
 
-impl<'a, R: Machine> Subject for ProgramDesk<'a, R> {
+impl<'a> Subject for ProgramDesk<'a> {
     fn begin(&mut self) {
         *self = ProgramDesk::new(self.rt, self.held);
     }
@@ -136,12 +139,6 @@ impl<'a, R: Machine> Subject for ProgramDesk<'a, R> {
 }
 
 /// Walks the stories of a file. Returns whether nothing was answered otherwise.
-pub fn walk<R: Machine>(
-    rt: &HostRuntime,
-    machine: &R,
-    held: &Descriptors,
-    file: &str,
-    said: &mut Saying,
-) -> bool {
-    walk_file(rt, file, &mut ProgramDesk::new(machine, held), said)
+pub fn walk(rt: &HostRuntime, held: &Descriptors, file: &str, said: &mut Saying) -> bool {
+    walk_file(rt, file, &mut ProgramDesk::new(rt, held), said)
 }

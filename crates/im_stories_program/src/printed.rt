@@ -2,7 +2,6 @@
 
 use crate::ProgramDesk;
 use crate::spelling::line_ends;
-use im_program::Machine;
 use im_story::{Phrase, Saying};
 use im_text::Progress;
 
@@ -53,7 +52,7 @@ pub fn add_progress(progress: Option<Progress>, said: &mut Saying) {
 }
 
 /// Tells how many lines were printed, or told besides; one of them, or what some of them have in common.
-pub fn tell<R: Machine>(desk: &ProgramDesk<'_, R>, call: &Phrase, said: &mut Saying) {
+pub fn tell(desk: &ProgramDesk, call: &Phrase, said: &mut Saying) {
     let text = match call.word(0) {
         "told" => desk.notes.told.said(),
         _ => desk.out.text(),

@@ -2,7 +2,7 @@
 
 use crate::ProgramDesk;
 use im_damage::Damage;
-use im_program::{Machine, refuse};
+use im_program::refuse;
 use im_story::{Phrase, Saying};
 use im_text::{CallFault, PathFault, Reason, Style};
 use im_types::Refusal;
@@ -60,7 +60,7 @@ pub fn tell(call: &Phrase, said: &mut Saying) {
 }
 
 /// Prints that there was no memory. Tells the status.
-pub fn refuse_memory<R: Machine>(desk: &mut ProgramDesk<'_, R>, said: &mut Saying) {
+pub fn refuse_memory(desk: &mut ProgramDesk, said: &mut Saying) {
     desk.print(usize::MAX);
     let status = refuse(
         desk.rt.alloc(),

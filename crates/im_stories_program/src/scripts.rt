@@ -2,7 +2,6 @@
 
 use crate::ProgramDesk;
 use crate::spelling::{add_text, add_word, line_ends};
-use im_program::Machine;
 use im_script::{Action, Place, Reader, Said, ScriptLine, read_script, read_u32};
 use im_story::{Phrase, Saying};
 use im_types::Kind;
@@ -38,7 +37,7 @@ fn add_line(line: ScriptLine, said: &mut Saying) {
 }
 
 /// Adds the kinds and lengths of the blocks, or else the elements of the parts.
-pub fn add_lines<R: Machine>(desk: &ProgramDesk<'_, R>, call: &Phrase, said: &mut Saying) {
+pub fn add_lines(desk: &ProgramDesk, call: &Phrase, said: &mut Saying) {
     let of_blocks = call.word(0) == "blocks";
     for line in desk.lines.as_slice() {
         match line {
@@ -54,7 +53,7 @@ pub fn add_lines<R: Machine>(desk: &ProgramDesk<'_, R>, call: &Phrase, said: &mu
 }
 
 /// Tells a request as it stands, the address on which it acts, or its operation.
-pub fn add_request<R: Machine>(desk: &ProgramDesk<'_, R>, call: &Phrase, said: &mut Saying) {
+pub fn add_request(desk: &ProgramDesk, call: &Phrase, said: &mut Saying) {
     let bases = desk.bases.as_slice();
     let mut requests = desk.lines.iter().filter_map(|line| match line {
         Said::Asks(line) => Some(*line),
@@ -89,7 +88,7 @@ fn hear(lines: &mut Vec<Said>, text: &[u8], call: &Phrase, said: &mut Saying) {
 }
 
 /// Reads the text that was put together, with these words after it.
-pub fn read<R: Machine>(desk: &mut ProgramDesk<'_, R>, call: &Phrase, said: &mut Saying) {
+pub fn read(desk: &mut ProgramDesk, call: &Phrase, said: &mut Saying) {
     add_text(&mut desk.text, call.rest(1), said);
     desk.read = desk.take_text();
     desk.lines.clear();
@@ -105,7 +104,7 @@ pub fn read<R: Machine>(desk: &mut ProgramDesk<'_, R>, call: &Phrase, said: &mut
 
 /// Adds lines to the text that is put together: once, so many times, or for each of these numbers. In them `@` stands
 /// for the number.
-pub fn put<R: Machine>(desk: &mut ProgramDesk<'_, R>, call: &Phrase, said: &mut Saying) {
+pub fn put(desk: &mut ProgramDesk, call: &Phrase, said: &mut Saying) {
     let (from, upto, words) = match call.word(0) {
         "script" => (1, 1, call.rest(1)),
         "repeat" => (1, call.address(0), call.rest(2)),
@@ -123,7 +122,7 @@ pub fn put<R: Machine>(desk: &mut ProgramDesk<'_, R>, call: &Phrase, said: &mut 
 }
 
 /// Sets the bases of the setup's blocks.
-pub fn set_bases<R: Machine>(desk: &mut ProgramDesk<'_, R>, call: &Phrase, said: &mut Saying) {
+pub fn set_bases(desk: &mut ProgramDesk, call: &Phrase, said: &mut Saying) {
     desk.bases.clear();
     for at in 0..call.rest(1).len() {
         said.so(desk.bases.push(call.address(at)).is_ok(), "");

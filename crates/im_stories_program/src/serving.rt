@@ -2,7 +2,6 @@
 //! one fail. A writer may take only a number of bytes.
 
 use crate::ProgramDesk;
-use im_program::Machine;
 use im_report::{Filter, Span, View, inspect_on, look_on};
 use im_script::read_script;
 use im_serial::{StyledScript, serial_on, serial_once_on};
@@ -26,7 +25,7 @@ const REPORTS: [&str; 3] = ["inspect", "inspect _ calls", "inspect to _ bytes"];
 const MOST: u64 = 100;
 
 // Serves the script that was last read, or what the image doesn't have of it. Returns the status.
-fn serve_script<R: Machine>(desk: &mut ProgramDesk<'_, R>, is_once: bool, said: &mut Saying) -> u8 {
+fn serve_script(desk: &mut ProgramDesk, is_once: bool, said: &mut Saying) -> u8 {
     let alloc = desk.rt.alloc();
     let Ok(script) = read_script(alloc, desk.read.as_slice()) else {
         said.fail("no script was read");
@@ -50,7 +49,7 @@ fn serve_script<R: Machine>(desk: &mut ProgramDesk<'_, R>, is_once: bool, said: 
 }
 
 /// Serves the script as the call tells, a stopped one again and again until its status is 0. Tells the last status.
-pub fn serve<R: Machine>(desk: &mut ProgramDesk<'_, R>, call: &Phrase, said: &mut Saying) {
+pub fn serve(desk: &mut ProgramDesk, call: &Phrase, said: &mut Saying) {
     said.so(SERVINGS.contains(&call.form()), "");
     let is_past = call.form().ends_with("past the opening");
     let opening = if is_past { desk.opening_calls() } else { 0 };
@@ -87,7 +86,7 @@ fn view_of(call: &Phrase) -> Option<View> {
 }
 
 /// Prints what is wanted of the image, or else the whole report. Tells the status.
-pub fn look<R: Machine>(desk: &mut ProgramDesk<'_, R>, call: &Phrase, said: &mut Saying) {
+pub fn look(desk: &mut ProgramDesk, call: &Phrase, said: &mut Saying) {
     let (alloc, wanted) = (call.alloc(), view_of(call));
     said.so(wanted.is_some() || REPORTS.contains(&call.form()), "");
     desk.prepare(call, 0);

@@ -1,5 +1,6 @@
 use Rattle.std.proofs.Common.{ℕ, List, Option, ◌∙◌, subst}
 use Rattle.{im_disk.specs.contracts.file.FileDiskDisk.TheImpl.ghosts, im_program.specs.Ending.EndedOn}
+use Rattle.im_listening.specs.Listening.{still_in}
 use Rattle.imem.proofs.Heard.{heard_as}
 
 pub returns-clause-ended : Rattle.imem.proofs.working.work_on.Goals.returns-clause-ended
