@@ -58,6 +58,58 @@ printed 0 = 1.2 nocell
 remove s = removed
 remove a.img = removed
 
+# Each line of a script may be told as an object
+run imem format a.img = 0
+script setup / alloc x i 2 / element 1 / fetch x+0 / fetch x+1 / element 2 / store x+0 42 / store x+0 43 / release 9 / = 9 lines
+save s = 94 bytes
+run imem serial a.img s --json = 0
+printed = 8 lines
+printed 0 = {"element":0,"number":"1","now":false,"reply":"base","base":"0"}
+printed 1 = {"element":1,"number":"1","now":false,"reply":"waiting"}
+printed 2 = {"element":1,"number":"2","now":false,"reply":"waiting"}
+printed 3 = {"element":2,"number":"1","now":false,"reply":"stored"}
+printed 4 = {"element":2,"number":"2","now":false,"reply":"clash"}
+printed 5 = {"element":2,"number":"3","now":false,"reply":"noblock"}
+printed 6 = {"element":1,"number":"1","now":true,"reply":"value","value":"42"}
+printed 7 = {"element":1,"number":"2","now":true,"reply":"waiting"}
+script element 2 / store 9 1 / alloc i 0 / put 0 7 / take 1 / = 5 lines
+save s = 45 bytes
+run imem serial a.img s --json = 0
+printed = 4 lines
+printed 0 = {"element":2,"number":"4","now":false,"reply":"nocell"}
+printed 1 = {"element":2,"number":"5","now":false,"reply":"badlength"}
+printed 2 = {"element":2,"number":"6","now":false,"reply":"wrongkind"}
+printed 3 = {"element":2,"number":"7","now":false,"reply":"wrongkind"}
+remove s = removed
+remove a.img = removed
+
+# So may a refusal
+run imem format a.img = 0
+script element 70 / fetch 0 / = 2 lines
+save s = 19 bytes
+run imem serial a.img s --json = 1
+printed = 1 lines
+printed 0 = {"refused":{"code":18,"name":"BadScript"}}
+run imem serial none.img s --json --statuses = 1
+printed = 1 lines
+printed 0 = {"refused":{"code":18,"name":"BadScript"}}
+remove s = removed
+remove a.img = removed
+
+# Quietly, a refusal alone is told
+run imem format a.img = 0
+script setup / alloc x i 2 / element 1 / fetch x+0 / fetch x+1 / element 2 / store x+0 42 / store x+0 43 / release 9 / = 9 lines
+save s = 94 bytes
+run imem serial a.img s --quiet = 0
+printed = 0 lines
+script element 70 / fetch 0 / = 2 lines
+save s = 19 bytes
+run imem serial a.img s --quiet = 1
+printed = 1 lines
+printed 0 = refused 18 BadScript
+remove s = removed
+remove a.img = removed
+
 # A refusal has its number and its name
 refuse no memory = 1
 printed = 1 lines
