@@ -3,7 +3,7 @@
 use crate::MigrationDesk;
 use crate::moves::report;
 use im_program::{AtHand, Console, Terminals, read_words};
-use im_stories_program::work;
+use im_stories_program::do_work;
 use im_story::{Phrase, Printout, Saying, bytes};
 use im_story_disk::StoryFile;
 use std::fs;
@@ -30,7 +30,7 @@ pub fn run(desk: &mut MigrationDesk, call: &Phrase, said: &mut Saying) {
         input: &mut nothing,
         observer: &mut console,
     };
-    let status = work(hand, &line, &mut desk.out);
+    let status = do_work(hand, &line, &mut desk.out);
     desk.told = console.reason();
     write!(said, "{status}")
 }

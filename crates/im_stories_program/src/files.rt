@@ -1,7 +1,7 @@
 //! Files, and the program's work on them.
 
 use crate::ProgramDesk;
-use crate::work::work;
+use crate::work::do_work;
 use crate::writers::ObserverNotes;
 use im_disk::Unknown;
 use im_program::{
@@ -37,7 +37,7 @@ pub fn run(desk: &mut ProgramDesk, call: &Phrase, said: &mut Saying) {
         input: &mut input,
         observer: &mut console,
     };
-    let status = work(hand, &line, &mut desk.out);
+    let status = do_work(hand, &line, &mut desk.out);
     desk.text.clear();
     said.number(status_for(status, line.statuses, console.reason()))
 }

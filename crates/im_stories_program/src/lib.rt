@@ -20,7 +20,7 @@ use im_script::Said;
 use im_story::{Phrase, Printout, Saying, Subject, walk_file};
 use im_story_disk::StoryFile;
 use std::{fs, mem};
-pub use work::work;
+pub use work::do_work;
 use writers::ObserverNotes;
 
 /// What a story works with: a script, an image in memory, what was last printed, and the folder's files.

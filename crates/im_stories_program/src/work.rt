@@ -55,7 +55,7 @@ fn done(
 }
 
 /// Does the work of a command line, and prints its refusal. Returns the status.
-pub fn work(
+pub fn do_work(
     hand: AtHand<'_, HostRuntime, &[u8], Console<'_, HostRuntime>>,
     line: &CommandLine,
     out: &mut Printout,
