@@ -86,6 +86,37 @@ pub fn made(count: u32) -> u64 {
     sum
 }
 
+// Returns sixteen commands, the requests from the one with this index on.
+fn commands(first: u32) -> ArrayVec<Command, MAX_GROUP> {
+    let mut commands = ArrayVec::new();
+    for more in 0..16u32 {
+        let _is_full = commands.try_push(Command::Request(store(first.wrapping_add(more))));
+    }
+    commands
+}
+
+/// Serves `count` requests as a chain of groups of sixteen, each behind the one ahead. Returns how many were answered.
+pub fn in_a_chain<D: Disk>(engine: &mut Engine<D>, count: u32) -> u64 {
+    let mut sum = 0u64;
+    for group in 0..count / 16 {
+        let mut served = ArrayVec::new();
+        let _ahead = engine.advance(&commands(group.wrapping_mul(16)), &mut served);
+        sum = sum.wrapping_add(done(served.as_slice()));
+    }
+    let mut served = ArrayVec::new();
+    let _none = engine.advance(&ArrayVec::new(), &mut served);
+    sum.wrapping_add(done(served.as_slice()))
+}
+
+/// Makes the same groups, and serves none. Returns how many requests they have.
+pub fn chain_made(count: u32) -> u64 {
+    let mut sum = 0u64;
+    for group in 0..count / 16 {
+        sum = sum.wrapping_add(commands(group.wrapping_mul(16)).len() as u64);
+    }
+    sum
+}
+
 // Serves the requests with these indexes, each by itself. On an image of the largest size each is on a page of its own.
 // Returns how many were answered.
 fn on_pages<D: Disk>(engine: &mut Engine<D>, from: u32, to: u32) -> u64 {
@@ -131,6 +162,8 @@ fn work<D: Disk>(engine: &mut Engine<D>, workload: &str, count: u32) -> Option<u
         "stores_one_by_one" => one_by_one(engine, count),
         "stores_together" => together(engine, count),
         "stores_made" => made(count),
+        "stores_in_a_chain" => in_a_chain(engine, count),
+        "chain_made" => chain_made(count),
         "turns" => turns(engine, count),
         "stores_with_no_checkpoint" => after_turns(engine, 0, count),
         "stores_beside_a_checkpoint" => after_turns(engine, 1, count),

@@ -2,8 +2,8 @@
 
 use im_disk::{FileDisk, Unknown};
 use im_program::{
-    AtHand, CommandLine, Console, Work, copy_file, dump_file, format_file, inspect_file, load_file,
-    migrate_file, refuse, serve_file,
+    AtHand, CommandLine, Console, Work, copy_file, demonstrate, dump_file, format_file,
+    inspect_file, load_file, migrate_file, refuse, serve_file,
 };
 use im_story::Printout;
 use im_text::Style;
@@ -39,6 +39,7 @@ fn done(
     out: &mut Printout,
 ) -> Result<u8, Refusal> {
     match line.work {
+        Work::Demonstration => Ok(demonstrate(hand.rt.alloc(), out, hand.observer)),
         Work::Format(it) => {
             let limits = limits_of(it.cells, it.elements, it.slots)?;
             let _disk = format_file(hand, it.image, limits, it.is_new, Unknown)?;
@@ -54,6 +55,14 @@ fn done(
     }
 }
 
+// How a refusal of the work is said.
+fn style_of(line: &CommandLine) -> Style {
+    match line.work {
+        Work::Serial(it) => it.style,
+        _ => Style::Text,
+    }
+}
+
 /// Does the work of a command line, and prints its refusal. Returns the status.
 pub fn do_work(
     hand: AtHand<'_, HostRuntime, &[u8], Console<'_, HostRuntime>>,
@@ -63,6 +72,6 @@ pub fn do_work(
     let alloc = hand.rt.alloc();
     match done(hand, line, out) {
         Ok(status) => status,
-        Err(refusal) => refuse(alloc, Style::Text, refusal, out),
+        Err(refusal) => refuse(alloc, style_of(line), refusal, out),
     }
 }

@@ -80,6 +80,17 @@ printed 0 = {"element":2,"number":"4","now":false,"reply":"nocell"}
 printed 1 = {"element":2,"number":"5","now":false,"reply":"badlength"}
 printed 2 = {"element":2,"number":"6","now":false,"reply":"wrongkind"}
 printed 3 = {"element":2,"number":"7","now":false,"reply":"wrongkind"}
+script element 1 / fetch 0 / = 2 lines
+save s = 18 bytes
+run imem serial a.img s --json = 0
+printed = 1 lines
+printed 0 = {"element":1,"number":"3","now":false,"reply":"clash"}
+script element 1 / fetch 1 / = 2 lines
+save s = 18 bytes
+run imem serial a.img s --json = 0
+printed = 2 lines
+printed 0 = {"element":1,"number":"4","now":false,"reply":"waiting"}
+printed 1 = {"element":1,"number":"4","now":true,"reply":"waiting"}
 remove s = removed
 remove a.img = removed
 
