@@ -5,13 +5,15 @@ ghost use Rattle.std.specs.Prelude.{◌≡◌, ◌≤◌, ◌⊎◌, map, IfOk, 
 ghost use Rattle.std.specs.Process.{exit_status};
 ghost use Rattle.im_program.specs.Ending.{EndedBy};
 
+mod machine;
 mod openings;
 mod working;
 
+use crate::machine::Machine;
 use crate::openings::{Clocked, Openings};
 use crate::working::{Surroundings, work_on};
 use im_disk::{Disk, FileDisk, Start};
-use im_program::{Descriptors, Machine, Terminals, WordFault, read_words, refuse};
+use im_program::{Descriptors, Terminals, WordFault, read_words, refuse};
 use im_text::Style;
 use im_types::Refusal;
 use std::alloc::{AllocError, Global};

@@ -3,11 +3,11 @@ ghost use Rattle.std.specs.Prelude.{◌≡◌, ◌≤◌};
 ghost use Rattle.im_listening.specs.{Lending.HasBytes, Listening.still_in};
 ghost use Rattle.im_program.specs.Ending.{EndedOn};
 
+use crate::machine::Machine;
 use im_disk::{Disk, FileDisk, Start};
 use im_listening::{InputBytes, Listener};
 use im_program::{
-    AtHand, CommandLine, Console, Descriptors, Machine, Prompter, Terminals, Work, act, refuse,
-    status_for,
+    AtHand, CommandLine, Console, Descriptors, Prompter, Terminals, Work, act, refuse, status_for,
 };
 use im_text::Style;
 use im_types::Refusal;

@@ -1,7 +1,4 @@
 //! The cells by address, without the requests that wait for them.
-ghost use Rattle.std.specs.Prelude.{◌≡◌, ℕ, ◌+◌, ◌<◌, ◌≤◌, List, length, IfSome, slice_index_or, Some, None};
-ghost use Rattle.im_types.specs.Types.{Waiter, presence_of, begins_free, place, fill, change_each};
-ghost use Rattle.im_plain.specs.Joined.{emptied_slot, state_with};
 
 use im_types::{Block, Cell, MAX_CELLS};
 
@@ -21,9 +18,7 @@ pub struct PlainSlot {
 }
 
 /// Returns a cell with this state at which `waiting` requests wait.
-pub fn presence_of(state: Content, waiting: usize) -> Cell
-    ensures { (waiters : List Waiter) → length waiters ≡ waiting → result ≡ presence_of (state_with state waiters) }
-{
+pub fn presence_of(state: Content, waiting: usize) -> Cell {
     match state {
         Content::Empty if waiting == 0 => Cell::Empty,
         Content::Empty => Cell::Waiting,
@@ -33,18 +28,26 @@ pub fn presence_of(state: Content, waiting: usize) -> Cell
 }
 
 /// Returns the slot at an address, or `None` if it is in no block.
-pub fn slot_at(slots: &[Option<PlainSlot>], a: u32) -> Option<PlainSlot>
-    ensures value { result ≡ slice_index_or slots.now a None }
-    ensures within { IfSome result (λ _. a < length slots.now) }
-{
+pub fn slot_at(slots: &[Option<PlainSlot>], a: u32) -> Option<PlainSlot> {
     let at = a as usize;
     if at < slots.len() { slots[at] } else { None }
 }
 
+/// Changes the state of the cell at an address, if it is in a block.
+pub fn set(slots: &mut [Option<PlainSlot>], a: u32, state: Content) {
+    let at = a as usize;
+    if let Some(slot) = slot_at(slots, a)
+        && at < slots.len()
+    {
+        slots[at] = Some(PlainSlot {
+            block: slot.block,
+            state,
+        });
+    }
+}
+
 /// Returns whether the first `n` slots exist and are in no block.
-pub fn begins_free(slots: &[Option<PlainSlot>], n: u32) -> bool
-    ensures { result ≡ begins_free n slots.now }
-{
+pub fn begins_free(slots: &[Option<PlainSlot>], n: u32) -> bool {
     for i in 0..n as usize {
         if i >= slots.len() || slots[i].is_some() {
             return false;
@@ -54,22 +57,21 @@ pub fn begins_free(slots: &[Option<PlainSlot>], n: u32) -> bool
 }
 
 /// Returns the least base from which `n` slots are in no block, or `None` if there is none.
-pub fn place(slots: &[Option<PlainSlot>], n: u32) -> Option<u32>
-    requires { length slots.now ≤ MAX_CELLS }
-    ensures { result ≡ place n slots.now }
-{
-    for base in 0..slots.len() {
-        if begins_free(&slots[base..], n) {
-            return Some(base as u32);
+pub fn place(slots: &[Option<PlainSlot>], n: u32) -> Option<u32> {
+    for base in 0..MAX_CELLS {
+        let at = base as usize;
+        if at >= slots.len() {
+            return None;
+        }
+        if begins_free(&slots[at..], n) {
+            return Some(base);
         }
     }
     None
 }
 
 // Returns a block's slot with an empty cell. A slot in no block stays as it is.
-fn emptied(slot: Option<PlainSlot>) -> Option<PlainSlot>
-    ensures { result ≡ emptied_slot slot }
-{
+fn emptied(slot: Option<PlainSlot>) -> Option<PlainSlot> {
     match slot {
         Some(slot) => Some(PlainSlot {
             block: slot.block,
@@ -80,9 +82,7 @@ fn emptied(slot: Option<PlainSlot>) -> Option<PlainSlot>
 }
 
 /// Empties the cells of `n` slots from `base` on. Slots past the end are left out.
-pub fn empty(slots: &mut [Option<PlainSlot>], base: u32, n: u32)
-    ensures { slots.new ≡ change_each emptied_slot slots.old base n }
-{
+pub fn empty(slots: &mut [Option<PlainSlot>], base: u32, n: u32) {
     for i in 0..n {
         let at = base as usize + i as usize;
         if at < slots.len() {
@@ -92,9 +92,7 @@ pub fn empty(slots: &mut [Option<PlainSlot>], base: u32, n: u32)
 }
 
 /// Sets `n` slots from `base` on. Slots past the end are left out.
-pub fn fill(slots: &mut [Option<PlainSlot>], base: u32, n: u32, slot: Option<PlainSlot>)
-    ensures { slots.new ≡ fill slots.old base n slot }
-{
+pub fn fill(slots: &mut [Option<PlainSlot>], base: u32, n: u32, slot: Option<PlainSlot>) {
     for i in 0..n {
         let at = base as usize + i as usize;
         if at < slots.len() {

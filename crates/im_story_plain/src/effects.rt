@@ -1,7 +1,4 @@
 //! The effect of an operation on one cell, by the cell's content and how many requests wait there. `acts` calls it.
-ghost use Rattle.std.specs.Prelude.{◌≡◌, ℕ};
-ghost use Rattle.im_types.specs.Types.{fetch, store, take_from, put};
-ghost use Rattle.im_plain.specs.CellEffects.{access_of, GivesEffect};
 
 use crate::cells::Content;
 use im_types::{Entry, Op, Reply};
@@ -16,9 +13,7 @@ pub struct CellEffect {
     pub value: u64,
 }
 
-fn told(state: Content, reply: Reply) -> CellEffect
-    ensures { result ≡ record { state = state; entry = Entry.Answered reply; count = 0; value = 0 } }
-{
+fn told(state: Content, reply: Reply) -> CellEffect {
     CellEffect {
         state,
         entry: Entry::Answered(reply),
@@ -27,9 +22,7 @@ fn told(state: Content, reply: Reply) -> CellEffect
     }
 }
 
-fn deferred() -> CellEffect
-    ensures { result ≡ record { state = Content.Empty; entry = Entry.Waiting; count = 0; value = 0 } }
-{
+fn deferred() -> CellEffect {
     CellEffect {
         state: Content::Empty,
         entry: Entry::Waiting,
@@ -39,9 +32,7 @@ fn deferred() -> CellEffect
 }
 
 // The effect of a write to an empty cell. The first `count` waiting requests are given the value.
-fn stored(state: Content, count: usize, value: u64) -> CellEffect
-    ensures { result ≡ record { state = state; entry = Entry.Answered Reply.Stored; count = count; value = value } }
-{
+fn stored(state: Content, count: usize, value: u64) -> CellEffect {
     CellEffect {
         state,
         entry: Entry::Answered(Reply::Stored),
@@ -51,9 +42,7 @@ fn stored(state: Content, count: usize, value: u64) -> CellEffect
 }
 
 /// Returns the effect of a fetch on a cell. It is the same however many requests wait there.
-fn fetch(state: Content) -> CellEffect
-    ensures { (waiting : ℕ) → GivesEffect state waiting result (λ who. fetch who) }
-{
+fn fetch(state: Content) -> CellEffect {
     match state {
         Content::Empty => deferred(),
         Content::Full(value) => told(state, Reply::Value(value)),
@@ -62,9 +51,7 @@ fn fetch(state: Content) -> CellEffect
 }
 
 /// Returns the effect of a store to a cell at which `waiting` requests wait.
-fn store(state: Content, waiting: usize, value: u64) -> CellEffect
-    ensures { GivesEffect state waiting result (λ who. store value) }
-{
+fn store(state: Content, waiting: usize, value: u64) -> CellEffect {
     match state {
         Content::Empty => stored(Content::Full(value), waiting, value),
         Content::Full(first) | Content::Clashed(first) => told(
@@ -75,9 +62,7 @@ fn store(state: Content, waiting: usize, value: u64) -> CellEffect
 }
 
 /// Returns the effect of a take from a cell. It is the same however many requests wait there.
-fn take_from(state: Content) -> CellEffect
-    ensures { (waiting : ℕ) → GivesEffect state waiting result (λ who. take_from who) }
-{
+fn take_from(state: Content) -> CellEffect {
     match state {
         Content::Empty => deferred(),
         Content::Full(value) => told(Content::Empty, Reply::Value(value)),
@@ -86,9 +71,7 @@ fn take_from(state: Content) -> CellEffect
 }
 
 /// Returns the effect of a put to a cell at which `waiting` requests wait.
-fn put(state: Content, waiting: usize, value: u64) -> CellEffect
-    ensures { GivesEffect state waiting result (λ who. put value) }
-{
+fn put(state: Content, waiting: usize, value: u64) -> CellEffect {
     match state {
         Content::Empty if waiting == 0 => told(Content::Full(value), Reply::Stored),
         Content::Empty => stored(Content::Empty, 1, value),
@@ -97,9 +80,7 @@ fn put(state: Content, waiting: usize, value: u64) -> CellEffect
 }
 
 /// Returns the effect of an operation on a cell at which `waiting` requests wait.
-pub fn access(state: Content, waiting: usize, op: Op) -> CellEffect
-    ensures { GivesEffect state waiting result (λ who. access_of who op) }
-{
+pub fn access(state: Content, waiting: usize, op: Op) -> CellEffect {
     match op {
         Op::Fetch(_) => fetch(state),
         Op::Store(_, value) => store(state, waiting, value),
