@@ -14,7 +14,6 @@ mod hand;
 mod jobs;
 mod loading;
 mod looking;
-mod machine;
 mod mounts;
 mod moving;
 mod opening;
@@ -45,7 +44,6 @@ pub use im_words::{
 };
 pub use loading::{LoadFault, load_file};
 pub use looking::inspect_file;
-pub use machine::Machine;
 pub use moving::{migrate_file, migrate_on};
 pub use prompting::Prompter;
 pub use running::run_file;
