@@ -1,11 +1,12 @@
 -- What the words of the command line ask for. (Own.)
-use Rattle.std.specs.Prelude.{ℕ, Bool, true, false, List, [], ◌∷◌, map, if◌then◌else◌, nat_le}
-use Rattle.std.specs.Prelude.{Some, None, codes, bytes_eq, Option, unwrap_or, option_map, option_and_then}
+use Rattle.std.specs.Prelude.{ℕ, Bool, true, false, List, [], ◌∷◌, map, if◌then◌else◌, nat_le, Some, None, codes}
+use Rattle.std.specs.Prelude.{bytes_eq, Option, unwrap_or, option_map, option_and_then}
 use Rattle.clap.specs.declared.builder.action.ArgAction.TheVariants.{SetTrue}
 use Rattle.clap.specs.Words.{App, first_of, new_app, new_rule, Row, Rule, subcommand_of, Text, with_rule}
 use Rattle.clap.specs.Words.{with_subcommand}
 use Rattle.std.specs.{Borrow.Bor, Option.option_map_or}
-use Rattle.{im_migration.specs.declared.Asked.Asked, im_script.specs.Grammar.number_up_to, im_script.specs.Grammar.span_of}
+use Rattle.im_migration.specs.declared.Asked.{Asked}
+use Rattle.im_script.specs.Grammar.{number_up_to, span_of}
 use Rattle.im_text.specs.declared.Style.{Style, TheVariants.Json, TheVariants.Quiet, TheVariants.Text as InText}
 use Rattle.im_report.specs.declared.{Filter.Filter, Span.Span, View.View}
 use Rattle.im_report.specs.declared.View.TheVariants.{DumpJson, Report, ReportJson, Stat, StatJson}
