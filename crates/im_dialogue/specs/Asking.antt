@@ -3,7 +3,7 @@ use Rattle.std.specs.Prelude.{ℕ, List, [], ◌∷◌, if◌then◌else◌, ◌
 use Rattle.std.specs.Prelude.{option_and_then}
 use Rattle.std.specs.{List.slice_split, Option.option_or}
 use Rattle.im_types.specs.Types.{Op, Waiter, Command, Asks, Confirm}
-use Rattle.im_script.specs.Grammar.{is_line, number_up_to, span_of, words_of}
+use Rattle.im_script.specs.Grammar.{is_line, number_up_to, span_in, words_of}
 use Rattle.im_script.specs.{Lines.action_of, Places.action_op}
 use Rattle.im_dialogue.specs.{Backups.backup_name_of, declared.asking.Question.Question}
 use Rattle.im_dialogue.specs.declared.asking.Question.TheVariants.{About, Backup, Count, Look, Quit, Room, Serve, Turn}
@@ -62,7 +62,7 @@ asked_by_two word what = if bytes_eq word (codes "collect") then option_map (λ 
     else (if bytes_eq word (codes "entry") then option_map (λ w. Look (Entry w)) (waiter_named what)
     else (if bytes_eq word (codes "window") then option_map Window (element_of what)
     else (if bytes_eq word (codes "backup") then option_map Backup (backup_name_of what)
-    else (if bytes_eq word (codes "cells") then option_map (λ s. Look (Cells s.0 s.1)) (span_of what)
+    else (if bytes_eq word (codes "cells") then option_map (λ s. Look (Cells s.0 s.1)) (span_in what)
     else option_and_then (asked_at word) (number_up_to 4294967295 what)))))
 
 -- confirm E UPTO

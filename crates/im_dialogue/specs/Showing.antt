@@ -73,29 +73,36 @@ list_line word many parts = word ++ codes " " ++ decimal many ++ parts ++ line_f
 abbrev pub many_from : ℕ → ℕ → Contents → ℕ
 many_from a b m = (if nat_lt b (length m.cells) then b + 1 else length m.cells) - a
 
+-- so many cells, from an address on, as parts
+abbrev pub cell_parts : ℕ → Contents → ℕ → List ℕ
+cell_parts a m many = texts_below (λ i. behind_comma (cell_said (a + i) (held_at m.cells (a + i)))) many
+
 -- the cells from one address to another that a memory has, each as `cell` says it
 abbrev pub cells_list : ℕ → ℕ → Contents → List ℕ
-cells_list a b m = list_line (codes "cells") (many_from a b m)
-    (texts_below (λ i. behind_comma (cell_said (a + i) (held_at m.cells (a + i)))) (many_from a b m))
+cells_list a b m = list_line (codes "cells") (many_from a b m) (cell_parts a m (many_from a b m))
 
 -- what is said of an address of this sort: of a base its block, else its cell
-abbrev pub said_at : Sort → Contents → ℕ → List ℕ
-said_at Base m a = block_said a (block_at m.cells a)
-said_at sort m a = cell_said a (held_at m.cells a)
+abbrev pub shown_at : Sort → Contents → ℕ → List ℕ
+shown_at Base m a = block_said a (block_at m.cells a)
+shown_at sort m a = cell_said a (held_at m.cells a)
 
 -- the part of an address, if it is of this sort
 abbrev pub part_at : Sort → Contents → ℕ → List ℕ
 part_at sort m a = text_if (is_counted sort a (block_at m.cells a) (presence_in (held_at m.cells a)))
-    (behind_comma (said_at sort m a))
+    (behind_comma (shown_at sort m a))
 
 -- all addresses of this sort, each as `block` or `cell` says it
 abbrev pub sort_list : List ℕ → Sort → Contents → List ℕ
 sort_list word sort m = list_line word (many_cells sort m) (texts_below (part_at sort m) (length m.cells))
 
+-- the window of an element as a part
+abbrev pub window_part : Contents → ℕ → List ℕ
+window_part m element = behind_comma (window_said element (bounds m.windows element))
+
 -- all elements, each as `window` says it
 abbrev pub elements_list : Contents → List ℕ
-elements_list m = list_line (codes "elements") (length m.windows)
-    (texts_below (λ element. behind_comma (window_said element (bounds m.windows element))) (length m.windows))
+elements_list m =
+    list_line (codes "elements") (length m.windows) (texts_below (window_part m) (length m.windows))
 
 -- ---- counts
 

@@ -2,7 +2,7 @@
 ghost use Rattle.std.specs.Prelude.{◌≡◌, [], ◌∷◌, IfOk, ◌==◌, option_map, option_and_then};
 ghost use Rattle.std.specs.{List.slice_split, Option.option_or};
 ghost use Rattle.im_types.specs.Types.{Asks};
-ghost use Rattle.im_script.specs.Grammar.{span_of, texts, words_of};
+ghost use Rattle.im_script.specs.Grammar.{span_in, texts, words_of};
 ghost use Rattle.im_dialogue.specs.Asking.{asked_at, asked_by_one, asked_by_request, asked_by_three, asked_by_two};
 ghost use Rattle.im_dialogue.specs.Asking.{asked_in, asked_of, element_of, op_in, request_number_of, waiter_by};
 ghost use Rattle.im_dialogue.specs.Asking.{waiter_from, waiter_named};
@@ -164,7 +164,7 @@ fn ask_entry(who: Option<Waiter>) -> Option<Question>
 
 // Asks for the cells at the addresses FROM-TO.
 fn read_cells(span: &[u8]) -> Option<Question>
-    ensures { result ≡ option_map (λ s. Looks (Cells s.0 s.1)) (span_of span.now) }
+    ensures { result ≡ option_map (λ s. Looks (Cells s.0 s.1)) (span_in span.now) }
 {
     match read_span(span) {
         Some((from, to)) => Some(Question::Look(Look::Cells(from, to))),

@@ -1,15 +1,13 @@
 //! Adds lists of what a memory has: a word, how many parts there are, and each behind a comma.
 ghost use Rattle.std.specs.Prelude.{◌≡◌, ◌+◌, ◌≤◌, ◌++◌, length, OnOk, string_bytes};
-ghost use Rattle.im_types.specs.Types.{held_at, bounds};
-ghost use Rattle.{im_text.specs.Texts.texts_below, im_report.specs.Look.text_if};
-ghost use Rattle.im_dialogue.specs.Showing.{behind_comma, cell_said, cells_list, elements_list, many_from, part_at};
-ghost use Rattle.im_dialogue.specs.Showing.{said_at, sort_list, window_said};
+ghost use Rattle.{im_types.specs.Types.held_at, im_text.specs.Texts.texts_below, im_report.specs.Look.text_if};
+ghost use Rattle.im_dialogue.specs.Showing.{behind_comma, cell_parts, cell_said, cells_list, elements_list, many_from};
+ghost use Rattle.im_dialogue.specs.Showing.{part_at, shown_at, sort_list, window_part};
 
 use crate::counting::{count_cells, is_counted};
 use crate::showing::{add_block, add_bounds, add_cell};
 use crate::sort::Sort;
 use im_memory::Memory;
-use im_types::Refusal;
 use std::alloc::AllocError;
 
 // Adds a cell as a part of a list.
@@ -37,8 +35,8 @@ fn many_from(from: u32, to: u32, memory: &Memory) -> u32
 // Adds so many cells as parts of a list, one after another, from an address on.
 fn add_cells_from(out: &mut String, memory: &Memory, from: u32, many: u32) -> Result<(), AllocError>
     requires within { from + many ≤ u32.MAX }
-    ensures { let cells = memory.now.contents.cells in OnOk result (string_bytes out.new ≡ string_bytes out.old
-        ++ texts_below (λ i. behind_comma (cell_said (from + i) (held_at cells (from + i)))) many) }
+    ensures { OnOk result (string_bytes out.new
+        ≡ string_bytes out.old ++ cell_parts from memory.now.contents many) }
 {
     for i in 0..many {
         add_cell_part(out, memory, from + i)?;
@@ -63,7 +61,7 @@ pub(crate) fn add_cells(
 
 // Adds what is said of an address of this sort: of a base its block, else its cell.
 fn add_at(out: &mut String, memory: &Memory, sort: Sort, a: u32) -> Result<(), AllocError>
-    ensures { OnOk result (string_bytes out.new ≡ string_bytes out.old ++ said_at sort memory.now.contents a) }
+    ensures { OnOk result (string_bytes out.new ≡ string_bytes out.old ++ shown_at sort memory.now.contents a) }
 {
     match sort {
         Sort::Base => add_block(out, a, memory.block(a)),
@@ -80,7 +78,7 @@ fn add_part_if(
     wanted: bool,
 ) -> Result<(), AllocError>
     ensures { OnOk result (string_bytes out.new ≡ string_bytes out.old
-        ++ text_if wanted (behind_comma (said_at sort memory.now.contents a))) }
+        ++ text_if wanted (behind_comma (shown_at sort memory.now.contents a))) }
 {
     if !wanted {
         return Ok(());
@@ -118,16 +116,11 @@ pub(crate) fn add_list(
 }
 
 // Adds the window of an element as a part of a list.
-fn add_window_part(
-    out: &mut String,
-    element: u16,
-    window: Result<(u64, u64), Refusal>,
-) -> Result<(), AllocError>
-    ensures { OnOk result (string_bytes out.new
-        ≡ string_bytes out.old ++ behind_comma (window_said element window)) }
+fn add_window_part(out: &mut String, memory: &Memory, element: u16) -> Result<(), AllocError>
+    ensures { OnOk result (string_bytes out.new ≡ string_bytes out.old ++ window_part memory.now.contents element) }
 {
     out.push_str(", ")?;
-    match window {
+    match memory.window(element) {
         Ok(window) => add_bounds(out, element, window),
         Err(_) => Ok(()), // Each element has a window.
     }
@@ -135,11 +128,11 @@ fn add_window_part(
 
 // Adds the windows of all elements as parts of a list.
 fn add_windows(out: &mut String, memory: &Memory) -> Result<(), AllocError>
-    ensures { let windows = memory.now.contents.windows in OnOk result (string_bytes out.new ≡ string_bytes out.old
-        ++ texts_below (λ element. behind_comma (window_said element (bounds windows element))) (length windows)) }
+    ensures { let m = memory.now.contents in OnOk result (string_bytes out.new
+        ≡ string_bytes out.old ++ texts_below (window_part m) (length m.windows)) }
 {
     for element in 0..memory.elements() {
-        add_window_part(out, element, memory.window(element))?;
+        add_window_part(out, memory, element)?;
     }
     Ok(())
 }

@@ -4,8 +4,9 @@ ghost use Rattle.std.specs.Prelude.{IfSome, IfOk, ◌==◌, MatchOption, codes, 
 ghost use Rattle.std.specs.Prelude.{option_and_then};
 ghost use Rattle.std.specs.{Char.is_ascii, Option.option_map_or};
 ghost use Rattle.std.specs.List.{before_first, list_all, list_any, position_or_len};
-ghost use Rattle.im_script.specs.Grammar.{digit_after, ends_of, is_line, is_name, is_name_byte, is_short, number_up_to};
-ghost use Rattle.im_script.specs.Grammar.{offset_of, place_past, span_of, texts, word_kind, word_place, words_of};
+ghost use Rattle.im_script.specs.Grammar.{digit_after, is_line, is_name, is_name_byte, is_short, number_up_to};
+ghost use Rattle.im_script.specs.Grammar.{offset_of, place_past, span_between, span_in, texts, word_kind, word_place};
+ghost use Rattle.im_script.specs.Grammar.{words_of};
 ghost use Rattle.im_script.specs.Words.{words_past};
 
 use crate::places::Place;
@@ -229,7 +230,7 @@ fn split_before(mark: u8, word: &[u8]) -> (&[u8], &[u8])
 
 // Reads two addresses that are in order.
 fn read_ends(first: &[u8], last: &[u8]) -> Option<(u32, u32)>
-    ensures { result ≡ ends_of first.now last.now }
+    ensures { result ≡ span_between first.now last.now }
 {
     let from = read_u32(first)?;
     let to = read_u32(last)?;
@@ -238,7 +239,7 @@ fn read_ends(first: &[u8], last: &[u8]) -> Option<(u32, u32)>
 
 /// Reads `FROM-TO`, two addresses that are in order: the first and the last. Returns `None` if the word isn't so.
 pub fn read_span(word: &[u8]) -> Option<(u32, u32)>
-    ensures { result ≡ span_of word.now }
+    ensures { result ≡ span_in word.now }
 {
     let (first, rest) = split_before(b'-', word);
     match rest.split_first() {

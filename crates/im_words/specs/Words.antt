@@ -6,7 +6,7 @@ use Rattle.clap.specs.Words.{App, first_of, new_app, new_rule, Row, Rule, subcom
 use Rattle.clap.specs.Words.{with_subcommand}
 use Rattle.std.specs.{Borrow.Bor, Option.option_map_or}
 use Rattle.im_migration.specs.declared.Asked.{Asked}
-use Rattle.im_script.specs.Grammar.{number_up_to, span_of}
+use Rattle.im_script.specs.Grammar.{number_up_to, span_in}
 use Rattle.im_text.specs.declared.Style.{Style, TheVariants.Json, TheVariants.Quiet, TheVariants.Text as InText}
 use Rattle.im_report.specs.declared.{Filter.Filter, Span.Span, View.View}
 use Rattle.im_report.specs.declared.View.TheVariants.{DumpJson, Report, ReportJson, Stat, StatJson}
@@ -203,7 +203,7 @@ serve_work rows = Serve (record {
 
 -- the addresses that a text gives
 abbrev pub span_given : Text → Option (Option Span)
-span_given text = option_map (λ s. Some (record { from = s.0; to = s.1 })) (span_of text)
+span_given text = option_map (λ s. Some (record { from = s.0; to = s.1 })) (span_in text)
 
 -- the addresses that are given for cells, if they are right
 abbrev pub given_cells : List Row → Option (Option Span)
