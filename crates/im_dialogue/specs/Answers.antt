@@ -54,7 +54,7 @@ served_line name (Confirm element upto) (Err refusal) = element_refused element 
 
 -- E window BASE NEXT
 abbrev pub window_line : ℕ → List ℕ → Result (ℕ × ℕ) Refusal → List ℕ
-window_line element name (Ok (base, next)) = window_said element (Ok (base, next)) ++ line_feed
+window_line element name (Ok w) = window_said element (Ok w) ++ line_feed
 window_line element name (Err refusal) = element_refused element refusal name
 
 -- version V cells C

@@ -55,8 +55,7 @@ block_said a (Some b) =
 
 -- E window BASE NEXT, by the bounds of the window
 abbrev pub window_said : ℕ → Result (ℕ × ℕ) Refusal → List ℕ
-window_said element (Ok (base, next)) =
-    decimal element ++ codes " window " ++ decimal base ++ codes " " ++ decimal next
+window_said element (Ok w) = decimal element ++ codes " window " ++ decimal w.0 ++ codes " " ++ decimal w.1
 window_said element (Err refusal) = []
 
 -- ---- lists: a word, how many parts there are, and each behind a comma

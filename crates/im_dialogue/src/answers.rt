@@ -176,8 +176,8 @@ fn add_window(
     ensures { OnOk result (string_bytes out.new ≡ string_bytes out.old ++ window_line element name.now answer) }
 {
     match answer {
-        Ok((base, next)) => {
-            add_bounds(out, element, (base, next))?;
+        Ok(window) => {
+            add_bounds(out, element, window)?;
             out.push_str("\n")
         }
         Err(refusal) => add_element_refused(out, element, refusal, name),
