@@ -76,7 +76,7 @@ pub(crate) fn work_on<
     starts: (S, T),
 ) -> (u8, W, Option<FileDisk<S>>, Option<FileDisk<T>>)
     requires whole { HasBytes K.whole (I.remaining input) }
-    ensures few { result.0 ≤ 5 }
+    ensures few { result.0 ≤ 6 }
     ensures ended { EndedOn S.Start T.Start ⟦<FileDisk<S> as Disk>⟧ ⟦<FileDisk<T> as Disk>⟧ line.now K.whole
         (W.contents out) (W.contents result.1) result.0 result.2 result.3 }
 {
