@@ -5,11 +5,11 @@ use crate::descriptors::Descriptors;
 use crate::loading::LoadFault;
 use crate::opening::call_of;
 use crate::shown::{EscapedName, folder_of, input_or, paths_of};
-use crate::watching::print_answer;
+use crate::watching::{print_answer, print_confirmed};
 use im_disk::Failure;
 use im_files::Noting;
 use im_migration::MoveNews;
-use im_text::{News, PathFault, Progress, Reason, Waited};
+use im_text::{News, PathFault, Progress, Reason};
 use im_types::{Observer, Refusal};
 use im_words::Work;
 use std::fmt::Display;
@@ -202,11 +202,6 @@ impl<'a, R: Files<File = File> + Eprint + AllocGlobal> Console<'a, R> {
         };
     }
 
-    // Prints the answer to a request that waited.
-    fn print_answer(&self, waited: Waited) {
-        print_answer(self.rt, waited)
-    }
-
     // Prints how far the work has come, now and then, if a person watches.
     fn print_progress(&self, progress: Progress) {
         let Progress {
@@ -254,7 +249,8 @@ impl<R: Files<File = File> + Eprint + AllocGlobal> Observer<News> for Console<'_
 
     fn tell(&mut self, news: News) {
         match news {
-            News::Answered(waited) => self.print_answer(waited),
+            News::Answered(waited) => print_answer(self.rt, waited),
+            News::Confirmed(waited) => print_confirmed(self.rt, waited),
             News::Progressed(progress) => self.print_progress(progress),
             News::Refused(reason) => self.refuse(reason),
             News::Warned(warning) => {

@@ -21,7 +21,7 @@ use crate::talking::talk_file;
 use im_disk::{Disk, FileDisk, Start};
 use im_listening::Ear;
 use im_run::STALLED;
-use im_text::{News, Style};
+use im_text::{FAULTY, News, Style};
 use im_types::{Observer, Refusal};
 use im_words::{CommandLine, Formatting, Work};
 use std::fs::File;
@@ -75,7 +75,7 @@ pub(crate) fn do_work<
     out: &mut W,
     starts: (S, T),
 ) -> Result<(u8, Option<FileDisk<S>>, Option<FileDisk<T>>), Refusal>
-    ensures status { IfOk result (λ r. (r.0 ≤ 1) ⊎ (r.0 ≡ STALLED)) }
+    ensures status { IfOk result (λ r. (r.0 ≤ 1) ⊎ (r.0 ≡ STALLED) ⊎ (r.0 ≡ FAULTY)) }
     ensures done { IfOk result (λ r. LineDone S.Start T.Start ⟦<FileDisk<S> as Disk>⟧ ⟦<FileDisk<T> as Disk>⟧
         (I.remaining hand.entry.input.now) line.now.work (W.contents out.old) (W.contents out.new) r.0 r.1 r.2) }
 {

@@ -1,7 +1,7 @@
 //! What is told of a run while it goes on.
 
 use im_serving::{EarlierAnswer, Standing, Teller};
-use im_text::{OutputLine, Waited, make_words};
+use im_text::{OutputLine, Waited, make_confirmed, make_words};
 use im_types::Observer;
 use std::alloc::AllocError;
 use std::io::Eprint;
@@ -9,10 +9,18 @@ use std::io::Eprint;
 // The number of checkpoint turns between two lines about how a run stands.
 const TURNS: u64 = 1_024;
 
-/// Prints the answer to a request that waited when the image was opened, or is of an earlier script.
+/// Prints the answer to a request that waited when the image was opened.
 pub(crate) fn print_answer<R: Eprint + AllocGlobal>(rt: &R, waited: Waited) {
     let mut line = String::new(rt.alloc());
     if make_words(&mut line, OutputLine::Now(waited)).is_ok() {
+        let _printed = rt.eprint(line.as_str());
+    }
+}
+
+/// Prints an entry of an earlier script that is confirmed.
+pub(crate) fn print_confirmed<R: Eprint + AllocGlobal>(rt: &R, it: Waited) {
+    let mut line = String::new(rt.alloc());
+    if make_confirmed(&mut line, it).is_ok() {
         let _printed = rt.eprint(line.as_str());
     }
 }
@@ -73,6 +81,6 @@ impl<R: Eprint + AllocGlobal> Teller for Watch<'_, R> {
             number,
             entry,
         };
-        print_answer(self.rt, waited)
+        print_confirmed(self.rt, waited)
     }
 }

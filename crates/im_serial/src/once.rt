@@ -85,7 +85,7 @@ impl<D: Disk> Server<D> {
             (seen_by self.old (W.contents out.old)) (seen_by self.new (W.contents out.new)) }
     {
         match compare_script(alloc, self.session.memory(), script) {
-            Ok(()) => {}
+            Ok(()) => self.earlier.clear(),
             Err(reason) => return Err(reason),
         }
         let mut past = match Past::new(alloc, self.session.memory()) {

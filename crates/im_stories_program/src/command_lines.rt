@@ -47,12 +47,14 @@ fn add_work(said: &mut Saying, work: &Work<&str>) {
         }
         Work::Serial(it) => {
             write!(said, "serve {} on {}", it.script, it.image);
-            said.either(it.once, ", once", "")
+            said.either(it.once, ", once", "");
+            said.either(it.strict, ", strictly", "")
         }
         Work::Run(run) => {
             write!(said, "run {} on {}", run.script, run.image);
             said.either(run.planned, ", planned", "");
             said.either(run.once, ", once", "");
+            said.either(run.strict, ", strictly", "");
             if let Some(path) = run.trace {
                 write!(said, ", traced to {path}")
             }

@@ -56,6 +56,7 @@ fn is_done<'a>(
         image,
         script: call.word(3),
         once: false,
+        strict: false,
         style: Style::Text,
     };
     let hand = AtHand {

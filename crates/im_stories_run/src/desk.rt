@@ -73,6 +73,9 @@ impl Observer<News> for Noted {
                 } = waited;
                 self.note("at the end", (element, number), entry)
             }
+            News::Confirmed(it) => {
+                self.note("before it is confirmed", (it.element, it.number), it.entry)
+            }
             _ => {}
         }
     }
@@ -91,7 +94,7 @@ fn run_as<D: Disk + Drop + Send, G: Gate + Sync, R: Host>(
     task: Task<'_>,
     out: &mut Printout,
     noted: &mut Noted,
-) -> (u8, D, Trace) {
+) -> (u8, D, Trace, bool) {
     let Task { script, how } = task;
     let (style, planned) = (Style::Text, how.planned);
     if how.once {
@@ -186,7 +189,7 @@ impl<'a> RunDesk<'a> {
         let (out, noted) = (&mut self.out, &mut self.noted);
         let context = RunContext::new(rt, alloc, gate, hearing, how.recorded);
         let script = &script;
-        let (status, disk, trace) = run_as(&context, disk, Task { script, how }, out, noted);
+        let (status, disk, trace, _faulted) = run_as(&context, disk, Task { script, how }, out, noted);
         self.noted.note_told(heard.lock(rt).as_slice());
         self.place.lay_down(disk);
         self.print_trace(how.recorded, &trace);

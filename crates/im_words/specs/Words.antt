@@ -109,6 +109,7 @@ texts_in (Serial it) = Serial (record {
   image = it.image.now;
   script = it.script.now;
   once = it.once;
+  strict = it.strict;
   style = it.style;
 })
 texts_in (Run it) = Run (record {
@@ -116,6 +117,7 @@ texts_in (Run it) = Run (record {
   script = it.script.now;
   planned = it.planned;
   once = it.once;
+  strict = it.strict;
   style = it.style;
   trace = option_map (λ path. path.now) it.trace;
 })
@@ -179,6 +181,7 @@ serial_work rows = option_map (λ style. Serial (record {
   image = path_in rows (codes "IMAGE");
   script = path_in rows (codes "SCRIPT");
   once = is_given rows (codes "once");
+  strict = is_given rows (codes "strict");
   style = style;
 })) (style_given rows)
 
@@ -189,6 +192,7 @@ run_work rows = option_map (λ style. Run (record {
   script = path_in rows (codes "SCRIPT");
   planned = is_given rows (codes "planned");
   once = is_given rows (codes "once");
+  strict = is_given rows (codes "strict");
   style = style;
   trace = first_of (codes "trace") rows;
 })) (style_given rows)

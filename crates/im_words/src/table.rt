@@ -67,6 +67,11 @@ pub(crate) const SUBCOMMANDS: [Subcommand; 10] = [
                 None,
                 "Continue a script that was stopped: what the image has of it isn't asked for again",
             ),
+            (
+                "strict",
+                None,
+                "End with 6 if all was served and a reply tells an error of the script, as clash does",
+            ),
         ],
     ),
     (
@@ -97,6 +102,11 @@ pub(crate) const SUBCOMMANDS: [Subcommand; 10] = [
                 "once",
                 None,
                 "Continue a run that was stopped: what the image has of the script isn't asked for again",
+            ),
+            (
+                "strict",
+                None,
+                "End with 6 if all was served and a reply tells an error of the script, as clash does",
             ),
         ],
     ),

@@ -63,6 +63,8 @@ pub struct Serving<P> {
     pub script: P,
     /// Whether what the image has of the script isn't asked anew.
     pub once: bool,
+    /// Whether the exit status tells that a reply was an error of the script.
+    pub strict: bool,
     /// How its lines are said.
     pub style: Style,
 }
@@ -78,6 +80,8 @@ pub struct ScriptRun<P> {
     pub planned: bool,
     /// Whether what the image has of the script isn't asked anew.
     pub once: bool,
+    /// Whether the exit status tells that a reply was an error of the script.
+    pub strict: bool,
     /// How its lines are said.
     pub style: Style,
     /// The path of the new file for the trace, if one is asked for.

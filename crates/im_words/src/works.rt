@@ -37,6 +37,7 @@ pub(crate) fn serial_work<'a>(found: &ArgMatches<'a>) -> Option<Work<&'a str>>
         image: path_of(found, "IMAGE"),
         script: path_of(found, "SCRIPT"),
         once: is_given(found, "once"),
+        strict: is_given(found, "strict"),
         style,
     }))
 }
@@ -51,6 +52,7 @@ pub(crate) fn run_work<'a>(found: &ArgMatches<'a>) -> Option<Work<&'a str>>
         script: path_of(found, "SCRIPT"),
         planned: is_given(found, "planned"),
         once: is_given(found, "once"),
+        strict: is_given(found, "strict"),
         style,
         trace: path_if(found, "trace"),
     }))

@@ -41,7 +41,7 @@ returns-in-Ok-clause-ended g c =
           (k.result.0 ≡ 0) k.ensures.done
           (subst (λ (x : SessionState g.row.D.Denot). ServersEnded d planned whole orders x engine trace did
           (IsOk s.result.0.done)) (c.in-Ok.ensures.found ∙ v.ensures.session) s.ensures.ended);
-      printed = subst (λ (l : Lines). Closes (g.W.Write.contents c.args.out.now) l (g.W.Write.contents k.new.out)
+      printed = subst (λ (l : Lines). Closes (g.W.Write.contents c.args.out.now) l (g.W.Write.contents k.new.out, k.result.2)
           engine.memory did k.result.0) v.ensures.lines k.ensures.printed;
     }
 
@@ -52,7 +52,7 @@ returns-in-Err-clause-ended g c =
     let k = c.close-status-in-Err in
     let t = n.result.session in
     let was = g.W.Write.contents c.args.out.now in
-    let is = g.W.Write.contents k.new.out in
+    let is = (g.W.Write.contents k.new.out, k.result.2) in
     let orders = map ask_of c.args.work.orders.items in
     let whole = asks_in c.args.work.whole in
     let trace = c.new.result.items in
