@@ -59,10 +59,14 @@ fn add_work(said: &mut Saying, work: &Work<&str>) {
         }
         Work::Serve(it) => {
             write!(said, "talk on {}", it.image);
-            said.either(it.watch, ", watched", ", unwatched")
+            said.either(it.watch, ", watched", ", unwatched");
+            said.either(it.verbose, ", with a log", "")
         }
         Work::Inspect(it) => add_look(said, it.image, it.look),
-        Work::Dump(image) => write!(said, "dump {image}"),
+        Work::Dump(it) => {
+            write!(said, "dump {}", it.image);
+            said.either(it.damaged, ", damaged too", "")
+        }
         Work::Load(it) => {
             write!(said, "load {} into {}", it.from, it.new);
             add_sizes(said, it.asked)
@@ -86,6 +90,7 @@ fn style_of(work: &Work<&str>) -> Style {
 fn add_line(said: &mut Saying, line: &CommandLine) {
     add_work(said, &line.work);
     said.either(line.statuses, ", by statuses", "");
+    said.either(line.progress, ", with progress", "");
     said.text(match style_of(&line.work) {
         Style::Text => "",
         Style::Quiet => ", quietly",

@@ -83,12 +83,13 @@ pub(crate) fn work_on<
     let rt = place.rt;
     tell_help(rt, line, place.terminals);
     let heard: Listener<R, I, K> = listen(rt, rt.alloc(), input, line);
-    let prompter = Prompter::new(rt, heard, prompts(line, place.terminals));
+    let is_typed = prompts(line, place.terminals);
+    let prompter = Prompter::new(rt, heard, is_typed, &line.work);
     let Ok(mut input) = BufReader::new(rt.alloc(), prompter) else {
         let status = refuse(rt.alloc(), Style::Text, Refusal::NoMemory, &mut out);
         return (status, out, None, None);
     };
-    let mut console = Console::new(rt, place.held, &line.work, place.terminals);
+    let mut console = Console::new(rt, place.held, line, place.terminals);
     let hand = AtHand {
         rt,
         held: place.held,
@@ -96,6 +97,7 @@ pub(crate) fn work_on<
         observer: &mut console,
     };
     let (status, disk, old) = act(hand, line, &mut out, starts);
+    input.get_ref().tell_end();
     let ends = status_for(status, line.statuses, console.reason());
     (ends, out, disk, old)
 }
