@@ -1,13 +1,11 @@
 -- What is told of the bytes of an area, and that it was written. (Own.)
-use Rattle.std.proofs.Common.{◌≡◌, ℕ, suc, ◌+◌, ◌-◌, ◌*◌, ◌≤◌, ◌⊎◌, List, [], ◌++◌, length, take, drop, min, IfOk, OnOk}
-use Rattle.std.proofs.Common.{if◌then◌else◌, nat_lt, Some, None, Ok, Err, Option, Result, option_map, sym, ap, ◌∙◌}
-use Rattle.std.proofs.Common.{subst, append_assoc, append-nil, arith}
-use Rattle.std.proofs.lemmas.List.{drop_min, length-drop, take_min}
-use Rattle.std.proofs.lemmas.Bool.Decides.{nat_tests}
-use Rattle.std.specs.Io.KnownBytes.{Appends}
-use Rattle.im_types.specs.Types.{Layout, Window, Header, header_place, session_record_bytes}
+use Rattle.std.proofs.Common.{◌≡◌, ℕ, suc, ◌+◌, ◌-◌, ◌<◌, ◌≤◌, min, true, false, List, [], ◌++◌, length, take, drop}
+use Rattle.std.proofs.Common.{if◌then◌else◌, nat_lt, Some, None, Option, sym, refl, ap, ◌∙◌, subst, append_assoc}
+use Rattle.std.proofs.Common.{append-nil, arith, length-drop}
+use Rattle.std.proofs.lemmas.{Bool.Decides.nat_tests, List.drop_min, List.take_min}
+use Rattle.im_types.specs.Types.{Window, Layout, Header, header_place}
 use Rattle.im_records.specs.Entries.{SpellsSession}
-use Rattle.im_dump.specs.Salvage.{best_header, best_of, record_there, SpellsWindow, TellsWindows, window_told}
+use Rattle.im_dump.specs.Salvage.{best_header, best_of, SpellsWindow, TellsWindow, TellsWindows}
 
 -- the bytes from a place on, as far as they are there
 pub there : (at size from : ℕ) (file : List ℕ) → from ≡ min at (length file)
@@ -25,24 +23,21 @@ unfolding TellsWindows
 none_told l part start = ([], refl, sym (append-nil start))
 
 -- one window more
-told_more : (l : Layout) (part : List ℕ) (n : ℕ) (before : List ℕ) (w : Option Window) → TellsWindows l part n before
-    → SpellsWindow l (record_there (session_record_bytes l) part n) w
-    → TellsWindows l part (suc n) (before ++ window_told n w)
+told_more : (l : Layout) (part : List ℕ) (n : ℕ) (before more : List ℕ) → TellsWindows l part n before
+    → TellsWindow l part n more → TellsWindows l part (suc n) (before ++ more)
 unfolding TellsWindows
-told_more l part n before w told spells = (before, w, told, spells, refl)
+told_more l part n before more told one = (before, more, told, one, refl)
 
 -- the same, written
 pub one_told_more : (l : Layout) (part : List ℕ) (n : ℕ) (start was now : List ℕ)
     → ((text : List ℕ) × TellsWindows l part n text × (was ≡ start ++ text))
-    → ((w : Option Window) × SpellsWindow l (record_there (session_record_bytes l) part n) w
-    × (now ≡ was ++ window_told n w))
+    → ((text : List ℕ) × TellsWindow l part n text × (now ≡ was ++ text))
     → (text : List ℕ) × TellsWindows l part (n + 1) text × (now ≡ start ++ text)
-one_told_more l part n start was now (before, told, is) (w, spells, added) =
-    let more = told_more l part n before w told spells in
+one_told_more l part n start was now (before, told, is) (more, one, added) =
     let next : suc n ≡ n + 1 = omega arith in (
-      before ++ window_told n w,
-      subst (λ (k : ℕ). TellsWindows l part k (before ++ window_told n w)) next more,
-      added ∙ ap (λ xs. xs ++ window_told n w) is ∙ append_assoc start before (window_told n w),
+      before ++ more,
+      subst (λ (k : ℕ). TellsWindows l part k (before ++ more)) next (told_more l part n before more told one),
+      added ∙ ap (λ xs. xs ++ more) is ∙ append_assoc start before more,
     )
 
 -- bytes of which no window is read spell none

@@ -1,14 +1,14 @@
 -- What the bytes of a damaged image still say, record by record. (Own.)
-use Rattle.std.specs.Prelude.{◌≡◌, ℕ, zero, suc, ◌+◌, ◌-◌, ◌*◌, Bool, false, ◌&&◌, ◌||◌, ◌⊎◌, List, [], ◌++◌, length, take}
-use Rattle.std.specs.Prelude.{drop, if◌then◌else◌, nat_lt, ◌==◌, Some, None, Err, codes, decimal, Option}
+use Rattle.std.specs.Prelude.{◌≡◌, ℕ, zero, suc, ◌+◌, ◌-◌, ◌*◌, Bool, false, ◌&&◌, ◌||◌, ◌⊎◌, List, [], ◌++◌, length}
+use Rattle.std.specs.Prelude.{take, drop, if◌then◌else◌, nat_lt, ◌==◌, Some, None, Err, codes, decimal, Option}
 use Rattle.std.specs.{Io.KnownBytes.Appends, Option.option_or}
-use Rattle.im_types.specs.Types.{Refusal, Device, NoMemory, Block, CellRecord, NodeRecord, PresenceTag, TagEmpty}
-use Rattle.im_types.specs.Types.{TagWaiting, TagFull, TagClashed, FreeCell, BlockCell, FreeNode, ListNode, NONE, Window}
-use Rattle.im_types.specs.Types.{same_kind, Layout, layout_named, layout_in, Sizes, page_bytes, cell_record_bytes}
-use Rattle.im_types.specs.Types.{node_record_bytes, session_record_bytes, node_count, cell_pages, node_pages, area_at}
-use Rattle.im_types.specs.Types.{area_bytes, Header, header_in, header_place, is_open_header, generation_in}
-use Rattle.im_types.specs.Types.{spells_header, Reads}
-use Rattle.{im_formats.specs.Reading.read_cell, im_formats.specs.Reading.read_node}
+use Rattle.im_types.specs.Types.{Block, Refusal, Device, NoMemory, NONE, Window, same_kind, Layout, layout_named, Sizes}
+use Rattle.im_types.specs.Types.{page_bytes, cell_record_bytes, node_record_bytes, session_record_bytes, node_count}
+use Rattle.im_types.specs.Types.{cell_pages, node_pages, area_bytes, area_at, Header, header_in, spells_header}
+use Rattle.im_types.specs.Types.{header_place, is_open_header, generation_in, layout_in, PresenceTag, CellRecord}
+use Rattle.im_types.specs.Types.{NodeRecord, TagEmpty, TagWaiting, TagFull, TagClashed, FreeCell, BlockCell, ListNode}
+use Rattle.im_types.specs.Types.{FreeNode, Reads}
+use Rattle.im_formats.specs.Reading.{read_cell, read_node}
 use Rattle.im_records.specs.Entries.{SpellsSession}
 use Rattle.im_text.specs.Texts.{kind_text, line_feed, texts_below}
 use Rattle.im_dump.specs.{Dump.begun_line, Dump.head_lines, Dump.last_line, Dump.window_lines, Dumping.Dumps}
@@ -79,10 +79,10 @@ tag_line a (TagFull v) = codes "cell " ++ decimal a ++ codes " full " ++ decimal
 tag_line a (TagClashed v) = codes "cell " ++ decimal a ++ codes " clashed " ++ decimal v ++ line_feed
 
 -- what the record of a cell says; the record before names this block
-abbrev pub cell_told : ℕ → Option Block → Option CellRecord → List ℕ
-cell_told a before None = damaged_line (codes "cell") a
-cell_told a before (Some (FreeCell hole next)) = []
-cell_told a before (Some (BlockCell block tag)) = named_line a before block ++ tag_line a tag
+abbrev pub record_told : ℕ → Option Block → Option CellRecord → List ℕ
+record_told a before None = damaged_line (codes "cell") a
+record_told a before (Some (FreeCell hole next)) = []
+record_told a before (Some (BlockCell block tag)) = named_line a before block ++ tag_line a tag
 
 -- the block that the record before that of a cell names
 abbrev pub block_before : List ℕ → ℕ → Option Block
@@ -91,7 +91,7 @@ block_before part a =
 
 -- what the record of a cell says, in the cells' part of an area
 abbrev pub told_cell : List ℕ → ℕ → List ℕ
-told_cell part a = cell_told a (block_before part a) (read_cell (record_there cell_record_bytes part a))
+told_cell part a = record_told a (block_before part a) (read_cell (record_there cell_record_bytes part a))
 
 -- the node that follows in a list
 abbrev pub next_text : ℕ → List ℕ
@@ -119,12 +119,16 @@ abbrev pub window_told : ℕ → Option Window → List ℕ
 window_told element None = damaged_line (codes "element") element
 window_told element (Some w) = window_lines element (Some w)
 
+-- this is what the record of an element says, in the windows' part of an area
+abbrev pub TellsWindow : Layout → List ℕ → ℕ → List ℕ → Type 0
+TellsWindow l part n text =
+    (w : Option Window) × SpellsWindow l (record_there (session_record_bytes l) part n) w × (text ≡ window_told n w)
+
 -- this is what the records of the elements below a number say, in the windows' part of an area
 unfoldable pub TellsWindows : Layout → List ℕ → ℕ → List ℕ → Type 0
 TellsWindows l part zero text = text ≡ []
 TellsWindows l part (suc n) text =
-    (before : List ℕ) × (w : Option Window) × TellsWindows l part n before
-    × SpellsWindow l (record_there (session_record_bytes l) part n) w × (text ≡ before ++ window_told n w)
+    (before more : List ℕ) × TellsWindows l part n before × TellsWindow l part n more × (text ≡ before ++ more)
 
 -- ---- the whole
 
@@ -152,16 +156,25 @@ area_there h file =
     let l = layout_named h.version in take (area_bytes l h.sizes) (drop (area_at l h.sizes h.area) file)
 
 -- this is what the bytes of a file say, by this header, if there is one
-abbrev pub TellsBy : Option Header → List ℕ → List ℕ → Type 0
-TellsBy None file text = text ≡ no_area_line ++ last_line
-TellsBy (Some h) file text = TellsArea h (area_there h file) text
+abbrev pub TellsFile : Option Header → List ℕ → List ℕ → Type 0
+TellsFile None file text = text ≡ no_area_line ++ last_line
+TellsFile (Some h) file text = TellsArea h (area_there h file) text
+
+-- what was read is this, if the disk is honest
+pub record IsReadAs {X : Type 0} (Honest : Type 0) (found is : X) : Type 0 where
+  pub same : Honest → found ≡ is
+
+-- what the bytes of a file say, by this header, was written, if the disk is honest
+pub record WasToldBy (best : Option Header) (Honest : Type 0) (file : List ℕ) (was now : Option (List ℕ)) :
+    Type 0 where
+  pub written : Honest → (text : List ℕ) × TellsFile best file text × Appends was now text
 
 -- A file was refused for this reason, and what its bytes say was written. It is damaged, or memory was short, or a call
 -- of the disk failed.
 pub record Salvages (file : List ℕ) (fault : Refusal) (was now : Option (List ℕ)) : Type 0 where
   pub fault : (fault ≡ NoMemory) ⊎ (fault ≡ Device) ⊎ Reads (layout_in file) file (Err fault)
   pub text : List ℕ
-  pub tells : TellsBy (best_header file) file text
+  pub tells : TellsFile (best_header file) file text
   pub added : Appends was now text
 
 -- the dump of what a file means was written, or, behind a refusal, what its bytes say

@@ -1,12 +1,11 @@
 //! Says what the records of an area say, each by itself. A record that spells nothing is marked.
-ghost use Rattle.std.specs.Prelude.{◌≡◌, ◌+◌, ◌^◌, ◌<◌, List, ◌++◌, take, drop, OnOk, Some, Option, string_bytes};
-ghost use Rattle.im_types.specs.Types.{Window, layout_of, sizes_of, session_record_bytes};
-ghost use Rattle.im_text.specs.Texts.{texts_below};
-ghost use Rattle.im_formats.specs.Reading.{read_cell};
+ghost use Rattle.std.specs.Prelude.{◌≡◌, ◌+◌, ◌^◌, ◌<◌, List, ◌++◌, take, drop, OnOk, Some, string_bytes};
+ghost use Rattle.im_types.specs.Types.{layout_of, sizes_of, session_record_bytes};
+ghost use Rattle.{im_formats.specs.Reading.read_cell, im_text.specs.Texts.texts_below};
 ghost use Rattle.im_dump.specs.Dump.{kept_lines, window_lines};
-ghost use Rattle.im_dump.specs.Salvage.{block_before, block_named, cell_told, damaged_line, is_block, named_line};
-ghost use Rattle.im_dump.specs.Salvage.{next_text, node_told, record_there, SpellsWindow, tag_line, TellsWindows};
-ghost use Rattle.im_dump.specs.Salvage.{told_cell, told_node, window_told, within_line};
+ghost use Rattle.im_dump.specs.Salvage.{block_before, block_named, damaged_line, is_block, named_line, next_text};
+ghost use Rattle.im_dump.specs.Salvage.{node_told, record_there, record_told, tag_line, TellsWindow, TellsWindows};
+ghost use Rattle.im_dump.specs.Salvage.{told_cell, told_node, within_line};
 ghost use Rattle.im_types.specs.Layout as layout;
 
 use crate::writing::{add_base, add_begun, add_kept, is_new};
@@ -108,7 +107,7 @@ fn add_cell(
     before: Option<Block>,
     cell: Option<CellRecord>,
 ) -> Result<(), AllocError>
-    ensures { OnOk result (string_bytes out.new ≡ string_bytes out.old ++ cell_told a before cell) }
+    ensures { OnOk result (string_bytes out.new ≡ string_bytes out.old ++ record_told a before cell) }
 {
     match cell {
         None => add_damaged(out, "cell", a),
@@ -256,9 +255,8 @@ fn add_element(
     part: &[u8],
     element: u16,
 ) -> Result<(), AllocError>
-    ensures { OnOk result ((w : Option Window)
-        × SpellsWindow (layout_of version) (record_there (session_record_bytes (layout_of version)) part.now element) w
-        × (string_bytes out.new ≡ string_bytes out.old ++ window_told element w)) }
+    ensures { OnOk result ((text : List ℕ) × TellsWindow (layout_of version) part.now element text
+        × (string_bytes out.new ≡ string_bytes out.old ++ text)) }
 {
     match read_session(version, session_in(version, part, element)) {
         Some(window) => add_told_window(out, element, &window),

@@ -1,10 +1,10 @@
 //! Writes what the bytes of a damaged image still say, record by record.
-ghost use Rattle.std.specs.Prelude.{◌≡◌, ◌≤◌, List, ◌++◌, take, drop, IfSome, IfOk, OnOk, option_map, string_bytes};
+ghost use Rattle.std.specs.Prelude.{◌≡◌, ◌≤◌, List, ◌++◌, take, drop, IfSome, IfOk, OnOk, string_bytes, option_map};
 ghost use Rattle.std.specs.Io.KnownBytes.{Appends};
 ghost use Rattle.im_types.specs.Types.{is_open_header, generation_in};
 ghost use Rattle.{im_disk.specs.Runs.ReadsAlone, im_disk.specs.Runs.ReadsOrFails, im_image.specs.Headers.seen};
-ghost use Rattle.im_dump.specs.Salvage.{area_there, best_header, best_of, is_second_first, TellsArea, TellsBy};
-ghost use Rattle.im_dump.specs.Salvage.{WasSalvaged};
+ghost use Rattle.im_dump.specs.Salvage.{area_there, best_header, best_of, is_second_first, IsReadAs, TellsArea};
+ghost use Rattle.im_dump.specs.Salvage.{WasSalvaged, WasToldBy};
 
 use crate::dumping::write_dump;
 use crate::records::{add_told_cells, add_told_nodes, add_told_windows, behind, node_count};
@@ -62,7 +62,8 @@ fn best_of(zero: &[u8; 64], one: &[u8; 64]) -> Option<Header>
 
 // Finds the header whose area is read.
 fn read_best<D: Disk>(disk: &mut D) -> Result<Option<Header>, DeviceFault>
-    ensures found { IfOk result (λ o. D.honest disk.new → option_map seen o ≡ best_header (D.now disk.old).bytes) }
+    ensures found { IfOk result
+        (λ o. IsReadAs (D.honest disk.new) (option_map seen o) (best_header (D.now disk.old).bytes)) }
     ensures range { IfOk result (λ o. IfSome o (λ h. h.area ≤ 1)) }
     ensures reads { ReadsOrFails D.Disk disk.old disk.new result }
 {
@@ -85,7 +86,8 @@ fn read_there<D: Disk>(
     at: usize,
     size: usize,
 ) -> Result<Vec<u8>, Refusal>
-    ensures there { IfOk result (λ v. D.honest disk.new → v.items ≡ take size (drop at (D.now disk.old).bytes)) }
+    ensures there { IfOk result
+        (λ v. IsReadAs (D.honest disk.new) v.items (take size (drop at (D.now disk.old).bytes))) }
     ensures reads { ReadsAlone D.Disk disk.old disk.new }
 {
     let Ok(length) = disk.len() else {
@@ -106,7 +108,7 @@ fn read_there<D: Disk>(
 fn read_area<D: Disk>(alloc: Global, disk: &mut D, header: &Header) -> Result<Vec<u8>, Refusal>
     requires { header.now.area ≤ 1 }
     ensures there { IfOk result
-        (λ v. D.honest disk.new → v.items ≡ area_there (seen header.now) (D.now disk.old).bytes) }
+        (λ v. IsReadAs (D.honest disk.new) v.items (area_there (seen header.now) (D.now disk.old).bytes)) }
     ensures reads { ReadsAlone D.Disk disk.old disk.new }
 {
     let (version, limits) = (header.layout(), header.limits);
@@ -156,9 +158,8 @@ fn write_by<D: Disk, W: Write>(
     out: &mut W,
 ) -> Result<(), Reason>
     requires { IfSome best (λ h. h.area ≤ 1) }
-    ensures told { OnOk result (D.honest disk.new → (text : List ℕ)
-        × TellsBy (option_map seen best) (D.now disk.old).bytes text
-        × Appends (W.contents out.old) (W.contents out.new) text) }
+    ensures told { OnOk result (WasToldBy (option_map seen best) (D.honest disk.new) (D.now disk.old).bytes
+        (W.contents out.old) (W.contents out.new)) }
     ensures reads { ReadsAlone D.Disk disk.old disk.new }
 {
     let Some(header) = best else {
@@ -172,9 +173,8 @@ fn write_by<D: Disk, W: Write>(
 
 // Writes what the bytes say.
 fn write_salvage<D: Disk, W: Write>(alloc: Global, disk: &mut D, out: &mut W) -> Result<(), Reason>
-    ensures told { OnOk result (D.honest disk.new → (text : List ℕ)
-        × TellsBy (best_header (D.now disk.old).bytes) (D.now disk.old).bytes text
-        × Appends (W.contents out.old) (W.contents out.new) text) }
+    ensures told { OnOk result (WasToldBy (best_header (D.now disk.old).bytes) (D.honest disk.new)
+        (D.now disk.old).bytes (W.contents out.old) (W.contents out.new)) }
     ensures reads { ReadsAlone D.Disk disk.old disk.new }
 {
     match read_best(disk) {

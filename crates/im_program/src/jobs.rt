@@ -19,6 +19,7 @@ use crate::running::run_traced;
 use crate::serving::serve_file;
 use crate::settling::{settle_if, settle_new};
 use crate::talking::talk_file;
+use crate::watching::tell_size;
 use im_disk::{Disk, FileDisk, Start};
 use im_listening::Ear;
 use im_run::STALLED;
@@ -80,6 +81,7 @@ pub(crate) fn do_work<
     ensures done { IfOk result (λ r. LineDone S.Start T.Start ⟦<FileDisk<S> as Disk>⟧ ⟦<FileDisk<T> as Disk>⟧
         (I.remaining hand.entry.input.now) line.now.work (W.contents out.old) (W.contents out.new) r.0 r.1 r.2) }
 {
+    tell_size(hand.rt, &line.work, hand.observer.is_watched());
     let (start, other) = starts;
     match line.work {
         Work::Demonstration => Ok((demonstrate_at(hand, out), None, None)),

@@ -28,11 +28,7 @@ impl<'a> DialogueLog<'a> {
     /// Begins the log that a work asks for.
     pub(crate) fn new(work: &Work<&'a str>) -> DialogueLog<'a> {
         let image = match *work {
-            Work::Serve(Talking {
-                image,
-                verbose: true,
-                ..
-            }) => Some(image),
+            Work::Serve(it) if it.verbose => Some(it.image),
             _ => None,
         };
         DialogueLog {

@@ -72,7 +72,7 @@ impl<'a, R: Eprint + AllocGlobal + Clock, I: Read + Drop> Prompter<'a, R, I> {
         }
     }
 
-    // Looks at what was read. If a person typed it, the end of the input ends the prompt's line, and a line that asks for
+    // Looks at what was read. If a person typed it, the end of the input ends the prompt's line. A line that asks for
     // nothing is the occasion to tell which word helps, once.
     fn look_at(&mut self, typed: &[u8])
         ensures { prompted self.new ≡ prompted self.old }

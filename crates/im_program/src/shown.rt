@@ -1,6 +1,8 @@
 //! How files are called in messages.
 
-use im_words::{Dumping, Formatting, Inspection, Making, Moving, ScriptRun, Serving, Talking, Work};
+use im_words::{
+    Dumping, Formatting, Inspection, Making, Moving, ScriptRun, Serving, Talking, Work,
+};
 use std::fmt;
 use std::fmt::{Display, Formatter};
 use std::path::Path;
