@@ -141,7 +141,7 @@ module _ {S T : Type 0} (start : Ghosts S) (other : Ghosts T) (d : DiskGhosts (F
       × TalkedFrom d it.watch start.first disk (with_input input (outputs was [])) (outputs is kept) status
   DoneOn input (Inspect it) was is status disk old =
       WasShown d start.first (ShowsView it.look start.first.bytes was is) status disk
-  DoneOn input (Dump image) was is status disk old =
+  DoneOn input (Dump it) was is status disk old =
       WasShown d start.first (Dumps start.first.bytes was is) status disk
   DoneOn input (Load it) was is status disk old = WasLoaded d start.first it.asked it.from input was is status disk
   DoneOn input (Migrate it) was is status disk old =

@@ -11,7 +11,7 @@ use im_files::Noting;
 use im_migration::MoveNews;
 use im_text::{News, PathFault, Progress, Reason};
 use im_types::{Observer, Refusal};
-use im_words::Work;
+use im_words::CommandLine;
 use std::fmt::Display;
 use std::fs::File;
 use std::io::Eprint;
@@ -43,6 +43,7 @@ pub struct Console<'a, R> {
     // The second file: a script, or a new file. The first one is then the old file, or the text that is loaded.
     script: &'a str,
     terminals: Terminals,
+    is_watched: bool,
     serves: bool,
     // The last refusal, and whether its line waits until the disk says which call failed.
     refused: Option<Reason>,
@@ -50,21 +51,22 @@ pub struct Console<'a, R> {
 }
 
 impl<'a, R: Files<File = File> + Eprint + AllocGlobal> Console<'a, R> {
-    /// Makes the console for the files of `work`.
+    /// Makes the console for the files of a command line's work.
     pub fn new(
         rt: &'a R,
         held: &'a Descriptors,
-        work: &Work<&'a str>,
+        line: &CommandLine<'a>,
         terminals: Terminals,
     ) -> Console<'a, R> {
-        let (image, script) = paths_of(work);
+        let (image, script) = paths_of(&line.work);
         Console {
             rt,
             held,
             image,
             script,
             terminals,
-            serves: serves(work),
+            is_watched: terminals.errors || line.progress,
+            serves: serves(&line.work),
             refused: None,
             waits: false,
         }
@@ -75,9 +77,9 @@ impl<'a, R: Files<File = File> + Eprint + AllocGlobal> Console<'a, R> {
         self.refused
     }
 
-    /// Whether a person watches standard error.
+    /// Whether a person watches standard error, or progress is asked for.
     pub(crate) fn is_watched(&self) -> bool {
-        self.terminals.errors
+        self.is_watched
     }
 
     /// Whether the program may ask a person.

@@ -3,7 +3,7 @@
 use crate::ProgramDesk;
 use crate::spelling::{add_text, add_word};
 use im_migration::Asked;
-use im_program::{CommandLine, WordFault, Work, read_words};
+use im_program::{CommandLine, Talking, WordFault, Work, read_words};
 use im_report::View;
 use im_story::{Phrase, Saying};
 use im_text::Style;
@@ -37,6 +37,12 @@ fn add_look(said: &mut Saying, image: &str, look: View) {
     said.either(is_json, ", as JSON", "")
 }
 
+fn add_talk(said: &mut Saying, talk: &Talking<&str>) {
+    write!(said, "talk on {}", talk.image);
+    said.either(talk.watch, ", watched", ", unwatched");
+    said.either(talk.verbose, ", with a log", "")
+}
+
 fn add_work(said: &mut Saying, work: &Work<&str>) {
     match *work {
         Work::Demonstration => said.text("demonstration"),
@@ -59,12 +65,12 @@ fn add_work(said: &mut Saying, work: &Work<&str>) {
                 write!(said, ", traced to {path}")
             }
         }
-        Work::Serve(it) => {
-            write!(said, "talk on {}", it.image);
-            said.either(it.watch, ", watched", ", unwatched")
-        }
+        Work::Serve(it) => add_talk(said, &it),
         Work::Inspect(it) => add_look(said, it.image, it.look),
-        Work::Dump(image) => write!(said, "dump {image}"),
+        Work::Dump(it) => {
+            write!(said, "dump {}", it.image);
+            said.either(it.damaged, ", damaged too", "")
+        }
         Work::Load(it) => {
             write!(said, "load {} into {}", it.from, it.new);
             add_sizes(said, it.asked)
@@ -88,6 +94,7 @@ fn style_of(work: &Work<&str>) -> Style {
 fn add_line(said: &mut Saying, line: &CommandLine) {
     add_work(said, &line.work);
     said.either(line.statuses, ", by statuses", "");
+    said.either(line.progress, ", with progress", "");
     said.text(match style_of(&line.work) {
         Style::Text => "",
         Style::Quiet => ", quietly",

@@ -137,7 +137,9 @@ Each request has a number, and a request that is sent again acts only once:
   help                  these lines, in one
   quit                  the end
 Any other line is answered 'error LINE: ' and what was expected, and changes nothing. With --watch, a
-request that waited prints 'E.N now REPLY' right after the line that brought its answer.
+request that waited prints 'E.N now REPLY' right after the line that brought its answer. With --verbose,
+standard error has a log: the image's sizes and how many commands it has had; each minute in which lines
+were answered, how many; and how many there were at the end.
 
 Example: the lines '1.1 alloc i 1', '1.2 fetch 0' and '2.1 store 0 5' in the file ask.txt
   imem serve a.img < ask.txt
@@ -222,10 +224,18 @@ With --json, a text for other programs, which isn't loaded: first the object {du
 slots}, count} on a line, where dump is 1 and count a string, and then the lines of 'imem inspect --json' for
 blocks, cells, elements and entries. An image that isn't whole is refused: 'refused N NAME' names its first
 fault.
+With --damaged, what the records of such an image still say is printed before that line. It is no dump:
+  imem salvage 1 of area A, without the journal     the area that is read; no command behind it is told
+  cell A of block BASE KIND LENGTH        its record names this block, and the record before it doesn't
+  cell A waits nodes N to M               a list of requests that wait there, by its nodes
+  node N K.R next M, node N K.R last      request R of element K is in a list
+  cell A damaged, node N damaged, element E damaged
+and the lines above.
 
-Example: a dump of a.img, and the image that is made of it
+Example: a dump of a.img, the image that is made of it, and what a damaged image still says
   imem dump a.img > a.dump
   imem load a.dump b.img
+  imem dump --damaged c.img
 
 Exit status: 0 the whole dump is printed; 1 refused, with 'refused N NAME' as the last line; 2 a bad
 command line. If an image is damaged, standard error says where.";

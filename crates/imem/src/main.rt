@@ -90,12 +90,13 @@ fn start<
         Ok(line) => {
             tell_help(rt, &line, place.terminals);
             let heard: Listener<R, I, Brand> = listen(rt, alloc, input, &line);
-            let prompter = Prompter::new(rt, heard, prompts(&line, place.terminals));
+            let is_typed = prompts(&line, place.terminals);
+            let prompter = Prompter::new(rt, heard, is_typed, &line.work);
             let Ok(mut input) = BufReader::new(alloc, prompter) else {
                 let status = refuse(alloc, Style::Text, Refusal::NoMemory, &mut out);
                 return (ExitCode::from(status), out, None, None);
             };
-            let mut console = Console::new(rt, place.held, &line.work, place.terminals);
+            let mut console = Console::new(rt, place.held, &line, place.terminals);
             let hand = AtHand {
                 rt,
                 held: place.held,
@@ -104,6 +105,7 @@ fn start<
             };
             let starts = openings.starts(line.wait);
             let (status, disk, old) = act(hand, &line, &mut out, starts);
+            input.get_ref().tell_end();
             let ends = status_for(status, line.statuses, console.reason());
             (ExitCode::from(ends), out, disk, old)
         }
