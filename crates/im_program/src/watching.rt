@@ -15,9 +15,6 @@ use std::rt::Files;
 // The number of checkpoint turns between two lines about how a run stands.
 const TURNS: u64 = 1_024;
 
-<<<<<<< HEAD
-/// Prints the answer to a request that waited when the image was opened.
-=======
 // The least bytes of an image of which it is told that they are read or written in one go.
 const LARGE: u64 = 16_777_216;
 
@@ -54,8 +51,7 @@ pub(crate) fn tell_size<R: Files<File = File> + Eprint>(
     let _printed = eprintln!(rt; "imem: {path}: {bytes} bytes are {done} first");
 }
 
-/// Prints the answer to a request that waited when the image was opened, or is of an earlier script.
->>>>>>> h104v
+/// Prints the answer to a request that waited when the image was opened.
 pub(crate) fn print_answer<R: Eprint + AllocGlobal>(rt: &R, waited: Waited) {
     let mut line = String::new(rt.alloc());
     if make_words(&mut line, OutputLine::Now(waited)).is_ok() {

@@ -47,15 +47,10 @@ fn or_refused<S: Start, T: Start, W: Write>(
 ///
 /// - The reason of a refusal. If a call of the disk failed, it says which. If that was a sync, it also says that the
 ///   file system is to be mounted anew, and a note is left beside the image.
-<<<<<<< HEAD
 /// - `K.N now REPLY` for a request that waited when the image was opened, and is answered and kept at the end.
 /// - `confirmed K.N REPLY` for an entry of an earlier script that is confirmed, since a window is full.
-/// - How far a long script has come, if somebody watches.
-=======
-/// - `K.N now REPLY` for a request that waited when the image was opened and whose entry is confirmed.
 /// - How far a long script has come, and how many bytes of a large image are read or written first, if somebody
 ///   watches.
->>>>>>> h104v
 /// - Which cells or elements the image has, if a report was asked for others alone.
 ///
 /// If standard input is a terminal, a person is asked before an image replaces a file that isn't empty. Else, if such a
