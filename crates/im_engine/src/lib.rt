@@ -16,7 +16,7 @@ mod open;
 mod whole;
 
 pub use apart::Group;
-pub use chain::copy_members;
+pub use ahead::copy_members;
 pub use emptying::Empties;
 pub use engine::Engine;
 pub use groups::{are_apart, commands_of, refuse_all};
