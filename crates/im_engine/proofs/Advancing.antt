@@ -241,24 +241,36 @@ all_coming {D} s next put few = record {
 }
 
 -- a group that was judged is ahead, however it is kept
-pub renewed : (m : Contents) (j : JournalState) (next put : List Command) (told : List Bool) (whole : Bool)
-    (members2 put2 : List Command) (told2 : List Bool) → members2 ≡ next → put2 ≡ put → (whole ≡ true → put ≡ next)
-    → (whole ≡ false → told2 ≡ told) → IsAhead m j next put told → IsAhead m j members2 put2 told2
-renewed m j next put told whole members2 put2 told2 members_are put_is whole_is told_is it = record {
+pub renewed : (m : Contents) (j : JournalState) (next put : List Command) (told : List Bool) (many : ℕ)
+    (members2 put2 : List Command) (told2 : List Bool) → length next ≡ many → members2 ≡ next → put2 ≡ put
+    → ((length put == many) ≡ false → told2 ≡ told) → IsAhead m j next put told → IsAhead m j members2 put2 told2
+renewed m j next put told many members2 put2 told2 long members_are put_is told_is it = record {
   enough = omega (arith, ap length members_are, it.enough);
   told = record {
     commands = put_is ∙ it.told.commands
         ∙ (λ i. commands_at m (length (sym members_are i)) (sym members_are i));
-    taken = λ other. ⊎_elim
-        (λ (all : whole ≡ true). absurd (no_other (length put2) (length members2)
-        (ap length (put_is ∙ whole_is all ∙ sym members_are)) other))
-        (λ (some : whole ≡ false). told_is some
-        ∙ it.told.taken ((λ i. length (sym put_is i) == length (sym members_are i)) ∙ other)
-        ∙ (λ i. takes_at m (length (sym members_are i)) (sym members_are i)))
-        (true_or_false whole);
+    taken = λ other.
+        let some : (length put == length next) ≡ false
+        = (λ i. length (sym put_is i) == length (sym members_are i)) ∙ other in
+        told_is (ap (λ (n : ℕ). length put == n) (sym long) ∙ some) ∙ it.told.taken some
+        ∙ (λ i. takes_at m (length (sym members_are i)) (sym members_are i));
   };
   laid = it.laid ∙ sym put_is;
 }
+
+-- commands as many as the members that were judged are these members
+pub put_whole : (m : Contents) (next put : List Command) (told : List Bool) (many : ℕ) → many ≤ length next
+    → WereJudged m (take many next) put told → (length put == many) ≡ true → put ≡ take many next
+put_whole m next put told many within it same =
+    let members : List Command = take many next in
+    let long : length put ≡ length members = omega (
+      arith,
+      eq_by_test (length put) many same,
+      length-take many next,
+      within,
+    ) in
+    it.commands ∙ whole-commands m (length members) members
+    (whole-accepted m (length members) members (sym (ap length it.commands) ∙ long)) (omega arith)
 
 -- no more calls than the next members and two
 pub few_calls : (ahead next : ℕ) → calls_to_advance ahead next ≤ next + 2

@@ -9,7 +9,7 @@ use Rattle.im_checkpoint.specs.{declared.TurnDone.TurnDone, Keeping.Fits, Keepin
 use Rattle.im_checkpoint.specs.Step.{CheckpointState, NoCheckpoint, PagesDone, PagesLeft, Step, Synced}
 use Rattle.im_checkpoint.specs.Turns.{calls_to_sweep, swept_at_once, Turned}
 use Rattle.im_engine.proofs.Members.{longer_none}
-use Rattle.im_engine.specs.{Chain.IsAhead, Chain.put_of, Chain.WereJudged, State.journal_of}
+use Rattle.im_engine.specs.{Chain.IsAhead, Chain.laid_of, Chain.WereJudged, State.journal_of}
 
 -- as many are no other number
 pub no_other : (a b : ℕ) → a ≡ b → (a == b) ≡ false → ⊥
@@ -17,12 +17,12 @@ no_other a b same other = true_false (sym (ap (λ (n : ℕ). n == b) same ∙ te
 
 -- the commands of members that take places, by whether it is known that all do
 pub whole_put : (whole : Bool) (members commands : List Command) → whole ≡ true
-    → put_of whole members commands ≡ members
-whole_put whole members commands is = ap (λ (b : Bool). put_of b members commands) is
+    → laid_of whole members commands ≡ members
+whole_put whole members commands is = ap (λ (b : Bool). laid_of b members commands) is
 
 pub some_put : (whole : Bool) (members commands : List Command) → whole ≡ false
-    → put_of whole members commands ≡ commands
-some_put whole members commands is = ap (λ (b : Bool). put_of b members commands) is
+    → laid_of whole members commands ≡ commands
+some_put whole members commands is = ap (λ (b : Bool). laid_of b members commands) is
 
 -- nothing is ahead
 none_told : (m : Contents) (members commands : List Command) (taken : List Bool) → members ≡ [] → commands ≡ []

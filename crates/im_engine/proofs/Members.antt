@@ -3,6 +3,7 @@ use Rattle.std.proofs.Common.{◌≡◌, ℕ, zero, suc, ◌+◌, ◌-◌, ◌<�
 use Rattle.std.proofs.Common.{map, length, get_or, take, drop, if◌then◌else◌, OnOk, IsOk, nat_lt, ◌==◌, slice_get, Some}
 use Rattle.std.proofs.Common.{Ok, Err, Result, sym, refl, ap, ◌∙◌, subst, append_assoc, arith, length-take-le}
 use Rattle.std.proofs.{lemmas.Bool.Decides.nat_tests, Math.Seq.drop-cons}
+use Rattle.im_laws.proofs.Tests.{true_false}
 use Rattle.im_types.specs.Types.{Request, Command, Outcome, Asks, Served, Refusal, JournalFull, LAST, Contents, step}
 use Rattle.im_types.specs.Types.{is_accepted, as_served, is_put, reached_by_one, puts_of, Reached}
 use Rattle.im_laws.proofs.{MemoryLemmas.step-cell_count, MemoryLemmas.step-window_count, Tests.and_both}
@@ -31,7 +32,7 @@ told_next f g h xs rs i d a is_cons within is =
 pub put_all : {T E X : Type 0} (r : Result T E) (old new added : List X) (room : Type 0) → (IsOk r ↔ room) → room
     → OnOk r (new ≡ old ++ added) → old ≡ [] → new ≡ added
 put_all (Ok x) old new added room is fits ok none = ok ∙ ap (λ l. l ++ added) none
-put_all (Err e) old new added room is fits ok none = absurd (is.1 fits)
+put_all (Err e) old new added room is fits ok none = absurd (true_false (sym (is.1 fits)))
 
 -- a member that isn't accepted is answered by the step
 pub answer_unaccepted : (m : Contents) (left : ℕ) (c : Command) → is_accepted m c ≡ false

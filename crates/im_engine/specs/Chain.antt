@@ -11,8 +11,8 @@ use Rattle.im_engine.specs.Commands.{after_commands, answers_in_turn, commands_p
 use Rattle.im_engine.specs.State.{EngineState, MeansEither, MeansState}
 
 -- the commands of members that take places: the members themselves, if all of them do
-abbrev pub put_of : Bool → List Command → List Command → List Command
-put_of whole members commands = if whole then members else commands
+abbrev pub laid_of : Bool → List Command → List Command → List Command
+laid_of whole members commands = if whole then members else commands
 
 -- what was judged of members at this memory, with a place for each: `put` are the commands of those that are accepted,
 -- and if these aren't all, `told` is of each whether it is

@@ -1,7 +1,7 @@
 //! The group ahead of an engine: its commands are on the disk behind a closed gate, and none of its members has acted.
 ghost use Rattle.std.specs.Prelude.{◌≡◌, ◌≤◌, true, false, [], length, take, ◌==◌};
 ghost use Rattle.{im_types.specs.Types.MAX_GROUP, im_journal.specs.Holding.ahead_after};
-ghost use Rattle.im_engine.specs.{Chain.put_of, Commands.each_refused};
+ghost use Rattle.im_engine.specs.{Chain.laid_of, Commands.each_refused};
 
 use crate::groups::refuse_all;
 use arrayvec::ArrayVec;
@@ -25,11 +25,9 @@ pub(crate) struct Coming<'a> {
     pub(crate) next: &'a [Command],
     /// How many of them are judged, from the first on.
     pub(crate) many: usize,
-    /// Whether those are known to take places, all of them.
-    pub(crate) whole: bool,
     /// The commands of those that take places.
     pub(crate) commands: &'a ArrayVec<Command, MAX_GROUP>,
-    /// If it isn't known, of each whether it takes a place.
+    /// If these aren't all, of each whether it takes a place.
     pub(crate) taken: &'a [bool],
 }
 
@@ -42,11 +40,20 @@ pub fn copy_members(members: &[Command], copies: &mut ArrayVec<Command, MAX_GROU
     let _room = copies.try_extend_from_slice(members);
 }
 
+impl<'a> Coming<'a> {
+    // Whether all that are judged take places.
+    fn is_whole(&self) -> bool
+        ensures { result ≡ (length self.now.commands.now.items == self.now.many) }
+    {
+        self.commands.as_slice().len() == self.many
+    }
+}
+
 impl GroupAhead {
     // No group.
     pub(crate) fn none() -> GroupAhead
         ensures members { result.members.items ≡ [] }
-        ensures put { put_of result.whole result.members.items result.commands.items ≡ [] }
+        ensures put { laid_of result.whole result.members.items result.commands.items ≡ [] }
     {
         GroupAhead {
             members: ArrayVec::new(),
@@ -59,7 +66,7 @@ impl GroupAhead {
     // From now on there is none.
     pub(crate) fn forget(&mut self)
         ensures members { self.new.members.items ≡ [] }
-        ensures put { put_of self.new.whole self.new.members.items self.new.commands.items ≡ [] }
+        ensures put { laid_of self.new.whole self.new.members.items self.new.commands.items ≡ [] }
         ensures taken { self.new.taken.items ≡ self.old.taken.items }
     {
         self.members.clear();
@@ -69,8 +76,8 @@ impl GroupAhead {
     // From now on there is none, if these commands are any: they were put where its own are.
     pub(crate) fn forget_behind(&mut self, commands: &[Command])
         ensures members { self.new.members.items ≡ ahead_after (length commands.now) self.old.members.items }
-        ensures put { put_of self.new.whole self.new.members.items self.new.commands.items
-            ≡ ahead_after (length commands.now) (put_of self.old.whole self.old.members.items self.old.commands.items) }
+        ensures put { let old = self.old in laid_of self.new.whole self.new.members.items self.new.commands.items
+            ≡ ahead_after (length commands.now) (laid_of old.whole old.members.items old.commands.items) }
         ensures taken { self.new.taken.items ≡ self.old.taken.items }
     {
         if commands.is_empty() {
@@ -88,7 +95,7 @@ impl GroupAhead {
 
     // The commands of those that take places.
     pub(crate) fn put(&self) -> &ArrayVec<Command, MAX_GROUP>
-        ensures { result.now.items ≡ put_of self.now.whole self.now.members.items self.now.commands.items }
+        ensures { result.now.items ≡ laid_of self.now.whole self.now.members.items self.now.commands.items }
     {
         if self.whole {
             return &self.members;
@@ -106,7 +113,7 @@ impl GroupAhead {
 
     // Whether all members take places.
     pub(crate) fn is_whole(&self) -> bool
-        ensures { result ≡ (length (put_of self.now.whole self.now.members.items self.now.commands.items)
+        ensures { result ≡ (length (laid_of self.now.whole self.now.members.items self.now.commands.items)
             == length self.now.members.items) }
     {
         self.put().as_slice().len() == self.members.as_slice().len()
@@ -116,17 +123,19 @@ impl GroupAhead {
     pub(crate) fn renew(&mut self, coming: &Coming)
         requires few { (length coming.now.next.now ≤ MAX_GROUP) × (length coming.now.taken.now ≤ MAX_GROUP) }
         requires within { coming.now.many ≤ length coming.now.next.now }
-        requires whole { coming.now.whole ≡ true
+        requires whole { (length coming.now.commands.now.items == coming.now.many) ≡ true
             → coming.now.commands.now.items ≡ take coming.now.many coming.now.next.now }
         ensures members { self.new.members.items ≡ take coming.now.many coming.now.next.now }
-        ensures put { put_of self.new.whole self.new.members.items self.new.commands.items
+        ensures put { laid_of self.new.whole self.new.members.items self.new.commands.items
             ≡ coming.now.commands.now.items }
-        ensures taken { coming.now.whole ≡ false → self.new.taken.items ≡ coming.now.taken.now }
+        ensures taken { (length coming.now.commands.now.items == coming.now.many) ≡ false
+            → self.new.taken.items ≡ coming.now.taken.now }
     {
         self.members.clear();
         copy_members(&coming.next[..coming.many], &mut self.members);
-        self.whole = coming.whole;
-        if coming.whole {
+        let whole = coming.is_whole();
+        self.whole = whole;
+        if whole {
             return;
         }
         self.commands.clear();

@@ -6,7 +6,7 @@ ghost use Rattle.im_journal.specs.Holding.{AllHold, JournalState, longer, with_a
 ghost use Rattle.{im_journal.specs.OnDisk.KnownOf, im_groups.specs.Ahead.AreAccepted, im_image.specs.Reading.HasSizes};
 ghost use Rattle.im_groups.specs.Commands.{answers_with, contents_after_all, most_pages_with};
 ghost use Rattle.im_checkpoint.specs.Keeping.{IsKept, paged};
-ghost use Rattle.im_engine.specs.Chain.{Advances, BehindPut, FitsBehind, IsComing, places_left, put_ahead, put_of};
+ghost use Rattle.im_engine.specs.Chain.{Advances, BehindPut, FitsBehind, IsComing, laid_of, places_left, put_ahead};
 ghost use Rattle.im_engine.specs.Chain.{ServesAhead, TakesNext, WereJudged};
 ghost use Rattle.im_engine.specs.Groups.{KeepsAfter, LeavesAllOrNone, StaysBut};
 
@@ -61,7 +61,7 @@ fn act_ahead(
     served: &mut ArrayVec<Served, MAX_GROUP>,
 )
     requires told { WereJudged memory.old.contents ahead.now.members.items
-        (put_of ahead.now.whole ahead.now.members.items ahead.now.commands.items) ahead.now.taken.items }
+        (laid_of ahead.now.whole ahead.now.members.items ahead.now.commands.items) ahead.now.taken.items }
     requires empty { served.old.items ≡ [] }
     requires sizes { HasSizes checkpoint.old.state.header.sizes memory.old.contents }
     ensures answers { let members = ahead.now.members.items in served.new.items
@@ -126,7 +126,6 @@ impl<D: Disk> Engine<D> {
             let coming = Coming {
                 next: members,
                 many: members.len(),
-                whole: true,
                 commands: next,
                 taken: &[],
             };
@@ -175,7 +174,6 @@ impl<D: Disk> Engine<D> {
         let coming = Coming {
             next,
             many,
-            whole: false,
             commands: &commands,
             taken: taken.as_slice(),
         };
@@ -214,8 +212,6 @@ impl<D: Disk> Engine<D> {
         requires few { (length coming.now.next.now ≤ MAX_GROUP) × (length coming.now.taken.now ≤ MAX_GROUP) }
         requires told { WereJudged (after self.old.memory (put_ahead self.old))
             (take coming.now.many coming.now.next.now) coming.now.commands.now.items coming.now.taken.now }
-        requires whole { coming.now.whole ≡ true
-            → coming.now.commands.now.items ≡ take coming.now.many coming.now.next.now }
         requires begins { IsComing self.old coming.now.next.now coming.now.commands.now.items coming.now.many }
         requires empty { served.old.items ≡ [] }
         ensures answered { Advances self.old coming.now.next.now result served.new.items self.new }
@@ -232,12 +228,7 @@ impl<D: Disk> Engine<D> {
             self.journal.forget_ahead();
             return Err(Refusal::Device);
         }
-        act_ahead(
-            &mut self.checkpoint,
-            &mut self.memory,
-            &self.ahead,
-            served,
-        );
+        act_ahead(&mut self.checkpoint, &mut self.memory, &self.ahead, served);
         self.ahead.renew(coming);
         Ok(coming.many)
     }

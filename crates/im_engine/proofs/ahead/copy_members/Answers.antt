@@ -1,4 +1,4 @@
-use Rattle.std.proofs.Common.{arith}
+use Rattle.std.proofs.Common.{length, ap, arith}
 use Rattle.im_engine.proofs.Members.{put_all}
 
 pub returns : Rattle.im_engine.proofs.ahead.copy_members.Goals.returns

@@ -2,12 +2,12 @@ use Rattle.std.proofs.Common.{length, sym, ap, ◌∙◌, arith}
 use Rattle.im_engine.proofs.{Chaining.some_put, Chaining.whole_put, Members.put_all}
 use Rattle.im_engine.proofs.ahead.GroupAhead.renew.Goals as goal
 
-pub returns-then-coming-clause-put : goal.returns-then-coming-clause-put
-returns-then-coming-clause-put c = whole_put c.args.coming.now.whole _ _ c.if-coming.true ∙ c.copy_members.ensures
-    ∙ sym (c.requires.whole c.if-coming.true)
+pub returns-then-whole-clause-put : goal.returns-then-whole-clause-put
+returns-then-whole-clause-put c = whole_put c.is_whole-whole.result _ _ c.if-whole.true ∙ c.copy_members.ensures
+    ∙ sym (c.requires.whole (sym c.is_whole-whole.ensures ∙ c.if-whole.true))
 
 pub returns-clause-put : goal.returns-clause-put
-returns-clause-put c = some_put c.args.coming.now.whole _ _ c.if-coming.false ∙ c.copy_members-2.ensures
+returns-clause-put c = some_put c.is_whole-whole.result _ _ c.if-whole.false ∙ c.copy_members-2.ensures
     ∙ c.as_slice.ensures.value
 
 pub returns-clause-taken : goal.returns-clause-taken

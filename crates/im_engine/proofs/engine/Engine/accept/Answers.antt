@@ -5,7 +5,7 @@ use Rattle.{im_disk.specs.Since.LeavesOnly, im_journal.specs.Holding.JournalStat
 use Rattle.im_checkpoint.specs.{Keeping.Fits, Keeping.paged, Step.CheckpointState}
 use Rattle.im_engine.proofs.{Chaining.nothing_ahead, Serving.calls_after, Serving.fits_longer, Serving.kept_with_it}
 use Rattle.im_engine.proofs.Keeping.{accept_one, all_hold, all_mean, kept_prepared, may_put_means}
-use Rattle.im_engine.specs.Chain.{IsAhead, put_of}
+use Rattle.im_engine.specs.Chain.{IsAhead, laid_of}
 use Rattle.im_engine.specs.State.{EngineState, MeansEither, MeansState, with_command}
 use Rattle.im_engine.proofs.engine.Engine.accept.Goals as goal
 
@@ -130,6 +130,6 @@ invariant_of-self g c =
       subst (λ (j : JournalState). Fits e.checkpoint.state e.memory.contents j) (sym same) c.self.invariant.0,
       λ h f. absurd (cc),
       subst (λ (j : JournalState). IsAhead e.memory.contents j e.ahead.members.items
-          (put_of e.ahead.whole e.ahead.members.items e.ahead.commands.items) e.ahead.taken.items)
+          (laid_of e.ahead.whole e.ahead.members.items e.ahead.commands.items) e.ahead.taken.items)
           (sym same) c.self.invariant.2,
     )

@@ -1,7 +1,7 @@
 use Rattle.std.proofs.Common.{◌≡◌, true, List, [], length, take, IfOk, Err, sym, refl, ◌∙◌, subst, inl, arith}
 use Rattle.im_types.specs.Types.{Command, Failed, after}
 use Rattle.im_engine.proofs.Advancing.{advance_dead, all_coming, all_taken, all_told}
-use Rattle.im_engine.specs.Chain.{Advances, put_ahead, put_of, ServesAhead, TakesNext}
+use Rattle.im_engine.specs.Chain.{Advances, laid_of, put_ahead, ServesAhead, TakesNext}
 use Rattle.im_engine.specs.State.{EngineState}
 use Rattle.im_engine.proofs.engine.Engine.advance.Goals as goal
 
@@ -11,7 +11,7 @@ returns-then-self-clause-answered g c =
     subst (λ (s : EngineState g.row.D.Denot). Advances s c.args.next.now.items (Err Failed)
     c.refuse.new.served.items s) c.self.view_is
     (advance_dead e.disk e.checkpoint e.memory e.journal e.ahead.members.items
-    (put_of e.ahead.whole e.ahead.members.items e.ahead.commands.items) e.ahead.taken.items e.failed
+    (laid_of e.ahead.whole e.ahead.members.items e.ahead.commands.items) e.ahead.taken.items e.failed
     c.count-count.ensures.known c.self.invariant.2 c.if-self.true c.args.next.now.items
     c.refuse.new.served.items c.refuse.ensures)
 
@@ -35,11 +35,6 @@ go_on-requires-clause-told g c =
     let next = c.as_slice-members.result.now in
     all_told (after c.args.self.now.memory (put_ahead c.args.self.now)) next c.args.next.now.items []
     (sym c.as_slice-members.ensures.value) (c.takes_all.ensures.accepted c.if-takes_all.true)
-
-pub go_on-requires-clause-whole : goal.go_on-requires-clause-whole
-go_on-requires-clause-whole g c = λ all.
-    let next = c.as_slice-members.result.now in
-    sym c.as_slice-members.ensures.value ∙ sym (all_taken next)
 
 pub go_on-requires-clause-begins : goal.go_on-requires-clause-begins
 go_on-requires-clause-begins g c = all_coming c.args.self.now c.as_slice-members.result.now c.args.next.now.items

@@ -6,10 +6,10 @@ use Rattle.im_journal.specs.Holding.{JournalState, longer, with_ahead}
 use Rattle.im_groups.{proofs.EnoughLemmas.enough-contents, specs.Commands.contents_after_all, specs.Commands.places}
 use Rattle.im_checkpoint.specs.Keeping.{IsKept, paged}
 use Rattle.im_engine.proofs.Advancing.{accepts, advance_dead, advance_done, advance_failed, calls_few, calls_made}
-use Rattle.im_engine.proofs.Advancing.{few_coming, fits, laid_is, new_put, next_ahead, renewed}
+use Rattle.im_engine.proofs.Advancing.{few_coming, fits, laid_is, new_put, next_ahead, put_whole, renewed}
 use Rattle.im_engine.proofs.Chaining.{fits_ahead, nothing_ahead}
 use Rattle.im_engine.proofs.{Keeping.all_hold, Keeping.all_mean, Together.fits_group, Together.means_group}
-use Rattle.im_engine.specs.Chain.{Advances, calls_to_advance, IsComing, places_left, put_ahead, put_of, ServesAhead}
+use Rattle.im_engine.specs.Chain.{Advances, calls_to_advance, IsComing, laid_of, places_left, put_ahead, ServesAhead}
 use Rattle.im_engine.specs.Chain.{WereJudged}
 use Rattle.im_engine.specs.{Commands.after_commands, State.engine_of, State.EngineState, State.MeansEither}
 use Rattle.im_engine.proofs.engine.Engine.go_on.Goals as goal
@@ -17,12 +17,18 @@ use Rattle.im_engine.proofs.engine.Engine.go_on.Goals as goal
 pub renew-requires-clause-within : goal.renew-requires-clause-within
 renew-requires-clause-within g c = c.requires.begins.within
 
+-- commands as many as the members are the members
+pub renew-requires-clause-whole : goal.renew-requires-clause-whole
+renew-requires-clause-whole g c = let coming = c.args.coming.now in
+    put_whole (after c.args.self.now.memory (put_ahead c.args.self.now)) coming.next.now coming.commands.now.items
+    coming.taken.now coming.many c.requires.begins.within c.requires.told
+
 pub put_behind-requires-clause-fits : goal.put_behind-requires-clause-fits
 put_behind-requires-clause-fits g c =
     let e = c.self.inside in
     let alive : e.failed ≡ false = ap (λ (s : EngineState g.row.D.Denot). s.failed) c.self.view_is ∙ c.requires.alive in
     let ms = e.ahead.members.items in
-    let cs = put_of e.ahead.whole e.ahead.members.items e.ahead.commands.items in
+    let cs = laid_of e.ahead.whole e.ahead.members.items e.ahead.commands.items in
     let ts = e.ahead.taken.items in
     let known = c.count-count.ensures.known in
     let it = c.self.invariant.2 in
@@ -50,7 +56,7 @@ returns-in-Err-clause-answered g c =
     let e = c.self.inside in
     let alive : e.failed ≡ false = ap (λ (s : EngineState g.row.D.Denot). s.failed) c.self.view_is ∙ c.requires.alive in
     let ms = e.ahead.members.items in
-    let cs = put_of e.ahead.whole e.ahead.members.items e.ahead.commands.items in
+    let cs = laid_of e.ahead.whole e.ahead.members.items e.ahead.commands.items in
     let ts = e.ahead.taken.items in
     let known = c.count-count.ensures.known in
     let it = c.self.invariant.2 in
@@ -69,7 +75,8 @@ invariant_of-self g c =
       fits_ahead e.checkpoint.state e.memory.contents e.journal c.forget_ahead.new.self [] state c.self.invariant.0,
       λ h f. absurd (cc),
       nothing_ahead e.memory.contents c.forget_ahead.new.self c.forget.new.self.members.items
-          _ c.forget.new.self.taken.items c.forget.ensures.members c.forget.ensures.put (ap (λ (j : JournalState). j.ahead) state),
+          _ c.forget.new.self.taken.items c.forget.ensures.members c.forget.ensures.put
+          (ap (λ (j : JournalState). j.ahead) state),
     )
 
 pub returns-clause-answered : goal.returns-clause-answered
@@ -77,7 +84,7 @@ returns-clause-answered g c =
     let e = c.self.inside in
     let alive : e.failed ≡ false = ap (λ (s : EngineState g.row.D.Denot). s.failed) c.self.view_is ∙ c.requires.alive in
     let ms = e.ahead.members.items in
-    let cs = put_of e.ahead.whole e.ahead.members.items e.ahead.commands.items in
+    let cs = laid_of e.ahead.whole e.ahead.members.items e.ahead.commands.items in
     let ts = e.ahead.taken.items in
     let known = c.count-count.ensures.known in
     let it = c.self.invariant.2 in
@@ -98,7 +105,7 @@ returns-in-Err-clause-runs g c =
     let e = c.self.inside in
     let alive : e.failed ≡ false = ap (λ (s : EngineState g.row.D.Denot). s.failed) c.self.view_is ∙ c.requires.alive in
     let ms = e.ahead.members.items in
-    let cs = put_of e.ahead.whole e.ahead.members.items e.ahead.commands.items in
+    let cs = laid_of e.ahead.whole e.ahead.members.items e.ahead.commands.items in
     let ts = e.ahead.taken.items in
     let known = c.count-count.ensures.known in
     let it = c.self.invariant.2 in
@@ -136,7 +143,7 @@ invariant_of-self-2 g c =
     let e = c.self.inside in
     let alive : e.failed ≡ false = ap (λ (s : EngineState g.row.D.Denot). s.failed) c.self.view_is ∙ c.requires.alive in
     let ms = e.ahead.members.items in
-    let cs = put_of e.ahead.whole e.ahead.members.items e.ahead.commands.items in
+    let cs = laid_of e.ahead.whole e.ahead.members.items e.ahead.commands.items in
     let ts = e.ahead.taken.items in
     let known = c.count-count.ensures.known in
     let it = c.self.invariant.2 in
@@ -164,15 +171,18 @@ invariant_of-self-2 g c =
           (length e.journal.ahead) c.self.invariant.0 c.act_ahead.ensures.stays.state c.act_ahead.ensures.sizes refl),
       λ h f. kept h,
       renewed c.act_ahead.new.memory.contents c.put_behind.new.journal next put told
-    c.args.coming.now.whole c.renew.new.self.members.items
-    (put_of c.renew.new.self.whole c.renew.new.self.members.items c.renew.new.self.commands.items)
-    c.renew.new.self.taken.items c.renew.ensures.members c.renew.ensures.put c.requires.whole c.renew.ensures.taken
-    (next_ahead e.disk e.checkpoint e.memory e.journal ms cs ts e.failed known it next put told
-    (subst (λ (s : EngineState g.row.D.Denot). WereJudged (after s.memory (put_ahead s)) next
-    put told) (sym c.self.view_is) c.requires.told)
-    (subst (λ (s : EngineState g.row.D.Denot). length next ≤ places_left s) (sym c.self.view_is)
-    (omega (arith, length-take c.args.coming.now.many c.args.coming.now.next.now, c.requires.begins.few)))
-    c.act_ahead.new.memory.contents c.put_behind.new.journal c.act_ahead.ensures.contents c.in_default.ensures.state),
+          c.args.coming.now.many c.renew.new.self.members.items
+          (laid_of c.renew.new.self.whole c.renew.new.self.members.items c.renew.new.self.commands.items)
+          c.renew.new.self.taken.items
+          (omega (arith, length-take c.args.coming.now.many c.args.coming.now.next.now, c.requires.begins.within))
+          c.renew.ensures.members c.renew.ensures.put c.renew.ensures.taken
+          (next_ahead e.disk e.checkpoint e.memory e.journal ms cs ts e.failed known it next put told
+          (subst (λ (s : EngineState g.row.D.Denot). WereJudged (after s.memory (put_ahead s)) next
+          put told) (sym c.self.view_is) c.requires.told)
+          (subst (λ (s : EngineState g.row.D.Denot). length next ≤ places_left s) (sym c.self.view_is)
+          (omega (arith, length-take c.args.coming.now.many c.args.coming.now.next.now, c.requires.begins.few)))
+          c.act_ahead.new.memory.contents c.put_behind.new.journal c.act_ahead.ensures.contents
+          c.in_default.ensures.state),
     )
 
 pub returns-clause-runs : goal.returns-clause-runs
@@ -180,7 +190,7 @@ returns-clause-runs g c =
     let e = c.self.inside in
     let alive : e.failed ≡ false = ap (λ (s : EngineState g.row.D.Denot). s.failed) c.self.view_is ∙ c.requires.alive in
     let ms = e.ahead.members.items in
-    let cs = put_of e.ahead.whole e.ahead.members.items e.ahead.commands.items in
+    let cs = laid_of e.ahead.whole e.ahead.members.items e.ahead.commands.items in
     let ts = e.ahead.taken.items in
     let known = c.count-count.ensures.known in
     let it = c.self.invariant.2 in
@@ -211,9 +221,11 @@ returns-clause-runs g c =
     (accepts e.disk e.checkpoint e.memory e.journal ms cs ts e.failed known it)
     (c.self.invariant.1 (c.put_behind.ensures.honest h) alive))) in
     let ahead2 = renewed c.act_ahead.new.memory.contents c.put_behind.new.journal next put told
-    c.args.coming.now.whole c.renew.new.self.members.items
-    (put_of c.renew.new.self.whole c.renew.new.self.members.items c.renew.new.self.commands.items)
-    c.renew.new.self.taken.items c.renew.ensures.members c.renew.ensures.put c.requires.whole c.renew.ensures.taken
+    c.args.coming.now.many c.renew.new.self.members.items
+    (laid_of c.renew.new.self.whole c.renew.new.self.members.items c.renew.new.self.commands.items)
+    c.renew.new.self.taken.items
+    (omega (arith, length-take c.args.coming.now.many c.args.coming.now.next.now, c.requires.begins.within))
+    c.renew.ensures.members c.renew.ensures.put c.renew.ensures.taken
     (next_ahead e.disk e.checkpoint e.memory e.journal ms cs ts e.failed known it next put told
     (subst (λ (s : EngineState g.row.D.Denot). WereJudged (after s.memory (put_ahead s)) next
     put told) (sym c.self.view_is) c.requires.told)
@@ -252,7 +264,7 @@ pub returns-clause-takes : goal.returns-clause-takes
 returns-clause-takes g c =
     let e = c.self.inside in
     let ms = e.ahead.members.items in
-    let cs = put_of e.ahead.whole e.ahead.members.items e.ahead.commands.items in
+    let cs = laid_of e.ahead.whole e.ahead.members.items e.ahead.commands.items in
     let ts = e.ahead.taken.items in
     let known = c.count-count.ensures.known in
     let it = c.self.invariant.2 in
@@ -260,9 +272,11 @@ returns-clause-takes g c =
     let put = c.args.coming.now.commands.now.items in
     let told = c.args.coming.now.taken.now in
     let ahead2 = renewed c.act_ahead.new.memory.contents c.put_behind.new.journal next put told
-    c.args.coming.now.whole c.renew.new.self.members.items
-    (put_of c.renew.new.self.whole c.renew.new.self.members.items c.renew.new.self.commands.items)
-    c.renew.new.self.taken.items c.renew.ensures.members c.renew.ensures.put c.requires.whole c.renew.ensures.taken
+    c.args.coming.now.many c.renew.new.self.members.items
+    (laid_of c.renew.new.self.whole c.renew.new.self.members.items c.renew.new.self.commands.items)
+    c.renew.new.self.taken.items
+    (omega (arith, length-take c.args.coming.now.many c.args.coming.now.next.now, c.requires.begins.within))
+    c.renew.ensures.members c.renew.ensures.put c.renew.ensures.taken
     (next_ahead e.disk e.checkpoint e.memory e.journal ms cs ts e.failed known it next put told
     (subst (λ (s : EngineState g.row.D.Denot). WereJudged (after s.memory (put_ahead s)) next
     put told) (sym c.self.view_is) c.requires.told)

@@ -3,7 +3,7 @@ use Rattle.std.proofs.Common.{rules}
 use Rattle.im_types.specs.Types.{Command, after}
 use Rattle.im_groups.specs.{Ahead.AreAccepted, Ahead.ServesBehind, Commands.places}
 use Rattle.im_engine.proofs.Advancing.{accepted, coming, few_put, put_is, told_of}
-use Rattle.im_engine.specs.{Chain.IsComing, Chain.put_ahead, Chain.put_of, Chain.WereJudged, State.EngineState}
+use Rattle.im_engine.specs.{Chain.IsComing, Chain.laid_of, Chain.put_ahead, Chain.WereJudged, State.EngineState}
 use Rattle.im_engine.proofs.engine.Engine.judge_coming.Goals as goal
 
 -- there are as many places as commands ahead
@@ -15,7 +15,7 @@ overflow_sub-left g c =
       c.places_in-places.ensures.places,
       c.ahead-laid.ensures,
       few_put e.disk e.checkpoint e.memory e.journal e.ahead.members.items
-          (put_of e.ahead.whole e.ahead.members.items e.ahead.commands.items) e.ahead.taken.items
+          (laid_of e.ahead.whole e.ahead.members.items e.ahead.commands.items) e.ahead.taken.items
           e.failed c.places_in-places.ensures.known c.self.invariant.2,
     )
 
@@ -31,7 +31,7 @@ judge_next-requires-clause-accepted g c =
     let e = c.self.inside in
     subst (λ (l : List Command). AreAccepted e.memory.contents l) (sym (c.as_slice-group.ensures.value ∙ c.put.ensures))
     (accepted e.disk e.checkpoint e.memory e.journal e.ahead.members.items
-    (put_of e.ahead.whole e.ahead.members.items e.ahead.commands.items) e.ahead.taken.items
+    (laid_of e.ahead.whole e.ahead.members.items e.ahead.commands.items) e.ahead.taken.items
     e.failed c.places_in-places.ensures.known c.self.invariant.2)
 
 -- what was judged behind the commands of the group ahead, at the memory after them
@@ -43,7 +43,7 @@ returns-clause-told g c =
     let asked = take c.min-most.result next in
     let is = c.as_slice-group.ensures.value ∙ c.put.ensures
     ∙ put_is e.disk e.checkpoint e.memory e.journal e.ahead.members.items
-    (put_of e.ahead.whole e.ahead.members.items e.ahead.commands.items) e.ahead.taken.items e.failed
+    (laid_of e.ahead.whole e.ahead.members.items e.ahead.commands.items) e.ahead.taken.items e.failed
     c.places_in-places.ensures.known c.self.invariant.2 in
     subst (λ (s : EngineState g.row.D.Denot). WereJudged (after s.memory (put_ahead s)) (take many next)
     c.judge_next.new.commands.items c.judge_next.new.taken.items) c.self.view_is
@@ -61,7 +61,7 @@ returns-clause-begins g c =
     let next : List Command = c.args.next.now in
     let put = c.judge_next.new.commands.items in
     let many = c.judge_next.result in
-    let cs = put_of e.ahead.whole e.ahead.members.items e.ahead.commands.items in
+    let cs = laid_of e.ahead.whole e.ahead.members.items e.ahead.commands.items in
     let left : ℕ = c.places_in-places.result - c.ahead-laid.result in
     let left_is : left ≡ places e.journal.count e.journal.room - length e.journal.ahead
     = (λ i. (c.places_in-places.ensures.places i) - (c.ahead-laid.ensures i)) in

@@ -7,7 +7,7 @@ use Rattle.im_engine.proofs.{Chaining.still_ahead, Chaining.unchanged_after, Kee
 use Rattle.im_engine.proofs.Members.{length_answers, length_refused}
 use Rattle.im_engine.proofs.Together.{accepts, calls_done, calls_failed, fits_group, group_done, group_failed, last_for}
 use Rattle.im_engine.proofs.Together.{means_group, room_for}
-use Rattle.im_engine.specs.{Chain.IsAhead, Chain.put_of, State.engine_of, State.EngineState, State.MeansEither}
+use Rattle.im_engine.specs.{Chain.IsAhead, Chain.laid_of, State.engine_of, State.EngineState, State.MeansEither}
 use Rattle.im_engine.specs.Commands.{after_commands, AreParted, AreWhole, commands_put, CommandsAnswered}
 use Rattle.im_engine.specs.Commands.{ServesCommands}
 use Rattle.im_engine.proofs.engine.Engine.serve_judged.Goals as goal
@@ -232,6 +232,6 @@ invariant_of-self g c =
       subst (λ (j : JournalState). Fits e.checkpoint.state e.memory.contents j) (sym same) c.self.invariant.0,
       λ h f. absurd (cc),
       subst (λ (j : JournalState). IsAhead e.memory.contents j e.ahead.members.items
-          (put_of e.ahead.whole e.ahead.members.items e.ahead.commands.items) e.ahead.taken.items)
+          (laid_of e.ahead.whole e.ahead.members.items e.ahead.commands.items) e.ahead.taken.items)
           (sym same) c.self.invariant.2,
     )

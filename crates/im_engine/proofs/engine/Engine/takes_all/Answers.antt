@@ -2,7 +2,7 @@ use Rattle.std.proofs.Common.{◌≡◌, ℕ, ◌≤◌, List, length, take, sym
 use Rattle.im_types.specs.Types.{Command, after}
 use Rattle.{im_laws.proofs.Tests.eq_by_test, im_groups.specs.Ahead.AreAccepted}
 use Rattle.im_engine.proofs.Advancing.{accepted, all_taken, few_put, laid_is, put_is}
-use Rattle.im_engine.specs.{Chain.places_left, Chain.put_ahead, Chain.put_of, State.EngineState}
+use Rattle.im_engine.specs.{Chain.laid_of, Chain.places_left, Chain.put_ahead, State.EngineState}
 use Rattle.im_engine.proofs.engine.Engine.takes_all.Goals as goal
 
 -- there are as many places as commands ahead
@@ -14,7 +14,7 @@ overflow_sub-left g c =
       c.places_in.ensures.places,
       c.ahead.ensures,
       few_put e.disk e.checkpoint e.memory e.journal e.ahead.members.items
-          (put_of e.ahead.whole e.ahead.members.items e.ahead.commands.items) e.ahead.taken.items
+          (laid_of e.ahead.whole e.ahead.members.items e.ahead.commands.items) e.ahead.taken.items
           e.failed c.places_in.ensures.known c.self.invariant.2,
     )
 
@@ -24,7 +24,7 @@ judge_whole_next-requires-clause-accepted g c =
     let e = c.self.inside in
     subst (λ (l : List Command). AreAccepted e.memory.contents l) (sym (c.as_slice-group.ensures.value ∙ c.put.ensures))
     (accepted e.disk e.checkpoint e.memory e.journal e.ahead.members.items
-    (put_of e.ahead.whole e.ahead.members.items e.ahead.commands.items) e.ahead.taken.items
+    (laid_of e.ahead.whole e.ahead.members.items e.ahead.commands.items) e.ahead.taken.items
     e.failed c.places_in.ensures.known c.self.invariant.2)
 
 pub returns-in-Some-clause-accepted : goal.returns-in-Some-clause-accepted
@@ -34,7 +34,7 @@ returns-in-Some-clause-accepted g c = λ all.
     let many : c.in-Some.many ≡ length next = eq_by_test c.in-Some.many (length next) all in
     let is = c.as_slice-group.ensures.value ∙ c.put.ensures
     ∙ put_is e.disk e.checkpoint e.memory e.journal e.ahead.members.items
-    (put_of e.ahead.whole e.ahead.members.items e.ahead.commands.items) e.ahead.taken.items e.failed
+    (laid_of e.ahead.whole e.ahead.members.items e.ahead.commands.items) e.ahead.taken.items e.failed
     c.places_in.ensures.known c.self.invariant.2 in
     subst (λ (s : EngineState g.row.D.Denot). AreAccepted (after s.memory (put_ahead s)) next) c.self.view_is
     (subst (λ (l : List Command). AreAccepted (after e.memory.contents l) next) is
@@ -50,6 +50,6 @@ returns-in-Some-clause-places g c = λ all.
       c.places_in.ensures.places,
       c.ahead.ensures,
       ap length (laid_is e.disk e.checkpoint e.memory e.journal e.ahead.members.items
-          (put_of e.ahead.whole e.ahead.members.items e.ahead.commands.items) e.ahead.taken.items e.failed
+          (laid_of e.ahead.whole e.ahead.members.items e.ahead.commands.items) e.ahead.taken.items e.failed
           c.places_in.ensures.known c.self.invariant.2),
     ))
