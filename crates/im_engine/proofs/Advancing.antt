@@ -1,7 +1,7 @@
 -- A chain of groups: what is judged, what is put, and what the engine is then.
 use Rattle.std.proofs.Common.{◌≡◌, ℕ, zero, suc, ◌+◌, ◌-◌, ◌<◌, ◌≤◌, min, Bool, true, false, ◌≢◌, ◌⊎◌, List, [], ◌∷◌}
 use Rattle.std.proofs.Common.{◌++◌, map, length, take, if◌then◌else◌, ◌==◌, slice_get, Some, Ok, Err, Result, sym, refl}
-use Rattle.std.proofs.Common.{ap, ◌∙◌, subst, inl, inr, ⊎_elim, arith, length-take, take_all, take-take}
+use Rattle.std.proofs.Common.{ap, ◌∙◌, subst, inl, inr, ⊎_elim, arith, length-take, take_all}
 use Rattle.std.proofs.lemmas.{Bool.cases_eq, Bool.Decides.nat_tests, List.nil_from_length}
 use Rattle.im_types.specs.Types.{Command, Served, Refusal, JournalFull, Device, Failed, MAX_GROUP, LAST, Contents}
 use Rattle.im_types.specs.Types.{after, as_served, accept_each}

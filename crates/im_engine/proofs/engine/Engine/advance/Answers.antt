@@ -1,6 +1,6 @@
-use Rattle.std.proofs.Common.{◌≡◌, true, List, [], length, take, IfOk, Err, sym, refl, ◌∙◌, subst, inl, arith}
+use Rattle.std.proofs.Common.{◌≡◌, true, List, [], length, IfOk, Err, sym, refl, subst, inl, arith}
 use Rattle.im_types.specs.Types.{Command, Failed, after}
-use Rattle.im_engine.proofs.Advancing.{advance_dead, all_coming, all_taken, all_told}
+use Rattle.im_engine.proofs.Advancing.{advance_dead, all_coming, all_told}
 use Rattle.im_engine.specs.Chain.{Advances, laid_of, put_ahead, ServesAhead, TakesNext}
 use Rattle.im_engine.specs.State.{EngineState}
 use Rattle.im_engine.proofs.engine.Engine.advance.Goals as goal

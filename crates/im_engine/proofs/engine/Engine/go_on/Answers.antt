@@ -1,12 +1,12 @@
-use Rattle.std.proofs.Common.{◌≡◌, ℕ, ◌≤◌, true, false, List, [], length, take, Ok, Err, sym, refl, ap, ◌∙◌, subst, inl}
-use Rattle.std.proofs.Common.{inr, arith, length-take}
-use Rattle.im_types.specs.Types.{Command, Device, Failed, Contents, after}
+use Rattle.std.proofs.Common.{◌≡◌, ℕ, ◌≤◌, true, false, List, [], length, take, Ok, Err, sym, refl, ap, ◌∙◌, subst, inr}
+use Rattle.std.proofs.Common.{arith, length-take}
+use Rattle.im_types.specs.Types.{Command, Device, Contents, after}
 use Rattle.im_disk.{proofs.SinceLemmas.only_weaker, specs.Since.Calls}
 use Rattle.im_journal.specs.Holding.{JournalState, longer, with_ahead}
 use Rattle.im_groups.{proofs.EnoughLemmas.enough-contents, specs.Commands.contents_after_all, specs.Commands.places}
 use Rattle.im_checkpoint.specs.Keeping.{IsKept, paged}
-use Rattle.im_engine.proofs.Advancing.{accepts, advance_dead, advance_done, advance_failed, calls_few, calls_made}
-use Rattle.im_engine.proofs.Advancing.{few_coming, fits, laid_is, new_put, next_ahead, put_whole, renewed}
+use Rattle.im_engine.proofs.Advancing.{accepts, advance_done, advance_failed, calls_few, calls_made, few_coming, fits}
+use Rattle.im_engine.proofs.Advancing.{laid_is, new_put, next_ahead, put_whole, renewed}
 use Rattle.im_engine.proofs.Chaining.{fits_ahead, nothing_ahead}
 use Rattle.im_engine.proofs.{Keeping.all_hold, Keeping.all_mean, Together.fits_group, Together.means_group}
 use Rattle.im_engine.specs.Chain.{Advances, calls_to_advance, IsComing, laid_of, places_left, put_ahead, ServesAhead}

@@ -1,4 +1,4 @@
-use Rattle.std.proofs.Common.{◌≡◌, ℕ, ◌-◌, min, List, length, take, sym, ap, ◌∙◌, subst, arith, length-take, take-take}
+use Rattle.std.proofs.Common.{◌≡◌, ℕ, ◌-◌, min, List, length, take, sym, ◌∙◌, subst, arith, length-take, take-take}
 use Rattle.std.proofs.Common.{rules}
 use Rattle.im_types.specs.Types.{Command, after}
 use Rattle.im_groups.specs.{Ahead.AreAccepted, Ahead.ServesBehind, Commands.places}
