@@ -1,7 +1,7 @@
 //! The program `imem`: it reads its command line and does what that asks for.
 #![tactic(auto)]
 
-ghost use Rattle.std.specs.Prelude.{◌≡◌, ◌≤◌, ◌⊎◌, map, IfOk, string_bytes};
+ghost use Rattle.std.specs.Prelude.{◌≡◌, ◌≤◌, ◌⊎◌, None, map, IfOk, string_bytes};
 ghost use Rattle.std.specs.Process.{exit_status};
 ghost use Rattle.im_program.specs.Ending.{EndedBy};
 
@@ -55,6 +55,18 @@ struct Surroundings<'a, R> {
     terminals: Terminals,
 }
 
+// The end of a start for which there was no memory: no file was opened.
+fn no_memory<S: Start, T: Start, W: Write>(
+    alloc: Global,
+    mut out: W,
+) -> (ExitCode, W, Option<FileDisk<S>>, Option<FileDisk<T>>)
+    ensures status { exit_status result.0 ≡ 1 }
+    ensures none { (result.2 ≡ None) × (result.3 ≡ None) }
+{
+    let status = refuse(alloc, Style::Text, Refusal::NoMemory, &mut out);
+    (ExitCode::from(status), out, None, None)
+}
+
 /// Does what the words of the command line ask for, the program's own name first. Returns how the program ends, the
 /// writer, and the disks of the files that were opened.
 ///
@@ -83,8 +95,7 @@ fn start<
 {
     let (rt, alloc) = (place.rt, place.rt.alloc());
     let Ok(texts) = texts(alloc, words) else {
-        let status = refuse(alloc, Style::Text, Refusal::NoMemory, &mut out);
-        return (ExitCode::from(status), out, None, None);
+        return no_memory(alloc, out);
     };
     match read_words(alloc, texts.as_slice()) {
         Ok(line) => {
@@ -93,8 +104,7 @@ fn start<
             let is_typed = prompts(&line, place.terminals);
             let prompter = Prompter::new(rt, heard, is_typed, &line.work);
             let Ok(mut input) = BufReader::new(alloc, prompter) else {
-                let status = refuse(alloc, Style::Text, Refusal::NoMemory, &mut out);
-                return (ExitCode::from(status), out, None, None);
+                return no_memory(alloc, out);
             };
             let mut console = Console::new(rt, place.held, &line, place.terminals);
             let hand = AtHand {
@@ -109,10 +119,7 @@ fn start<
             let ends = status_for(status, line.statuses, console.reason());
             (ExitCode::from(ends), out, disk, old)
         }
-        Err(WordFault::NoMemory) => {
-            let status = refuse(alloc, Style::Text, Refusal::NoMemory, &mut out);
-            (ExitCode::from(status), out, None, None)
-        }
+        Err(WordFault::NoMemory) => no_memory(alloc, out),
         Err(WordFault::Bad(error)) => {
             let status = status_after(error.use_stderr(), error.print(rt));
             (ExitCode::from(status), out, None, None)
