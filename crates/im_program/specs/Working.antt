@@ -2,14 +2,13 @@
 use Rattle.std.specs.Prelude.{◌≡◌, ℕ, Bool, true, false, List, [], IfOk, Some, None, Option, Result}
 use Rattle.std.specs.Borrow.{Bor}
 use Rattle.{im_types.specs.Types.AreLimits, im_types.specs.Types.Sizes, im_image.specs.Fresh.new_image}
-use Rattle.{im_migration.specs.declared.Asked.Asked, im_text.specs.Statuses.strict_status}
-use Rattle.im_text.specs.Said.{Output, output, Written}
-use Rattle.{im_report.specs.Look.ShowsView, im_dump.specs.Dumping.Dumps, im_words.specs.declared.Formatting.Formatting}
+use Rattle.{im_migration.specs.declared.Asked.Asked, im_report.specs.Look.ShowsView, im_dump.specs.Dumping.Dumps}
+use Rattle.{im_run.specs.Once.RunsWhen, im_run.specs.Tracing.TraceState, im_words.specs.declared.Formatting.Formatting}
 use Rattle.im_disk.specs.declared.{Disk.Ghosts as DiskGhosts, FileDisk.FileDisk, Start.Ghosts}
 use Rattle.im_disk.specs.{Moment.Moment, Since.LeavesNow, Since.ReadsOnly}
+use Rattle.im_text.specs.{Said.Output, Said.output, Said.Written, Statuses.strict_status}
 use Rattle.im_dialogue.specs.{Backups.Backup, Dialogue.TalkedFrom, Talk.Outputs, Talk.outputs, Talk.with_input}
 use Rattle.im_serial.specs.{Once.SerialOnceOn, Serving.SerialOn}
-use Rattle.im_run.specs.{Once.RunsWhen, Tracing.TraceState}
 use Rattle.im_words.specs.declared.{ScriptRun.ScriptRun, Serving.Serving, Talking.Talking, Work.Work}
 use Rattle.im_words.specs.declared.Work.TheVariants.{Copy, Demonstration, Dump, Format, Inspect, Load, Migrate, Run}
 use Rattle.im_words.specs.declared.Work.TheVariants.{Serial, Serve}

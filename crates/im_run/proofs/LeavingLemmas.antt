@@ -2,11 +2,12 @@
 use Rattle.std.proofs.Common.{◌≡◌, ℕ, zero, suc, ◌+◌, Bool, true, false, ◌⊎◌, List, [], ◌++◌, length, take, Some}
 use Rattle.std.proofs.Common.{Option, sym, refl, ap, ◌∙◌, subst, inl, inr, ⊎_elim, append-nil, arith, length-append}
 use Rattle.im_types.specs.Types.{Command, Limits, Contents, after, accept_each, Means}
-use Rattle.{im_laws.proofs.RunLemmas.after-append, im_engine.proofs.Keeping.accept_both, im_text.specs.Said.Output, im_text.specs.Said.Written}
+use Rattle.{im_laws.proofs.RunLemmas.after-append, im_engine.proofs.Keeping.accept_both}
 use Rattle.im_disk.{proofs.SinceLemmas.leaves_now, specs.declared.Disk.Ghosts, specs.Moment.Left, specs.Since.LeavesNow}
 use Rattle.im_session.{proofs.AcceptedLemmas.each_accepted, specs.Carrying.LedBy}
 use Rattle.im_session.proofs.CarryLemmas.{began_with, BeganWith, carried}
 use Rattle.im_session.specs.Kept.{Kept, MeansPut, session_of, SessionStart, SessionState}
+use Rattle.im_text.specs.Said.{Output, Written}
 use Rattle.im_serial.proofs.BegunLemmas.{accepted_after, accepted_first}
 use Rattle.im_serial.specs.{Begun.new_memory, Serving.NotOpened}
 use Rattle.im_run.proofs.PlanStops.{has_all, plan_stops, Stops}

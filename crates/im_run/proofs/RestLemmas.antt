@@ -105,7 +105,8 @@ module _ {D : Type 0} (disk : Ghosts D) (script : List Wanted) (old mid : Script
       run = subst (λ (t : SessionState D). RunWhen disk true planned text t.start new
           (record (output_of mid) { style = old.lines.style }) is calls status) it.session
           (subst (λ (s : Style). RunWhen disk true planned text mid.session.start new
-          (record (output_of mid) { style = s }) is calls status) (shown_at script bases known old mid it fit ready).1.1.styled run);
+          (record (output_of mid) { style = s }) is calls status)
+          (shown_at script bases known old mid it fit ready).1.1.styled run);
     }
 
 -- the disk was honest at the start, if it is at the end

@@ -7,8 +7,7 @@ use Rattle.{im_damage.specs.declared.Damage.TheVariants.Unknown, im_text.specs.T
 use Rattle.im_session.specs.Kept.{Kept, session_of, SessionStart, SessionState}
 use Rattle.im_text.specs.declared.{Lines.Lines, OutputLine.OutputLine, OutputLine.TheVariants.Glance, Waited.Waited}
 use Rattle.im_text.specs.declared.Reason.{Reason, TheVariants.Image, TheVariants.Request}
-use Rattle.im_text.specs.Said.{IsLast, Output, Prints, PrintsMore, replied, replies, SaysSome, SaysWhole}
-use Rattle.im_text.specs.Said.{Written}
+use Rattle.im_text.specs.Said.{IsLast, Output, Prints, PrintsMore, replied, replies, SaysSome, SaysWhole, Written}
 use Rattle.im_serial.specs.{Asked.Wanted, Serving.NotOpened}
 use Rattle.im_run.specs.{Alone.AreCallsOf, Doing.AreAllTold, Doing.HasToldScript, Tracing.TraceState}
 use Rattle.im_run.specs.declared.{run.TheConstants.STALLED, sheet.Order.Order}

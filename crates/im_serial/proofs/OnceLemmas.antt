@@ -768,8 +768,8 @@ module _ {D : Type 0} where
 
     pub shown_written : HasServedNothing old bases
         → SaysWhole (output_of old) (mid.held, mid.lines.faulted) (lines_had found (numbers_had found) script)
-    shown_written ready = subst (SaysWhole (output_of old) (mid.held, mid.lines.faulted)) (shown_text ready) (prints_all (output_of old)
-        mid.held mid.lines (shown_at ready).0 it.works it.pending (shown_at ready).1.1)
+    shown_written ready = subst (SaysWhole (output_of old) (mid.held, mid.lines.faulted)) (shown_text ready)
+        (prints_all (output_of old) mid.held mid.lines (shown_at ready).0 it.works it.pending (shown_at ready).1.1)
 
     -- its output then
     abbrev shown_from : Output
@@ -819,8 +819,8 @@ module _ {D : Type 0} where
             text = ends.text;
             over = ends.over;
             once = record { made = inl (made_there ready); fit = inl (fits_start script old bases ready fit) };
-            printed = prints_after (output_of old) (mid.held, mid.lines.faulted) new.held new.lines _ ends.text (shown_written ready)
-                ends.printed;
+            printed = prints_after (output_of old) (mid.held, mid.lines.faulted) new.held new.lines _ ends.text
+                (shown_written ready) ends.printed;
           },
           by_result r served_now.serves ready going,
         )
@@ -836,8 +836,8 @@ module _ {D : Type 0} where
               bases = last;
               text = done.text;
               serving = done.serving;
-              printed = prints_after (output_of old) (mid.held, mid.lines.faulted) new.held new.lines _ done.text (shown_written ready)
-                  done.printed;
+              printed = prints_after (output_of old) (mid.held, mid.lines.faulted) new.held new.lines _ done.text
+                  (shown_written ready) done.printed;
             }
         by_result (Err e) serves ready going = tt
 

@@ -35,14 +35,14 @@ impl<D: Disk> Server<D> {
             numbers.0 numbers.1 self.new.earlier.named }
     {
         let (base, upto) = numbers;
-        self.earlier
-            .name_all(self.session.memory(), (element, base, upto), observer);
         learn(
             self.waited.as_mut_slice(),
             &mut self.places,
             self.session.memory(),
             (element, base, upto),
         );
+        self.earlier
+            .name_all(self.session.memory(), (element, base, upto), observer);
         serve_one(
             &mut self.session,
             &mut self.progress,

@@ -1,5 +1,5 @@
 //! The entries that earlier scripts left. They are named before they are confirmed, since nobody may have seen them.
-ghost use Rattle.std.specs.Prelude.{◌≡◌, ◌≤◌, [], ◌∷◌, IfOk};
+ghost use Rattle.std.specs.Prelude.{◌≡◌, ◌+◌, ◌≤◌, [], ◌∷◌, IfOk};
 ghost use Rattle.im_serial.specs.{Had.left_of, Named.AreNamed, Named.IsNamed};
 
 use im_memory::Memory;

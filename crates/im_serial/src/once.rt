@@ -84,8 +84,9 @@ impl<D: Disk> Server<D> {
         ensures fit { FitsOrStays result (wanted_of script.now)
             (seen_by self.old (W.contents out.old)) (seen_by self.new (W.contents out.new)) }
     {
+        self.earlier.clear();
         match compare_script(alloc, self.session.memory(), script) {
-            Ok(()) => self.earlier.clear(),
+            Ok(()) => {}
             Err(reason) => return Err(reason),
         }
         let mut past = match Past::new(alloc, self.session.memory()) {

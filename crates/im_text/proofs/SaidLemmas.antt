@@ -1,8 +1,8 @@
 -- Lines on their way to a writer, and the lines of commands. (Own.)
 use Rattle.std.proofs.Common.{◌≡◌, ℕ, Bool, true, false, ◌||◌, ◌⊎◌, List, [], ◌∷◌, ◌++◌, Ok, Err, Option, Result, sym}
 use Rattle.std.proofs.Common.{refl, ap, ◌∙◌, subst, ap₂, inl, inr, append_assoc, append-nil}
-use Rattle.std.{specs.List.list_any, proofs.Math.Bool.or_assoc, proofs.lemmas.List.Folds.list_any-append}
-use Rattle.std.proofs.KnownBytes.{Appends-nil}
+use Rattle.std.proofs.{KnownBytes.Appends-nil, lemmas.List.Folds.list_any-append, Math.Bool.or_assoc}
+use Rattle.std.specs.List.{list_any}
 use Rattle.im_types.specs.Types.{Waiter, Command, Refusal, Contents, step, after}
 use Rattle.im_text.proofs.PrintingLemmas.{batches_after, batches_all, batches_begin, batches_none}
 use Rattle.im_text.specs.declared.lines.Lines.{Lines}

@@ -1,8 +1,7 @@
 -- The lines of a script as values, how each is said, and how far they were written. (Own.)
 use Rattle.std.specs.Prelude.{◌≡◌, ℕ, ◌≤◌, Bool, false, ◌||◌, ◌⊎◌, List, [], ◌∷◌, ◌++◌, length, slice_get, MatchResult}
 use Rattle.std.specs.Prelude.{Some, None, Ok, Err, codes, decimal, Option, Result}
-use Rattle.std.specs.List.{list_any}
-use Rattle.std.specs.Io.KnownBytes.{Appends}
+use Rattle.std.specs.{Io.KnownBytes.Appends, List.list_any}
 use Rattle.im_types.specs.Types.{Entry, Waiter, Waiting, Answered, Command, Outcome, Asks, Confirm, Tells, Confirmed}
 use Rattle.im_types.specs.Types.{Refusal, Gap, Forgotten, WindowFull, Mismatch, NoElement, NotAnswered, JournalFull}
 use Rattle.im_types.specs.Types.{Device, Failed, NoMemory, TraceFull, WrongLength, NoHeader, BadHeader, BadPage}

@@ -1,5 +1,5 @@
 //! The lines of a script as values, and how each is said.
-ghost use Rattle.std.specs.Prelude.{◌≡◌, ◌++◌, OnOk, Some, codes, string_bytes};
+ghost use Rattle.std.specs.Prelude.{◌≡◌, ◌++◌, OnOk, Some, string_bytes, codes};
 ghost use Rattle.im_text.specs.Objects.{number_of_entry, word_of_entry};
 ghost use Rattle.im_text.specs.Printing.{now_line, refused_line, told_line};
 ghost use Rattle.im_text.specs.Said.{done_text, glance_object, glance_start, glance_text, line_words, object_of};

@@ -18,10 +18,10 @@ the same time. The lock is advisory: it doesn't keep another program from writin
 another file of the same name.
 
 Exit status: 0 done; 1 refused, with 'refused N NAME' as the last line; 2 a bad command line; 3 the
-elements of a run wait for each other. With --statuses, which each subcommand takes, some refusals end
-with another status than 1. The status is 4 if a file is in use by another program: another try may
-succeed. It is 5 if there is no image, if the image is damaged or old, or if there is no such file or no
-permission: another try ends the same.
+elements of a run wait for each other; 6 a strict script made an error. With --statuses, which each
+subcommand takes, some refusals end with another status than 1. The status is 4 if a file is in use by
+another program: another try may succeed. It is 5 if there is no image, if the image is damaged or old, or
+if there is no such file or no permission: another try ends the same.
 
 No subcommand opens a file under the descriptor number of a standard stream that is closed.";
 
@@ -73,7 +73,9 @@ file fetch.script, served on the image a.img, and then the rest of it after a st
   imem serial a.img fetch.script --once --json | jq -r 'select(.value).value'
 
 Exit status: 0 all was served; 1 something was refused, with 'refused N NAME' as the last line, or the
-output can't be written; 2 a bad command line. A refusal also has a line on standard error, which says why.";
+output can't be written; 2 a bad command line; with --strict 6 in the place of 0, if a reply is nospace,
+badlength, clash, nocell, wrongkind, noblock or stillwaiting. A refusal also has a line on standard error,
+which says why. So has each reply of an earlier script that is confirmed, 'confirmed K.N REPLY'.";
 
 const RUN: &str =
     "SCRIPT is what 'imem serial' reads, or - for standard input. The setup is served first, and prints its
@@ -115,7 +117,8 @@ file fetch.script, run on the image a.img, as a plan, with a trace, and again af
 
 Exit status: 0 all was answered; 1 something was refused, with 'refused N NAME' as the last line, or the
 output can't be written; 2 a bad command line; 3 the elements wait for each other, with
-'refused 19 Stalled' as the last line. A refusal also has a line on standard error, which says why.";
+'refused 19 Stalled' as the last line; 6 with --strict, as 'imem serial' says. A refusal also has a line on
+standard error, which says why. So has each reply of an earlier script that is confirmed.";
 
 const SERVE: &str =
     "Reads standard input line by line. Prints the answer to each line once what it says is on the disk.

@@ -21,6 +21,7 @@ imem serial a.img s --once = serve s on a.img, once
 imem serial --once a.img - = serve - on a.img, once
 imem serial --quiet a.img s = serve s on a.img, quietly
 imem serial a.img s --json --once = serve s on a.img, once, as JSON
+imem serial a.img s --strict = serve s on a.img, strictly
 imem run a.img s --json --planned = run s on a.img, planned, as JSON
 imem run a.img s --quiet --trace t = run s on a.img, traced to t, quietly
 imem run a.img s = run s on a.img
@@ -30,6 +31,7 @@ imem run a.img s --once = run s on a.img, once
 imem run a.img s --planned --once = run s on a.img, planned, once
 imem run --once a.img s --trace t --planned = run s on a.img, planned, once, traced to t
 imem run --once a.img - --trace t = run - on a.img, once, traced to t
+imem run --strict a.img s --once = run s on a.img, once, strictly
 imem run a.img s --trace t = run s on a.img, traced to t
 imem run --trace=t --planned a.img s --statuses = run s on a.img, planned, traced to t, by statuses
 imem serve a.img = talk on a.img, unwatched

@@ -45,4 +45,5 @@ returns-in-Err-clause-ends g c =
     let k = c.refuse_rest-status in
     inl (unrun_by g.D.Disk (wanted_of c.args.asked.script.now) old mid was.bases.items c.requires.ready
     c.show_past.ensures.session k.ensures.kept c.in-Err.ensures.shown c.in-Err.ensures.fit k.result.1
-    (g.W.Write.contents k.new.out, k.result.2) c.new.result k.result.0 k.ensures.status k.ensures.disk k.ensures.last c.new.ensures)
+    (g.W.Write.contents k.new.out, k.result.2) c.new.result k.result.0 k.ensures.status k.ensures.disk k.ensures.last
+    c.new.ensures)

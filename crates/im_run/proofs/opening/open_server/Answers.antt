@@ -1,7 +1,6 @@
-use Rattle.std.proofs.Common.{Bool, ap, ap₂, ◌∙◌}
-use Rattle.im_session.specs.Kept.{SessionState}
+use Rattle.std.proofs.Common.{Bool, ap, ◌∙◌, ap₂}
+use Rattle.{im_session.specs.Kept.SessionState, im_serial.proofs.OnceLemmas.ready_of}
 use Rattle.im_text.specs.{declared.Lines.Lines, declared.Style.Style, Said.output_by}
-use Rattle.im_serial.proofs.OnceLemmas.{ready_of}
 use Rattle.im_run.proofs.opening.open_server.Goals as goal
 
 pub returns-in-Ok-open-clause-nothing : goal.returns-in-Ok-open-clause-nothing

@@ -41,8 +41,8 @@ returns-in-Ok-clause-ended g c =
           (k.result.0 ≡ 0) k.ensures.done
           (subst (λ (x : SessionState g.row.D.Denot). ServersEnded d planned whole orders x engine trace did
           (IsOk s.result.0.done)) (c.in-Ok.ensures.found ∙ v.ensures.session) s.ensures.ended);
-      printed = subst (λ (l : Lines). Closes (g.W.Write.contents c.args.out.now) l (g.W.Write.contents k.new.out, k.result.2)
-          engine.memory did k.result.0) v.ensures.lines k.ensures.printed;
+      printed = subst (λ (l : Lines). Closes (g.W.Write.contents c.args.out.now) l
+          (g.W.Write.contents k.new.out, k.result.2) engine.memory did k.result.0) v.ensures.lines k.ensures.printed;
     }
 
 pub returns-in-Err-clause-ended : goal.returns-in-Err-clause-ended

@@ -1,4 +1,4 @@
-use Rattle.std.proofs.Common.{Bool, ap, ap₂, ◌∙◌, subst, inr}
+use Rattle.std.proofs.Common.{Bool, ap, ◌∙◌, subst, ap₂, inr}
 use Rattle.im_session.specs.Kept.{SessionState}
 use Rattle.im_text.specs.{declared.Lines.Lines, declared.Style.Style, Said.Output, Said.output, Said.output_by}
 use Rattle.im_serial.{proofs.OnceLemmas.ready_of, specs.Once.ServedOnce}

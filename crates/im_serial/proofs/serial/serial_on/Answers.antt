@@ -1,4 +1,4 @@
-use Rattle.std.proofs.Common.{Bool, ap₂, subst, inr}
+use Rattle.std.proofs.Common.{Bool, subst, ap₂, inr}
 use Rattle.im_text.specs.{declared.Style.Style, Said.Output, Said.output}
 use Rattle.im_serial.specs.Serving.{ServedScript}
 use Rattle.im_serial.proofs.serial.serial_on.Goals as goal
