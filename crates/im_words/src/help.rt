@@ -232,8 +232,7 @@ With --damaged, what the records of such an image still say is printed before th
   cell A of block BASE KIND LENGTH        its record names this block, and the record before it doesn't
   cell A waits nodes N to M               a list of requests that wait there, by its nodes
   node N K.R next M, node N K.R last      request R of element K is in a list
-  cell A damaged, node N damaged, element E damaged
-and the lines above.
+  cell A damaged, node N damaged, element E damaged, and the lines above
 
 Example: a dump of a.img, the image that is made of it, and what a damaged image still says
   imem dump a.img > a.dump
