@@ -1,12 +1,11 @@
 -- Where an element's next request stands behind commands that are asked and haven't acted yet. (Own.)
 use Rattle.std.specs.Prelude.{◌≡◌, ℕ, ◌+◌, ◌-◌, ◌<◌, ◌≤◌, min, max, Bool, ◌&&◌, List, [], ◌∷◌, if◌then◌else◌, nat_lt}
-use Rattle.std.specs.Prelude.{◌==◌, Ok, Err, Result}
-use Rattle.im_types.specs.Types.{Asks, Command, Confirm as Confirms, Contents, LAST, Refusal, Request, WINDOW}
-use Rattle.im_asks.specs.Windows.{AreAnsweredUpTo}
+use Rattle.std.specs.Prelude.{◌==◌}
+use Rattle.im_types.specs.Types.{Request, Command, Asks, Confirm as Confirms, WINDOW, LAST, Contents}
 use Rattle.im_asks.specs.declared.window_place.WindowPlace.TheVariants.{Confirm, Full, Next}
-use Rattle.im_asks.specs.declared.window_place.WindowPlace.{WindowPlace}
+use Rattle.im_asks.specs.{declared.window_place.WindowPlace.WindowPlace, Windows.AreAnsweredUpTo}
 
--- within these bounds the request is the next one, the window has a place, and the number isn't past the last one of all
+-- within these bounds the request is the next one, the window has a place, and the number isn't past the last of all
 abbrev pub takes_next : ℕ × ℕ → Request → Bool
 takes_next b r = (r.number == b.1) && (nat_lt (b.1 - b.0) WINDOW && nat_lt r.number (LAST + 1))
 

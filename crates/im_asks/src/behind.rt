@@ -1,4 +1,5 @@
 //! Where an element's next request stands behind commands that are asked and haven't acted yet.
+ghost use Rattle.std.specs.Prelude.{◌≡◌};
 ghost use Rattle.im_asks.specs.Behind.{bounds_asked, IsPlaceUpTo, takes_next};
 
 use crate::places::first_unanswered;
