@@ -283,6 +283,7 @@ static int ask(struct lts *shared, struct ticket *ticket) {
         return ltf_front_submit(shared->file, (uintptr_t)ticket, command);
     refusal = ltf_front_next(shared->file, (uintptr_t)ticket, command, kept_from(shared, command->element));
     ticket->leased = refusal == 0;
+    if (refusal == 0) lane_of(shared, ticket)->late &= ~bit(command->number);
     if (refusal == LT_WINDOW_FULL && elements_of(&shared->inside) & bit(command->element)) return LT_UNSERVED;
     return refusal;
 }

@@ -21,26 +21,30 @@ command_told (Asks r) = record {
 command_told (Confirm element upto) = record { tag = 8; element = element; address = 0; number = upto; value = 0 }
 
 -- an answer in C's form
-abbrev pub told_as : ToldAnswer → LtTold
-told_as t = record { ticket = t.asked.ticket; outcome = outcome_served t.served }
+abbrev pub told_for_c : ToldAnswer → LtTold
+told_for_c t = record { ticket = t.asked.ticket; outcome = outcome_served t.served }
 
 -- these answers at the first places, and after them what was there
 abbrev pub first_told : List ToldAnswer → List LtTold → List LtTold
-first_told told places = map told_as told ++ drop (length told) places
+first_told told places = map told_for_c told ++ drop (length told) places
 
--- what is asked at a place, in C's form: 2 for what is ahead, 1 for what isn't, and 0 if there is none
+-- 2 for what is ahead, and 1 for what isn't
+abbrev pub state_at : ℕ → ℕ → ℕ
+state_at ahead index = if nat_lt index ahead then 2 else 1
+
+-- what is asked at a place, in C's form; 0 is the state if there is none
 abbrev pub asked_told : ℕ → ℕ → Option AskedCommand → LtAsked
 asked_told ahead index None =
     record { ticket = 0; command = record { tag = 0; element = 0; address = 0; number = 0; value = 0 }; state = 0 }
 asked_told ahead index (Some a) = record {
   ticket = a.ticket;
   command = command_told a.command;
-  state = if nat_lt index ahead then 2 else 1;
+  state = state_at ahead index;
 }
 
 -- what is asked of an image at a place
-abbrev pub asked_of : ImageState → ℕ → LtAsked
-asked_of i index = asked_told (length i.engine.ahead) index (slice_get i.asked index)
+abbrev pub asked_for_c : ImageState → ℕ → LtAsked
+asked_for_c i index = asked_told (length i.engine.ahead) index (slice_get i.asked index)
 
 -- a command is asked behind all that is asked, unless as many are asked as a group has behind those that are ahead
 pub record Submits (old : ImageState) (ticket : ℕ) (c : LtCommand) (answer : ℕ) (new : ImageState) : Type 0 where
@@ -75,9 +79,10 @@ advanced_by (Ok many) answered = advanced 0 many answered
 advanced_by (Err refusal) answered = advanced (number_of refusal) 0 answered
 
 -- the chain goes on, or if there is no room and nothing is ahead, the first that is asked is refused
-abbrev pub GoesOnBy : ImageState → Result ℕ Refusal → List ToldAnswer → ImageState → Type 0
-GoesOnBy old result told new =
-    if has_no_room old then (result ≡ Ok 0) × RefusesFirst old told new else GoesOn old result told new
+pub record GoesOnBy (old : ImageState) (result : Result ℕ Refusal) (told : List ToldAnswer)
+    (new : ImageState) : Type 0 where
+  pub full : has_no_room old ≡ true → (result ≡ Ok 0) × RefusesFirst old told new
+  pub going : has_no_room old ≡ false → GoesOn old result told new
 
 -- what was done, who is told, and what the caller's file holds on the way
 pub record AdvancesBy (old : ImageState) (before : List LtTold) (done : LtAdvanced) (after : List LtTold)

@@ -1,6 +1,6 @@
 //! What is asked of an image, and what is told, in C's form.
 ghost use Rattle.std.specs.Prelude.{◌≡◌, ◌≤◌, ◌++◌, map, length, drop};
-ghost use Rattle.im_c.specs.Asked.{command_told, first_told, told_as};
+ghost use Rattle.im_c.specs.Asked.{command_told, first_told, told_for_c};
 
 use crate::group::outcome_served;
 use crate::plain::{LtCommand, LtOutcome};
@@ -67,8 +67,8 @@ pub(crate) fn command_told(command: &Command) -> LtCommand
 }
 
 // An answer in C's form.
-fn told_as(told: &ToldAnswer) -> LtTold
-    ensures { result ≡ told_as told.now }
+fn told_for_c(told: &ToldAnswer) -> LtTold
+    ensures { result ≡ told_for_c told.now }
 {
     LtTold {
         ticket: told.asked.ticket,
@@ -81,7 +81,9 @@ pub(crate) fn tell_first(told: &[ToldAnswer], places: &mut [LtTold])
     requires few { length told.now ≤ length places.old }
     ensures { places.new ≡ first_told told.now places.old }
 {
-    for i in 0..told.len() {
-        places[i] = told_as(&told[i]);
+    let mut count = 0;
+    for it in told {
+        places[count] = told_for_c(it);
+        count += 1;
     }
 }

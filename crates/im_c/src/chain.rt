@@ -55,10 +55,9 @@ fn go_on(
 {
     if image.has_no_room() {
         image.refuse_first(told);
-        Ok(0)
-    } else {
-        image.advance(told)
+        return Ok(0);
     }
+    image.advance(told)
 }
 
 // GoesOnBy those that were ahead, at the first places, and puts the next ones ahead.

@@ -1,12 +1,11 @@
 //! What is asked of an image, for C.
 ghost use Rattle.std.specs.Prelude.{◌≡◌, IsSome};
-ghost use Rattle.im_c.specs.Asked.{asked_of, asked_told, Submits, SubmitsNext};
+ghost use Rattle.im_c.specs.Asked.{asked_for_c, state_at, Submits, SubmitsNext};
 ghost use Rattle.im_c.specs.Handing.{Becomes, ShowsHeld};
 
 use crate::asked::{LtAsked, command_told};
 use crate::image::LtImage;
 use crate::plain::{LtCommand, NO_CALL, UNSERVED, meant};
-use im_front::AskedCommand;
 use im_listed::Image;
 use im_types::MAX_GROUP;
 use im_types::codes::op_of;
@@ -91,15 +90,22 @@ pub extern "C" fn lt_front_next(
     number
 }
 
-// What is asked at a place, for C.
-fn asked_told(ahead: usize, index: usize, asked: Option<&AskedCommand>) -> LtAsked
-    ensures { result ≡ asked_told ahead index asked }
+// Whether what is asked at a place is ahead: 2 if it is, and else 1.
+fn state_at(ahead: usize, index: usize) -> u8
+    ensures { result ≡ state_at ahead index }
 {
-    match asked {
+    if index < ahead { 2 } else { 1 }
+}
+
+// What is asked of an image at a place.
+fn asked_for_c(image: &Image, index: usize) -> LtAsked
+    ensures { result ≡ asked_for_c image.now index }
+{
+    match image.asked().get(index) {
         Some(asked) => LtAsked {
             ticket: asked.ticket,
             command: command_told(&asked.command),
-            state: if index < ahead { 2 } else { 1 },
+            state: state_at(image.ahead(), index),
         },
         None => LtAsked {
             ticket: 0,
@@ -115,13 +121,6 @@ fn asked_told(ahead: usize, index: usize, asked: Option<&AskedCommand>) -> LtAsk
     }
 }
 
-// What is asked of an image at a place.
-fn asked_of(image: &Image, index: usize) -> LtAsked
-    ensures { result ≡ asked_of image.now index }
-{
-    asked_told(image.ahead(), index, image.asked().get(index))
-}
-
 /// Writes what is asked at `asked`, by its place from 0. Those that are ahead come first. Nothing changes.
 #[unsafe(no_mangle)]
 pub extern "C" fn lt_held_asked(
@@ -131,9 +130,9 @@ pub extern "C" fn lt_held_asked(
     asked: &mut LtAsked,
 )
     requires some { IsSome image.value }
-    ensures found { ShowsHeld image.value next.new.value (λ i. asked.new ≡ asked_of i index) }
+    ensures found { ShowsHeld image.value next.new.value (λ i. asked.new ≡ asked_for_c i index) }
 {
     let held = image.into_box();
-    *asked = asked_of(&held, index);
+    *asked = asked_for_c(&held, index);
     *next = LtImage::of_box(held);
 }

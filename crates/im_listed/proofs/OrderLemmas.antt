@@ -1,5 +1,5 @@
 -- Those that are ahead are the first of those that are asked, whatever is called.
-use Rattle.std.proofs.Common.{◌≡◌, ℕ, zero, suc, ◌<◌, ◌≤◌, min, Bool, true, false, ◌⊎◌, List, [], ◌∷◌, ◌++◌, map}
+use Rattle.std.proofs.Common.{◌≡◌, ℕ, zero, suc, ◌-◌, ◌<◌, ◌≤◌, min, Bool, true, false, ◌⊎◌, List, [], ◌∷◌, ◌++◌, map}
 use Rattle.std.proofs.Common.{length, take, drop, Result, sym, refl, ap, ◌∙◌, subst, inl, inr, ⊎_elim, arith}
 use Rattle.im_types.specs.Types.{Command, Outcome, Served, Refused, Refusal, Device, MAX_GROUP, Contents, is_accepted}
 use Rattle.im_types.specs.Types.{as_served}
@@ -9,10 +9,14 @@ use Rattle.im_engine.specs.Answered.{Answered, SweepAnswered, TurnAnswered}
 use Rattle.im_engine.specs.{Chain.Advances, Commands.commands_put, Commands.CommandsAnswered, State.EngineState}
 use Rattle.im_front.specs.declared.{AskedCommand.AskedCommand, ToldAnswer.ToldAnswer}
 use Rattle.im_front.specs.Lists.{answers_told, asks_told, commands_asked}
-use Rattle.im_listed.specs.Listing.{Listing, with_no_steps}
+use Rattle.im_listed.specs.{Image.ImageState, Listing.Listing, Listing.with_no_steps}
 
 abbrev pub AreFirst : List Command → List AskedCommand → Type 0
 AreFirst ahead asked = commands_asked (take (length ahead) asked) ≡ ahead
+
+-- the image with this asked
+abbrev pub with_asked : ImageState → List AskedCommand → ImageState
+with_asked s asked = record s { asked = asked }
 
 -- what is ahead stays so, or nothing is ahead any more
 abbrev pub StaysAhead : EngineState Listing → EngineState Listing → Type 0
@@ -63,7 +67,7 @@ group_ahead s new members answers a f = group_by (commands_put s members) s new 
 
 pub turn_ahead : (s new : EngineState Listing) (answer : Result TurnDone Refusal) → TurnAnswered s answer new
     → s.failed ≡ false → StaysAhead s new
-turn_ahead s new answer a f = ⊎_elim (λ l. inl l.2.2.ahead) (λ r. inl (ap (λ (t : EngineState Listing). t.ahead) r.1))
+turn_ahead s new answer a f = ⊎_elim (λ l. inl l.2.ahead) (λ r. inl (ap (λ (t : EngineState Listing). t.ahead) r.1))
     (a.alive f)
 
 pub sweep_ahead : (s new : EngineState Listing) (most : ℕ) (answer : Result ℕ Refusal)
@@ -99,6 +103,22 @@ take_all (x ∷ xs) ys = ap (λ l. x ∷ l) (take_all xs ys)
 pub drop_all : {A : Type 0} (xs ys : List A) → drop (length xs) (xs ++ ys) ≡ ys
 drop_all [] ys = refl
 drop_all (x ∷ xs) ys = drop_all xs ys
+
+take_length : {A : Type 0} (xs : List A) → take (length xs) xs ≡ xs
+take_length [] = refl
+take_length (x ∷ xs) = ap (λ l. x ∷ l) (take_length xs)
+
+-- a slice from an index on is all that is behind it
+pub take_rest : {A : Type 0} (n : ℕ) (xs : List A) → take (length xs - n) (drop n xs) ≡ drop n xs
+take_rest zero xs = let e : length xs - 0 ≡ length xs = omega arith in ap (λ k. take k xs) e ∙ take_length xs
+take_rest (suc n) [] = let e : 0 - suc n ≡ 0 = omega arith in ap (λ k. take k []) e
+take_rest (suc n) (x ∷ xs) =
+    let e : suc (length xs) - suc n ≡ length xs - n = omega arith in
+    ap (λ k. take k (drop n xs)) e ∙ take_rest n xs
+
+pub append_again : {A : Type 0} (xs ys zs : List A) → (xs ++ ys) ++ zs ≡ xs ++ (ys ++ zs)
+append_again [] ys zs = refl
+append_again (x ∷ xs) ys zs = ap (λ l. x ∷ l) (append_again xs ys zs)
 
 -- more behind a list that is long enough leaves its beginning
 pub take_more : {A : Type 0} (n : ℕ) (xs ys : List A) → n ≤ length xs → take n (xs ++ ys) ≡ take n xs
@@ -194,10 +214,10 @@ length_answers m left (c ∷ cs) =
 pub told_all : (s new : EngineState Listing) (next : List Command) (result : Result ℕ Refusal) (answers : List Served)
     → Advances s next result answers new → s.failed ≡ false → length answers ≡ length s.ahead
 told_all s new next result answers a f = ⊎_elim
-    (λ l. ap (λ (x : List Served). length x) l.2.2.0
+    (λ l. ap (λ (x : List Served). length x) l.2
     ∙ length_map as_served (answers_with s.memory (places s.count s.room) s.ahead)
     ∙ length_answers s.memory (places s.count s.room) s.ahead)
-    (λ r. ap (λ (x : List Served). length x) r.1.0 ∙ length_map (λ (c : Command). Refused Device) s.ahead)
+    (λ r. ap (λ (x : List Served). length x) r.1 ∙ length_map (λ (c : Command). Refused Device) s.ahead)
     (a.alive f)
 
 -- what is ahead behind the call is the first of what is still asked
@@ -211,8 +231,8 @@ chain_first e s new asked rest told answers next result emptied f first order ar
     told_all s new next result answers a f ∙ ap (λ (t : EngineState Listing). length t.ahead) emptied in
     ⊎_elim
     (λ l. next_first e.ahead asked rest told answers first order are each l.0 new.ahead
-    (ap (λ (t : EngineState Listing). t.ahead) l.2.2.1 ∙ ap (λ (x : List Command). take l.0 x) is))
-    (λ r. subst (λ (x : List Command). AreFirst x rest) (sym (ap (λ (t : EngineState Listing). t.ahead) r.1.1)) refl)
+    (ap (λ (t : EngineState Listing). t.ahead) l.3 ∙ ap (λ (x : List Command). take l.0 x) is))
+    (λ r. subst (λ (x : List Command). AreFirst x rest) (sym (ap (λ (t : EngineState Listing). t.ahead) r.2)) refl)
     (a.alive f)
 
 -- nothing is ahead, so any are in order

@@ -1,5 +1,5 @@
 -- What is asked of an image: its numbers, and a chain of groups from the front.
-use Rattle.std.specs.Prelude.{◌≡◌, ℕ, ◌+◌, ◌-◌, min, Bool, true, false, ◌&&◌, List, [], ◌∷◌, ◌++◌, length, take, drop}
+use Rattle.std.specs.Prelude.{◌≡◌, ℕ, ◌+◌, ◌-◌, min, Bool, true, ◌&&◌, ◌⊎◌, List, [], ◌∷◌, ◌++◌, length, take, drop}
 use Rattle.std.specs.Prelude.{◌==◌, Ok, Err, Result}
 use Rattle.im_types.specs.Types.{Op, Command, Asks, Confirm as Confirms, Served, Refused, Refusal, WindowFull}
 use Rattle.im_types.specs.Types.{JournalFull, Device, MAX_GROUP, bounds}
@@ -48,11 +48,11 @@ pub record AsksNext (old : ImageState) (ticket element : ℕ) (op : Op) (most nu
       ++ with_ticket ticket (Asks (record { element = element; number = number; op = op })) ∷ [])
 
 -- why a request isn't asked: a lost step, no such element, or a full window of which nothing can be confirmed
-pub record IsNotNext (s : ImageState) (element most : ℕ) (refusal : Refusal) : Type 0 where
-  pub lost : s.lost ≡ true → refusal ≡ Device
-  pub none : (e : Refusal) → s.lost ≡ false → window_behind s element ≡ Err e → refusal ≡ e
-  pub full : (b : ℕ × ℕ) → s.lost ≡ false → window_behind s element ≡ Ok b
-      → (refusal ≡ WindowFull) × IsPlaceUpTo s.engine.memory element most b Full
+abbrev pub IsNotNext : ImageState → ℕ → ℕ → Refusal → Type 0
+IsNotNext s element most refusal =
+    ((s.lost ≡ true) × (refusal ≡ Device)) ⊎ (window_behind s element ≡ Err refusal)
+    ⊎ ((refusal ≡ WindowFull)
+    × (b : ℕ × ℕ) × (window_behind s element ≡ Ok b) × IsPlaceUpTo s.engine.memory element most b Full)
 
 -- Those that were ahead are told, and the next ones that are asked are ahead.
 pub record GoesOn (old : ImageState) (result : Result ℕ Refusal) (told : List ToldAnswer)

@@ -1,5 +1,5 @@
 //! What is asked of an image: it waits in a queue, and a request may get its element's next number.
-ghost use Rattle.std.specs.Prelude.{◌≡◌, ◌+◌, ◌<◌, ◌≤◌, true, false, [], ◌∷◌, ◌++◌, length, IfOk, IfErr, Err};
+ghost use Rattle.std.specs.Prelude.{◌≡◌, ◌+◌, ◌<◌, ◌≤◌, [], ◌∷◌, ◌++◌, length, IfOk, IfErr};
 ghost use Rattle.{im_types.specs.Types.MAX_GROUP, im_asks.specs.Behind.bounds_asked_all};
 ghost use Rattle.im_front.specs.{declared.asks.TheConstants.MOST_ASKED, Lists.commands_asked, Lists.with_ticket};
 ghost use Rattle.im_listed.specs.Asking.{asked_too, AsksNext, confirmed_before, IsNotNext, many_behind, window_behind};
@@ -12,7 +12,8 @@ use im_types::{Command, MAX_GROUP, Op, Refusal, Request};
 // Asks for the confirmation that comes before a request.
 fn confirm_before(asks: &mut Asks, element: u16, place: WindowPlace)
     requires room { length asks.old < MOST_ASKED }
-    ensures { asks.new ≡ asks.old ++ confirmed_before element place }
+    ensures asked { asks.new ≡ asks.old ++ confirmed_before element place }
+    ensures few { length asks.new ≤ length asks.old + 1 }
 {
     if let WindowPlace::Confirm { upto, .. } = place {
         asks.submit(0, &Command::Confirm { element, upto });
@@ -63,10 +64,9 @@ impl Image {
 
     // Returns the bounds of an element's window behind what is asked.
     fn window_behind(&self, element: u16) -> Result<(u64, u64), Refusal>
-        ensures lost { self.now.lost ≡ true → result ≡ Err Refusal.Device }
-        ensures answer { self.now.lost ≡ false → result ≡ window_behind self.now element }
+        ensures { result ≡ window_behind self.now element }
     {
-        match self.window(element) {
+        match self.engine.memory().window(element) {
             Ok(bounds) => Ok(moved_behind(bounds, element, self.asks.asked())),
             Err(refusal) => Err(refusal),
         }
@@ -89,6 +89,9 @@ impl Image {
         ensures refused { IfErr result (λ e. IsNotNext self.old element most e) }
         ensures same { IfErr result (λ e. self.new ≡ self.old) }
     {
+        if self.lost {
+            return Err(Refusal::Device);
+        }
         let bounds = match self.window_behind(element) {
             Ok(bounds) => bounds,
             Err(refusal) => return Err(refusal),

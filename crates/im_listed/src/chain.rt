@@ -62,7 +62,8 @@ impl Image {
 
     /// Returns whether nothing is ahead, and there is no room for more.
     pub fn has_no_room(&self) -> bool
-        ensures { result ≡ has_no_room self.now }
+        ensures room { result ≡ has_no_room self.now }
+        ensures works { self.now.lost ≡ false → self.now.engine.failed ≡ false }
     {
         self.engine.ahead().as_slice().is_empty() && self.engine.places() == 0
     }

@@ -30,9 +30,10 @@ invariant_of-self c =
     record {
       works = λ is. sym c.known-self-inside-2.ensures.failed ∙ is;
       first = chain_first c.self.inside.engine s c.advance-answer.new.self c.self.inside.asks c.tell.new.self
-          c.tell.new.told.items c.advance-answer.new.served.items c.next_group.result.items c.advance-answer.result emptied
+          c.tell.new.told.items c.advance-answer.new.served.items c.next_group-next.result.items c.advance-answer.result emptied
           here c.self.invariant.first c.tell.ensures.order (c.tell.ensures.answers ∙ c.as_slice.ensures.value)
-          c.next_group.ensures c.advance-answer.ensures.answered;
+          (c.next_group-next.ensures ∙ sym (ap (λ (i : ImageState). next_group i) c.self.view_is))
+          c.advance-answer.ensures.answered;
     }
 
 pub returns-clause-told : goal.returns-clause-told
@@ -49,7 +50,7 @@ returns-clause-told c = λ alive.
       asked = c.tell.new.self;
     } in
     let calm : new.lost ≡ false → new.engine.failed ≡ false = λ is. sym c.known-self-inside-2.ensures.failed ∙ is in
-    let next = c.next_group.result.items in
+    let next = c.next_group-next.result.items in
     let answers = c.advance-answer.new.served.items in
     let runs = c.advance-answer.ensures.runs in
     let now = c.args.self.now in
@@ -81,6 +82,5 @@ returns-clause-told c = λ alive.
       acted = told_first e.ahead c.self.inside.asks new.asked told answers c.self.invariant.first c.tell.ensures.order are
           each ∙ ap (λ (i : ImageState). i.engine.ahead) c.self.view_is;
       puts = subst (λ (l : List Command). PutsAhead now l c.advance-answer.result (answers_told told) new)
-          (c.next_group.ensures ∙ ap (λ (i : ImageState). next_group i) c.self.view_is)
-          (subst (λ (l : List Served). PutsAhead now next c.advance-answer.result l new) (sym are) puts);
+          c.next_group-next.ensures (subst (λ (l : List Served). PutsAhead now next c.advance-answer.result l new) (sym are) puts);
     }
