@@ -191,7 +191,13 @@ impl<'a> RunDesk<'a> {
         let (out, noted) = (&mut self.out, &mut self.noted);
         let context = RunContext::new(rt, alloc, gate, hearing, how.recorded);
         let script = &script;
-        let (status, disk, trace, faulted) = run_as(&context, disk, Task { script, how }, out, noted);
+        let (status, disk, trace, faulted) = run_as(
+            &context,
+            disk,
+            Task { script, how },
+            out,
+            noted,
+        );
         self.noted.note_told(heard.lock(rt).as_slice());
         self.place.lay_down(disk);
         self.print_trace(how.recorded, &trace);
@@ -277,7 +283,11 @@ impl<'a> RunDesk<'a> {
         match call {
             "#" => writeln!(self.said, "{line}"),
             "new" | "old" => self.lay(call == "old"),
-            "run" | "strict" | "plan" | "trace" | "once" | "once-plan" => self.run(rt, How::of(call), words),
+            "run" | "strict" | "plan" | "trace" | "once" | "once-plan" => self.run(
+                rt,
+                How::of(call),
+                words,
+            ),
             "fault" => self.run_failing(rt, words),
             "owed" | "once-owed" | "owed-plan" => self.run_owed(rt, How::of(call), words),
             "again" | "again-plan" => run_again(rt, self, How::of(call), words),
