@@ -17,7 +17,7 @@ use Rattle.im_text.proofs.PrintingLemmas.{take-all, take-prefix, true_false}
 use Rattle.im_text.proofs.SaidLemmas.{prints_begins, prints_none, replies_more, waits_more}
 use Rattle.im_text.specs.declared.{Lines.Lines, OutputLine.OutputLine, Waited.Waited}
 use Rattle.im_text.specs.Said.{IsLast, nows, Output, output_by, Prints, PrintsMore, PrintsNows, PrintsOn, replied}
-use Rattle.im_text.specs.Said.{replies, reply_line, SaysSome, SaysWhole, waits, waits_by, waits_if, who_of}
+use Rattle.im_text.specs.Said.{replies, reply_line, SaysSome, SaysWhole, waits, waits_by, waits_if, who_of, Written}
 use Rattle.im_serial.proofs.AskedLemmas.{due_more, named_asked, named_confirmed, named_first, request_is, stands_asked}
 use Rattle.im_serial.proofs.AskedLemmas.{stands_confirmed, stands_first, stands_here, stands_last, wanted_line}
 use Rattle.im_serial.proofs.NotedLemmas.{known_asked, noted_asked, noted_confirmed, noted_known, noted_same}

@@ -23,7 +23,9 @@ loop-number-preserved g c =
           l.invariant.0 n.ensures.named) n.ensures.kept,
     )
 
-pub returns-clause-named : goal.returns-clause-named
-returns-clause-named g c = named_until c.args.memory.now.contents
-    (left_of c.args.self.now.last.items c.args.numbers.0) c.args.numbers.0 c.args.numbers.1 c.loop-number.number
-    c.args.numbers.2 c.loop-number.self.named (omega (arith, c.loop-number-test.false)) c.loop-number.invariant.1
+pub returns : goal.returns
+returns g c = record {
+  named = named_until c.args.memory.now.contents (left_of c.args.self.now.last.items c.args.numbers.0)
+      c.args.numbers.0 c.args.numbers.1 c.loop-number.number c.args.numbers.2 c.loop-number.self.named
+      (omega (arith, c.loop-number-test.false)) c.loop-number.invariant.1;
+}
