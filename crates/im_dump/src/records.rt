@@ -1,8 +1,8 @@
 //! Says what the records of an area say, each by itself. A record that spells nothing is marked.
-ghost use Rattle.std.specs.Prelude.{◌≡◌, ◌+◌, ◌^◌, ◌<◌, List, ◌++◌, take, drop, OnOk, Some, string_bytes};
+ghost use Rattle.std.specs.Prelude.{◌≡◌, ℕ, ◌+◌, ◌^◌, ◌<◌, List, ◌++◌, take, drop, OnOk, slice_get, Some, string_bytes};
 ghost use Rattle.im_types.specs.Types.{layout_of, sizes_of, session_record_bytes};
 ghost use Rattle.{im_formats.specs.Reading.read_cell, im_text.specs.Texts.texts_below};
-ghost use Rattle.im_dump.specs.Dump.{kept_lines, window_lines};
+ghost use Rattle.im_dump.specs.Dump.{kept_entry, kept_lines, window_lines};
 ghost use Rattle.im_dump.specs.Salvage.{block_before, block_named, damaged_line, is_block, named_line, next_text};
 ghost use Rattle.im_dump.specs.Salvage.{node_told, record_there, record_told, tag_line, TellsWindow, TellsWindows};
 ghost use Rattle.im_dump.specs.Salvage.{told_cell, told_node, within_line};
@@ -12,7 +12,7 @@ use crate::writing::{add_base, add_begun, add_kept, is_new};
 use im_records::{WindowRecord, read_cell, read_node, read_session};
 use im_text::kind_text;
 use im_types::layout::{CELL_RECORD, NODE_RECORD, SESSION_RECORD, Version};
-use im_types::{Block, CellRecord, Limits, NONE, NodeRecord, PresenceTag, WINDOW, WINDOW_1};
+use im_types::{Block, CellRecord, Kept, Limits, NONE, NodeRecord, PresenceTag, WINDOW, WINDOW_1};
 use std::alloc::AllocError;
 
 /// The bytes behind the first ones.
@@ -212,15 +212,35 @@ pub(crate) fn add_told_nodes(out: &mut String, part: &[u8], nodes: u32) -> Resul
 
 // ---- windows
 
+// The entry of a window at a place.
+fn kept_at(window: &WindowRecord, i: usize) -> Option<Kept>
+    ensures { result ≡ slice_get window.now.kept i }
+{
+    window.kept().get(i).copied()
+}
+
+// Adds the line of a window's entry.
+fn add_told_entry(
+    out: &mut String,
+    element: u16,
+    window: &WindowRecord,
+    i: usize,
+) -> Result<(), AllocError>
+    requires range { window.now.base + WINDOW < 2 ^ 64 }
+    requires few { i < WINDOW }
+    ensures { OnOk result (string_bytes out.new
+        ≡ string_bytes out.old ++ kept_entry element (window.now.base + i) (slice_get window.now.kept i)) }
+{
+    add_kept(out, element, window.base() + i as u64, kept_at(window, i))
+}
+
 // Adds the lines of a window's entries.
 fn add_told_entries(out: &mut String, element: u16, window: &WindowRecord) -> Result<(), AllocError>
     requires range { window.now.base + WINDOW < 2 ^ 64 }
     ensures { OnOk result (string_bytes out.new ≡ string_bytes out.old ++ kept_lines element window.now) }
 {
-    let kept = window.kept();
-    let base = window.base();
-    for i in 0..kept.len() {
-        add_kept(out, element, base + i as u64, kept.get(i).copied())?;
+    for i in 0..window.kept().len() {
+        add_told_entry(out, element, window, i)?;
     }
     Ok(())
 }

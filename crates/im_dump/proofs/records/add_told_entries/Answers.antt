@@ -5,4 +5,4 @@ pub loop-i-init : goal.loop-i-init
 loop-i-init c = written_none _ _
 
 pub loop-i-preserved : goal.loop-i-preserved
-loop-i-preserved c = ?
+loop-i-preserved c = written_more _ _ _ _ _ c.loop-i.invariant c.in_ok-add_told_entry.ensures
