@@ -1,26 +1,15 @@
 -- What is told of the bytes of an area, and that it was written. (Own.)
-use Rattle.std.proofs.Common.{◌≡◌, ℕ, suc, ◌+◌, ◌-◌, ◌*◌, ◌<◌, ◌≤◌, min, Bool, true, false, ◌⊎◌, ◌↔◌, List, [], ◌++◌}
-use Rattle.std.proofs.Common.{length, take, drop, IfSome, if◌then◌else◌, OnOk, IsSome, nat_lt, Some, None, Ok, Err}
-use Rattle.std.proofs.Common.{Option, Result, option_map, sym, refl, ap, ◌∙◌, subst, ap₂, inl, inr, append_assoc}
-use Rattle.std.proofs.Common.{append-nil, arith, length-drop, rules}
-use Rattle.std.proofs.lemmas.{Bool.Decides.nat_tests, List.drop_min, List.take_min}
-use Rattle.std.specs.{Io.KnownBytes.Appends, Option.option_or}
-use Rattle.im_types.specs.Types.{Refusal, Device, NoMemory, Window, Layout, layout_named, page_bytes, node_count}
-use Rattle.im_types.specs.Types.{cell_pages, node_pages, Header, header_in, spells_header, header_place, layout_in}
-use Rattle.im_types.specs.Types.{Reads}
-use Rattle.{im_records.specs.Entries.SpellsSession, im_text.specs.Texts.texts_below}
+use Rattle.std.proofs.Common.{◌≡◌, ℕ, suc, ◌+◌, ◌*◌, ◌≤◌, Bool, true, false, ◌⊎◌, ◌↔◌, List, [], ◌++◌, length, drop}
+use Rattle.std.proofs.Common.{IfSome, if◌then◌else◌, OnOk, IsSome, nat_lt, Some, None, Ok, Err, Option, Result}
+use Rattle.std.proofs.Common.{option_map, sym, refl, ap, ◌∙◌, subst, ap₂, inl, inr, append_assoc, append-nil, arith}
+use Rattle.std.proofs.Common.{rules}
+use Rattle.std.{proofs.lemmas.Bool.Decides.nat_tests, specs.Io.KnownBytes.Appends, specs.Option.option_or}
+use Rattle.im_types.specs.Types.{Refusal, Device, NoMemory, Layout, layout_named, page_bytes, node_count, cell_pages}
+use Rattle.im_types.specs.Types.{node_pages, Header, header_in, spells_header, header_place, layout_in, Reads}
+use Rattle.im_text.specs.Texts.{texts_below}
 use Rattle.im_dump.{proofs.WritingLemmas.joined, specs.Dump.head_lines, specs.Dump.last_line}
-use Rattle.im_dump.specs.Salvage.{area_line, best_header, best_of, is_second_first, Salvages, spelled_header}
-use Rattle.im_dump.specs.Salvage.{SpellsWindow, TellsArea, TellsFile, TellsWindow, TellsWindows, told_cell, told_node}
-
--- the bytes from a place on, as far as they are there
-pub there : (at size from : ℕ) (file : List ℕ) → from ≡ min at (length file)
-    → take (min size (length file - from)) (drop from file) ≡ take size (drop at file)
-there at size from file is =
-    let same : drop from file ≡ drop at file = ap (λ n. drop n file) is ∙ drop_min at file in
-    let many : length file - from ≡ length (drop at file) = sym (length-drop from file) ∙ ap length same in
-    ap (λ xs. take (min size (length file - from)) xs) same
-    ∙ ap (λ n. take (min size n) (drop at file)) many ∙ take_min size (drop at file)
+use Rattle.im_dump.specs.Salvage.{area_line, best_header, best_of, is_second_first, Salvages, spelled_header, TellsArea}
+use Rattle.im_dump.specs.Salvage.{TellsFile, TellsWindow, TellsWindows, told_cell, told_node}
 
 -- no window is told yet
 pub none_told : (l : Layout) (part : List ℕ) (start : List ℕ)
@@ -46,12 +35,6 @@ one_told_more l part n start was now (before, told, is) (more, one, added) =
       added ∙ ap (λ xs. xs ++ more) is ∙ append_assoc start before more,
     )
 
--- bytes of which no window is read spell none
-pub spells_none : (l : Layout) (bytes : List ℕ) (read : Option Window) → read ≡ None
-    → ((w : Window) → SpellsSession l bytes w → read ≡ Some w) → SpellsWindow l bytes None
-spells_none l bytes read none only w spells =
-    let some : None ≡ Some w = sym none ∙ only w spells in absurd (cc)
-
 -- the header that is found at the places is that of a file with room for them
 pub best_found : (file zero one : List ℕ) (found : Option Header) → 8192 ≤ length file → zero ≡ header_place 0 file
     → one ≡ header_place 1 file → found ≡ best_of zero one → found ≡ best_header file
@@ -59,12 +42,6 @@ best_found file zero one found room is_zero is_one is =
     let long : nat_lt (length file) 8192 ≡ false = grind (arith, nat_tests) in
     is ∙ ap (λ zero. best_of zero one) is_zero ∙ ap (λ one. best_of (header_place 0 file) one) is_one
     ∙ sym (ap (λ test. if test then None else best_of (header_place 0 file) (header_place 1 file)) long)
-
--- a file with no room for them has none
-pub none_best : (file : List ℕ) → length file < 8192 → None ≡ best_header file
-none_best file short =
-    let is : nat_lt (length file) 8192 ≡ true = grind (arith, nat_tests) in
-    sym (ap (λ test. if test then None else best_of (header_place 0 file) (header_place 1 file)) is)
 
 no_some : (A : Type 0) → IsSome {T = A} None → ⊥
 no_some A some = search rules

@@ -7,7 +7,8 @@ ghost use Rattle.im_dump.specs.Salvage.{area_line, area_there, best_header, best
 ghost use Rattle.im_dump.specs.Salvage.{spelled_header, TellsArea, WasSalvaged, WasToldBy};
 
 use crate::dumping::write_dump;
-use crate::records::{add_told_cells, add_told_nodes, add_told_windows, behind, node_count};
+use crate::records::{add_told_cells, add_told_nodes, behind, node_count};
+use crate::windows::add_told_windows;
 use crate::writing::{add_head, add_last};
 use byteorder::{ByteOrder, LittleEndian};
 use im_disk::{DeviceFault, Disk};

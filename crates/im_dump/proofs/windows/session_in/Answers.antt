@@ -1,4 +1,4 @@
-use Rattle.im_dump.proofs.records.session_in.Goals as goal
+use Rattle.im_dump.proofs.windows.session_in.Goals as goal
 
 pub returns-in-One : goal.returns-in-One
 returns-in-One c = rw c.in-One.is c.record_in.ensures

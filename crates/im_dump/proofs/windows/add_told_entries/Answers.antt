@@ -1,5 +1,5 @@
 use Rattle.im_text.proofs.TextLemmas.{written_more, written_none}
-use Rattle.im_dump.proofs.records.add_told_entries.Goals as goal
+use Rattle.im_dump.proofs.windows.add_told_entries.Goals as goal
 
 pub loop-i-init : goal.loop-i-init
 loop-i-init c = written_none _ _
