@@ -106,7 +106,8 @@ area_told (Ok x) h area l nodes windows many start one two three four five six l
     let a = area_line h.area in
     let b = a ++ head_lines s h.count in
     let c = b ++ texts_below (told_cell area) s.cells in
-    let d = c ++ texts_below (told_node (drop (page_bytes * cell_pages s) area)) (node_count (layout_named h.version) s) in
+    let part = drop (page_bytes * cell_pages s) area in
+    let d = c ++ texts_below (told_node part) (node_count (layout_named h.version) s) in
     let e = d ++ text in (
       e ++ last_line,
       record { windows = text; told = told_so; is = refl },

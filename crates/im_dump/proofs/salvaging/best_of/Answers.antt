@@ -5,7 +5,8 @@ use Rattle.im_dump.proofs.salvaging.best_of.Goals as goal
 
 pub returns-then-is_second_first-clause-found : goal.returns-then-is_second_first-clause-found
 returns-then-is_second_first-clause-found c = second_chosen seen _ _ _ c.args.zero.now c.args.one.now
-    c.spelled-first.ensures.found c.spelled-second.ensures.found c.or.ensures (sym c.is_second_first.ensures ∙ c.if-is_second_first.true)
+    c.spelled-first.ensures.found c.spelled-second.ensures.found c.or.ensures
+    (sym c.is_second_first.ensures ∙ c.if-is_second_first.true)
 
 pub returns-else-is_second_first-clause-found : goal.returns-else-is_second_first-clause-found
 returns-else-is_second_first-clause-found c = first_chosen seen _ _ _ c.args.zero.now c.args.one.now
