@@ -1,20 +1,15 @@
 -- What is told of the bytes of an area, and that it was written. (Own.)
-use Rattle.std.proofs.Common.{◌≡◌, ℕ, suc, ◌+◌, ◌-◌, ◌<◌, ◌≤◌, min, true, false, List, [], ◌++◌, length, take, drop}
-use Rattle.std.proofs.Common.{if◌then◌else◌, nat_lt, Some, None, Option, sym, refl, ap, ◌∙◌, subst, append_assoc}
-use Rattle.std.proofs.Common.{append-nil, arith, length-drop}
-use Rattle.std.proofs.lemmas.{Bool.Decides.nat_tests, List.drop_min, List.take_min}
-use Rattle.im_types.specs.Types.{Window, Layout, Header, header_place}
-use Rattle.im_records.specs.Entries.{SpellsSession}
-use Rattle.im_dump.specs.Salvage.{best_header, best_of, SpellsWindow, TellsWindow, TellsWindows}
-
--- the bytes from a place on, as far as they are there
-pub there : (at size from : ℕ) (file : List ℕ) → from ≡ min at (length file)
-    → take (min size (length file - from)) (drop from file) ≡ take size (drop at file)
-there at size from file is =
-    let same : drop from file ≡ drop at file = ap (λ n. drop n file) is ∙ drop_min at file in
-    let many : length file - from ≡ length (drop at file) = sym (length-drop from file) ∙ ap length same in
-    ap (λ xs. take (min size (length file - from)) xs) same
-    ∙ ap (λ n. take (min size n) (drop at file)) many ∙ take_min size (drop at file)
+use Rattle.std.proofs.Common.{◌≡◌, ℕ, suc, ◌+◌, ◌*◌, ◌≤◌, Bool, true, false, ◌⊎◌, ◌↔◌, List, [], ◌++◌, length, drop}
+use Rattle.std.proofs.Common.{IfSome, if◌then◌else◌, OnOk, IsSome, nat_lt, Some, None, Ok, Err, Option, Result}
+use Rattle.std.proofs.Common.{option_map, sym, refl, ap, ◌∙◌, subst, ap₂, inl, inr, append_assoc, append-nil, arith}
+use Rattle.std.proofs.Common.{rules}
+use Rattle.std.{proofs.lemmas.Bool.Decides.nat_tests, specs.Io.KnownBytes.Appends, specs.Option.option_or}
+use Rattle.im_types.specs.Types.{Refusal, Device, NoMemory, Layout, layout_named, page_bytes, node_count, cell_pages}
+use Rattle.im_types.specs.Types.{node_pages, Header, header_in, spells_header, header_place, layout_in, Reads}
+use Rattle.im_text.specs.Texts.{texts_below}
+use Rattle.im_dump.{proofs.WritingLemmas.joined, specs.Dump.head_lines, specs.Dump.last_line}
+use Rattle.im_dump.specs.Salvage.{area_line, best_header, best_of, is_second_first, Salvages, spelled_header, TellsArea}
+use Rattle.im_dump.specs.Salvage.{TellsFile, TellsWindow, TellsWindows, told_cell, told_node}
 
 -- no window is told yet
 pub none_told : (l : Layout) (part : List ℕ) (start : List ℕ)
@@ -40,12 +35,6 @@ one_told_more l part n start was now (before, told, is) (more, one, added) =
       added ∙ ap (λ xs. xs ++ more) is ∙ append_assoc start before more,
     )
 
--- bytes of which no window is read spell none
-pub spells_none : (l : Layout) (bytes : List ℕ) (read : Option Window) → read ≡ None
-    → ((w : Window) → SpellsSession l bytes w → read ≡ Some w) → SpellsWindow l bytes None
-spells_none l bytes read none only w spells =
-    let some : None ≡ Some w = sym none ∙ only w spells in absurd (cc)
-
 -- the header that is found at the places is that of a file with room for them
 pub best_found : (file zero one : List ℕ) (found : Option Header) → 8192 ≤ length file → zero ≡ header_place 0 file
     → one ≡ header_place 1 file → found ≡ best_of zero one → found ≡ best_header file
@@ -54,8 +43,93 @@ best_found file zero one found room is_zero is_one is =
     is ∙ ap (λ zero. best_of zero one) is_zero ∙ ap (λ one. best_of (header_place 0 file) one) is_one
     ∙ sym (ap (λ test. if test then None else best_of (header_place 0 file) (header_place 1 file)) long)
 
--- a file with no room for them has none
-pub none_best : (file : List ℕ) → length file < 8192 → None ≡ best_header file
-none_best file short =
-    let is : nat_lt (length file) 8192 ≡ true = grind (arith, nat_tests) in
-    sym (ap (λ test. if test then None else best_of (header_place 0 file) (header_place 1 file)) is)
+no_some : (A : Type 0) → IsSome {T = A} None → ⊥
+no_some A some = search rules
+
+none_spelled : (test : Bool) (h : Header) → (test ≡ true → ⊥) → None ≡ (if test then Some h else None)
+none_spelled true h never = absurd (never refl)
+none_spelled false h never = refl
+
+-- a header that was read is the one that is spelled
+pub spelled_is : {H : Type 0} (see : H → Header) (number : ℕ) (bytes : List ℕ) (read : Option H)
+    → IfSome read (λ h. see h ≡ header_in bytes)
+    → (IsSome read ↔ (spells_header (layout_named (header_in bytes).version) number bytes ≡ true))
+    → option_map see read ≡ spelled_header number bytes
+spelled_is see number bytes (Some h) found only =
+    ap Some found ∙ sym (ap (λ test. if test then Some (header_in bytes) else None) (only.0 refl))
+spelled_is {H} see number bytes None found only =
+    none_spelled _ (header_in bytes) (λ spelled. no_some H (only.1 spelled))
+
+map_or : {A B : Type 0} (f : A → B) (x y : Option A)
+    → option_map f (option_or x y) ≡ option_or (option_map f x) (option_map f y)
+map_or f None y = refl
+map_or f (Some x) y = refl
+
+module _ {H : Type 0} (see : H → Header) (x y r : Option H) (zero one : List ℕ)
+    (first : option_map see x ≡ spelled_header 0 zero) (second : option_map see y ≡ spelled_header 1 one) where
+  -- the second of two headers comes first
+  pub second_chosen : r ≡ option_or y x → is_second_first zero one ≡ true → option_map see r ≡ best_of zero one
+  second_chosen is test =
+      ap (option_map see) is ∙ map_or see y x ∙ ap₂ option_or second first
+      ∙ sym (ap (λ test. if test then option_or (spelled_header 1 one) (spelled_header 0 zero)
+      else option_or (spelled_header 0 zero) (spelled_header 1 one)) test)
+
+  -- the first one does
+  pub first_chosen : r ≡ option_or x y → is_second_first zero one ≡ false → option_map see r ≡ best_of zero one
+  first_chosen is test =
+      ap (option_map see) is ∙ map_or see x y ∙ ap₂ option_or first second
+      ∙ sym (ap (λ test. if test then option_or (spelled_header 1 one) (spelled_header 0 zero)
+      else option_or (spelled_header 0 zero) (spelled_header 1 one)) test)
+
+-- ---- the whole
+
+-- the parts of what an area says, written one after another
+pub area_told : {T E : Type 0} (r : Result T E) (h : Header) (area : List ℕ) (l : Layout) (nodes windows : List ℕ)
+    (many : ℕ) (start one two three four five six : List ℕ) → l ≡ layout_named h.version
+    → nodes ≡ drop (page_bytes * cell_pages h.sizes) area → windows ≡ drop (page_bytes * node_pages l h.sizes) nodes
+    → many ≡ node_count l h.sizes → one ≡ start ++ area_line h.area → two ≡ one ++ head_lines h.sizes h.count
+    → three ≡ two ++ texts_below (told_cell area) h.sizes.cells → four ≡ three ++ texts_below (told_node nodes) many
+    → ((text : List ℕ) × TellsWindows l windows h.sizes.elements text × (five ≡ four ++ text))
+    → OnOk r (six ≡ five ++ last_line)
+    → OnOk r ((text : List ℕ) × TellsArea h area text × (six ≡ start ++ text))
+area_told (Ok x) h area l nodes windows many start one two three four five six layout at behind count i ii iii iv
+    (text, told, v) vi =
+    let s = h.sizes in
+    let here = subst (λ (w : List ℕ). TellsWindows l w s.elements text) behind told in
+    let there = subst (λ (n : List ℕ). TellsWindows l (drop (page_bytes * node_pages l s) n) s.elements text) at here in
+    let told_so = subst (λ (k : Layout). TellsWindows k (drop (page_bytes * node_pages k s)
+    (drop (page_bytes * cell_pages s) area)) s.elements text) layout there in
+    let of_nodes : texts_below (told_node nodes) many
+    ≡ texts_below (told_node (drop (page_bytes * cell_pages s) area)) (node_count (layout_named h.version) s)
+    = ap₂ (λ (part : List ℕ) (n : ℕ). texts_below (told_node part) n) at
+    (count ∙ ap (λ (k : Layout). node_count k s) layout) in
+    let a = area_line h.area in
+    let b = a ++ head_lines s h.count in
+    let c = b ++ texts_below (told_cell area) s.cells in
+    let part = drop (page_bytes * cell_pages s) area in
+    let d = c ++ texts_below (told_node part) (node_count (layout_named h.version) s) in
+    let e = d ++ text in (
+      e ++ last_line,
+      record { windows = text; told = told_so; is = refl },
+      joined start e last_line (joined start d text (joined start c _ (joined start b _ (joined start a _ i ii) iii)
+          (iv ∙ ap (λ xs. three ++ xs) of_nodes)) v) vi,
+    )
+area_told (Err x) h area l nodes windows many start one two three four five six layout at behind count i ii iii iv told
+    vi = tt
+
+-- what a fault is, if the disk is honest
+fault_is : {A B R H : Type 0} → H → A ⊎ B ⊎ (H → R) → A ⊎ B ⊎ R
+fault_is honest (inl a) = inl a
+fault_is honest (inr (inl b)) = inr (inl b)
+fault_is honest (inr (inr reads)) = inr (inr (reads honest))
+
+-- a file was told of behind a refusal, whose bytes stayed
+pub salvaged : {H : Type 0} (fault : Refusal) (file read : List ℕ) (was now : Option (List ℕ)) → H → read ≡ file
+    → (fault ≡ NoMemory) ⊎ (fault ≡ Device) ⊎ (H → Reads (layout_in file) file (Err fault))
+    → ((text : List ℕ) × TellsFile (best_header read) read text × Appends was now text) → Salvages file fault was now
+salvaged fault file read was now honest same why (text, tells, added) = record {
+  why = fault_is honest why;
+  text = text;
+  tells = subst (λ (file : List ℕ). TellsFile (best_header file) file text) same tells;
+  added = added;
+}

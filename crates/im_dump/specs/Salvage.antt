@@ -2,7 +2,7 @@
 use Rattle.std.specs.Prelude.{◌≡◌, ℕ, zero, suc, ◌+◌, ◌-◌, ◌*◌, Bool, false, ◌&&◌, ◌||◌, ◌⊎◌, List, [], ◌++◌, length}
 use Rattle.std.specs.Prelude.{take, drop, if◌then◌else◌, nat_lt, ◌==◌, Some, None, Err, codes, decimal, Option}
 use Rattle.std.specs.{Io.KnownBytes.Appends, Option.option_or}
-use Rattle.im_types.specs.Types.{Block, Refusal, Device, NoMemory, NONE, Window, same_kind, Layout, layout_named, Sizes}
+use Rattle.im_types.specs.Types.{Block, Refusal, Device, NoMemory, NONE, Window, same_kind, Layout, layout_named}
 use Rattle.im_types.specs.Types.{page_bytes, cell_record_bytes, node_record_bytes, session_record_bytes, node_count}
 use Rattle.im_types.specs.Types.{cell_pages, node_pages, area_bytes, area_at, Header, header_in, spells_header}
 use Rattle.im_types.specs.Types.{header_place, is_open_header, generation_in, layout_in, PresenceTag, CellRecord}
@@ -22,15 +22,15 @@ spelled_header number place =
 
 -- whether the second of two places comes first: it alone is open, or its generation is the greater one
 abbrev pub is_second_first : List ℕ → List ℕ → Bool
-is_second_first zero one =
-    if is_open_header zero then is_open_header one && nat_lt (generation_in zero) (generation_in one)
-    else is_open_header one || nat_lt (generation_in zero) (generation_in one)
+is_second_first first second =
+    if is_open_header first then is_open_header second && nat_lt (generation_in first) (generation_in second)
+    else is_open_header second || nat_lt (generation_in first) (generation_in second)
 
 -- the header that is spelled at the place that comes first, or else at the other one
 abbrev pub best_of : List ℕ → List ℕ → Option Header
-best_of zero one =
-    if is_second_first zero one then option_or (spelled_header 1 one) (spelled_header 0 zero)
-    else option_or (spelled_header 0 zero) (spelled_header 1 one)
+best_of first second =
+    if is_second_first first second then option_or (spelled_header 1 second) (spelled_header 0 first)
+    else option_or (spelled_header 0 first) (spelled_header 1 second)
 
 -- the header whose area is read: the one in force, if it is spelled
 abbrev pub best_header : List ℕ → Option Header
@@ -134,7 +134,7 @@ TellsWindows l part (suc n) text =
 
 -- the first line: which area is read, and that the journal behind it isn't
 abbrev pub area_line : ℕ → List ℕ
-area_line area = codes "imem salvage 1 of area " ++ decimal area ++ codes ", without the journal" ++ line_feed
+area_line area = codes "imem salvage 1 without the journal, of area " ++ decimal area ++ line_feed
 
 -- the same if no header can be read
 abbrev pub no_area_line : List ℕ
@@ -172,7 +172,7 @@ pub record WasToldBy (best : Option Header) (Honest : Type 0) (file : List ℕ) 
 -- A file was refused for this reason, and what its bytes say was written. It is damaged, or memory was short, or a call
 -- of the disk failed.
 pub record Salvages (file : List ℕ) (fault : Refusal) (was now : Option (List ℕ)) : Type 0 where
-  pub fault : (fault ≡ NoMemory) ⊎ (fault ≡ Device) ⊎ Reads (layout_in file) file (Err fault)
+  pub why : (fault ≡ NoMemory) ⊎ (fault ≡ Device) ⊎ Reads (layout_in file) file (Err fault)
   pub text : List ℕ
   pub tells : TellsFile (best_header file) file text
   pub added : Appends was now text

@@ -14,6 +14,7 @@ mod lines;
 mod loading;
 mod records;
 mod salvaging;
+mod windows;
 mod words;
 mod writing;
 

@@ -1,17 +1,17 @@
-//! Says what the records of an area say, each by itself. A record that spells nothing is marked.
-ghost use Rattle.std.specs.Prelude.{◌≡◌, ◌+◌, ◌^◌, ◌<◌, List, ◌++◌, take, drop, OnOk, Some, string_bytes};
-ghost use Rattle.im_types.specs.Types.{layout_of, sizes_of, session_record_bytes};
+//! Says what the records of an area's cells and waiter nodes say, each by itself. A record that spells nothing is
+//! marked.
+ghost use Rattle.std.specs.Prelude.{◌≡◌, ◌++◌, take, drop, OnOk, string_bytes};
+ghost use Rattle.im_types.specs.Types.{layout_of, sizes_of};
 ghost use Rattle.{im_formats.specs.Reading.read_cell, im_text.specs.Texts.texts_below};
-ghost use Rattle.im_dump.specs.Dump.{kept_lines, window_lines};
 ghost use Rattle.im_dump.specs.Salvage.{block_before, block_named, damaged_line, is_block, named_line, next_text};
-ghost use Rattle.im_dump.specs.Salvage.{node_told, record_there, record_told, tag_line, TellsWindow, TellsWindows};
-ghost use Rattle.im_dump.specs.Salvage.{told_cell, told_node, within_line};
+ghost use Rattle.im_dump.specs.Salvage.{node_told, record_there, record_told, tag_line, told_cell, told_node};
+ghost use Rattle.im_dump.specs.Salvage.{within_line};
 ghost use Rattle.im_types.specs.Layout as layout;
 
-use crate::writing::{add_base, add_begun, add_kept, is_new};
-use im_records::{WindowRecord, read_cell, read_node, read_session};
+use crate::writing::add_begun;
+use im_records::{read_cell, read_node};
 use im_text::kind_text;
-use im_types::layout::{CELL_RECORD, NODE_RECORD, SESSION_RECORD, Version};
+use im_types::layout::{CELL_RECORD, NODE_RECORD, Version};
 use im_types::{Block, CellRecord, Limits, NONE, NodeRecord, PresenceTag, WINDOW, WINDOW_1};
 use std::alloc::AllocError;
 
@@ -22,16 +22,16 @@ pub(crate) fn behind(bytes: &[u8], many: usize) -> &[u8]
     &bytes[many.min(bytes.len())..]
 }
 
-// The bytes of a record at a place, as far as they are there.
-fn record_in(part: &[u8], at: usize, size: usize) -> &[u8]
+/// The bytes of a record at a place, as far as they are there.
+pub(crate) fn record_in(part: &[u8], at: usize, size: usize) -> &[u8]
     ensures { result.now ≡ take size (drop at part.now) }
 {
     let rest = behind(part, at);
     &rest[..size.min(rest.len())]
 }
 
-// Adds the line of a record that can't be read.
-fn add_damaged(out: &mut String, word: &str, n: u32) -> Result<(), AllocError>
+/// Adds the line of a record that can't be read.
+pub(crate) fn add_damaged(out: &mut String, word: &str, n: u32) -> Result<(), AllocError>
     ensures { OnOk result (string_bytes out.new ≡ string_bytes out.old ++ damaged_line word.now n) }
 {
     writeln!(out, "{word} {n} damaged")
@@ -206,76 +206,6 @@ pub(crate) fn add_told_nodes(out: &mut String, part: &[u8], nodes: u32) -> Resul
 {
     for n in 0..nodes {
         add_told_node(out, part, n)?;
-    }
-    Ok(())
-}
-
-// ---- windows
-
-// Adds the lines of a window's entries.
-fn add_told_entries(out: &mut String, element: u16, window: &WindowRecord) -> Result<(), AllocError>
-    requires range { window.now.base + WINDOW < 2 ^ 64 }
-    ensures { OnOk result (string_bytes out.new ≡ string_bytes out.old ++ kept_lines element window.now) }
-{
-    let kept = window.kept();
-    let base = window.base();
-    for i in 0..kept.len() {
-        add_kept(out, element, base + i as u64, kept.get(i).copied())?;
-    }
-    Ok(())
-}
-
-// Adds the lines of a window, if its element has asked anything.
-fn add_told_window(out: &mut String, element: u16, window: &WindowRecord) -> Result<(), AllocError>
-    requires range { window.now.base + WINDOW < 2 ^ 64 }
-    ensures { OnOk result (string_bytes out.new
-        ≡ string_bytes out.old ++ window_lines element (Some window.now)) }
-{
-    if is_new(window.base(), window.kept().len() as u64) {
-        return Ok(());
-    }
-    add_base(out, element, window.base())?;
-    add_told_entries(out, element, window)
-}
-
-// The bytes of an element's record.
-fn session_in(version: Version, part: &[u8], element: u16) -> &[u8]
-    ensures { result.now ≡ record_there (session_record_bytes (layout_of version)) part.now element }
-{
-    match version {
-        Version::One => record_in(part, 1_024 * element as usize, 1_024),
-        Version::Two => record_in(part, SESSION_RECORD * element as usize, SESSION_RECORD),
-    }
-}
-
-// Adds what the record of an element says.
-fn add_element(
-    out: &mut String,
-    version: Version,
-    part: &[u8],
-    element: u16,
-) -> Result<(), AllocError>
-    ensures { OnOk result ((text : List ℕ) × TellsWindow (layout_of version) part.now element text
-        × (string_bytes out.new ≡ string_bytes out.old ++ text)) }
-{
-    match read_session(version, session_in(version, part, element)) {
-        Some(window) => add_told_window(out, element, &window),
-        None => add_damaged(out, "element", element as u32),
-    }
-}
-
-/// Adds what the records of an area's elements say, by number.
-pub(crate) fn add_told_windows(
-    out: &mut String,
-    version: Version,
-    part: &[u8],
-    elements: u16,
-) -> Result<(), AllocError>
-    ensures { OnOk result ((text : List ℕ) × TellsWindows (layout_of version) part.now elements text
-        × (string_bytes out.new ≡ string_bytes out.old ++ text)) }
-{
-    for element in 0..elements {
-        add_element(out, version, part, element)?;
     }
     Ok(())
 }

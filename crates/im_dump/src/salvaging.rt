@@ -1,13 +1,14 @@
 //! Writes what the bytes of a damaged image still say, record by record.
-ghost use Rattle.std.specs.Prelude.{◌≡◌, ◌≤◌, List, ◌++◌, take, drop, IfSome, IfOk, OnOk, string_bytes, option_map};
+ghost use Rattle.std.specs.Prelude.{◌≡◌, ℕ, ◌≤◌, List, ◌++◌, take, drop, IfSome, IfOk, OnOk, string_bytes, option_map};
 ghost use Rattle.std.specs.Io.KnownBytes.{Appends};
 ghost use Rattle.im_types.specs.Types.{is_open_header, generation_in};
 ghost use Rattle.{im_disk.specs.Runs.ReadsAlone, im_disk.specs.Runs.ReadsOrFails, im_image.specs.Headers.seen};
-ghost use Rattle.im_dump.specs.Salvage.{area_there, best_header, best_of, is_second_first, IsReadAs, TellsArea};
-ghost use Rattle.im_dump.specs.Salvage.{WasSalvaged, WasToldBy};
+ghost use Rattle.im_dump.specs.Salvage.{area_line, area_there, best_header, best_of, is_second_first, IsReadAs};
+ghost use Rattle.im_dump.specs.Salvage.{spelled_header, TellsArea, WasSalvaged, WasToldBy};
 
 use crate::dumping::write_dump;
-use crate::records::{add_told_cells, add_told_nodes, add_told_windows, behind, node_count};
+use crate::records::{add_told_cells, add_told_nodes, behind, node_count};
+use crate::windows::add_told_windows;
 use crate::writing::{add_head, add_last};
 use byteorder::{ByteOrder, LittleEndian};
 use im_disk::{DeviceFault, Disk};
@@ -46,13 +47,22 @@ fn is_second_first(zero: &[u8; 64], one: &[u8; 64]) -> bool
     }
 }
 
+// The header that a place spells for this area, whatever its gate is.
+fn spelled(place: &[u8; 64], number: u8) -> Option<Header>
+    requires { number ≤ 1 }
+    ensures found { option_map seen result ≡ spelled_header number place.now }
+    ensures range { IfSome result (λ h. h.area ≤ 1) }
+{
+    Header::read(place, number)
+}
+
 // The header that is spelled at the place that comes first, or else at the other one.
 fn best_of(zero: &[u8; 64], one: &[u8; 64]) -> Option<Header>
     ensures found { option_map seen result ≡ best_of zero.now one.now }
     ensures range { IfSome result (λ h. h.area ≤ 1) }
 {
-    let first = Header::read(zero, 0);
-    let second = Header::read(one, 1);
+    let first = spelled(zero, 0);
+    let second = spelled(one, 1);
     if is_second_first(zero, one) {
         second.or(first)
     } else {
@@ -116,16 +126,22 @@ fn read_area<D: Disk>(alloc: Global, disk: &mut D, header: &Header) -> Result<Ve
     read_there(alloc, disk, at, PAGE * version.area_pages(limits))
 }
 
+// Adds the first line.
+fn add_area_line(out: &mut String, area: u8) -> Result<(), AllocError>
+    ensures { OnOk result (string_bytes out.new ≡ string_bytes out.old ++ area_line area) }
+{
+    writeln!(out, "imem salvage 1 without the journal, of area {area}")
+}
+
 // Adds what the bytes of an area say.
 fn add_area(out: &mut String, header: &Header, area: &[u8]) -> Result<(), AllocError>
     ensures { OnOk result ((text : List ℕ) × TellsArea (seen header.now) area.now text
         × (string_bytes out.new ≡ string_bytes out.old ++ text)) }
 {
     let (version, limits) = (header.layout(), header.limits);
-    let number = header.area;
     let nodes = behind(area, cell_bytes(limits));
     let windows = behind(nodes, version.node_bytes(limits));
-    writeln!(out, "imem salvage 1 of area {number}, without the journal")?;
+    add_area_line(out, header.area)?;
     add_head(out, limits, header.count)?;
     add_told_cells(out, area, limits.cells)?;
     add_told_nodes(out, nodes, node_count(version, limits))?;

@@ -228,7 +228,7 @@ slots}, count} on a line, where dump is 1 and count a string, and then the lines
 blocks, cells, elements and entries. An image that isn't whole is refused: 'refused N NAME' names its first
 fault.
 With --damaged, what the records of such an image still say is printed before that line. It is no dump:
-  imem salvage 1 of area A, without the journal     the area that is read; no command behind it is told
+  imem salvage 1 without the journal, of area A     the area that is read; no command behind it is told
   cell A of block BASE KIND LENGTH        its record names this block, and the record before it doesn't
   cell A waits nodes N to M               a list of requests that wait there, by its nodes
   node N K.R next M, node N K.R last      request R of element K is in a list

@@ -1,5 +1,5 @@
 use Rattle.im_dump.proofs.SalvageLemmas.{none_told, one_told_more}
-use Rattle.im_dump.proofs.records.add_told_windows.Goals as goal
+use Rattle.im_dump.proofs.windows.add_told_windows.Goals as goal
 
 pub loop-element-init : goal.loop-element-init
 loop-element-init c = none_told _ _ _
