@@ -1,22 +1,23 @@
 -- A chain of groups: what is judged, what is put, and what the engine is then.
 use Rattle.std.proofs.Common.{◌≡◌, ℕ, zero, suc, ◌+◌, ◌-◌, ◌<◌, ◌≤◌, min, Bool, true, false, ◌≢◌, ◌⊎◌, List, [], ◌∷◌}
 use Rattle.std.proofs.Common.{◌++◌, map, length, take, if◌then◌else◌, ◌==◌, slice_get, Some, Ok, Err, Result, sym, refl}
-use Rattle.std.proofs.Common.{ap, ◌∙◌, subst, inl, inr, ⊎_elim, arith, length-take, take-take}
+use Rattle.std.proofs.Common.{ap, ◌∙◌, subst, inl, inr, ⊎_elim, arith, length-take, take_all}
 use Rattle.std.proofs.lemmas.{Bool.cases_eq, Bool.Decides.nat_tests, List.nil_from_length}
 use Rattle.im_types.specs.Types.{Command, Served, Refusal, JournalFull, Device, Failed, MAX_GROUP, LAST, Contents}
 use Rattle.im_types.specs.Types.{after, as_served, accept_each}
-use Rattle.{im_laws.proofs.Tests.eq_by_test, im_laws.proofs.Tests.true_or_false, im_memory.specs.State.MemoryState}
+use Rattle.im_laws.proofs.Tests.{eq_by_test, true_or_false}
 use Rattle.im_disk.specs.{Moment.Faults, Moment.Moment, Since.Calls, Since.CallsAtMost, Since.CallsBy}
 use Rattle.im_journal.proofs.{Appending.none_ahead, Rings.other_number}
 use Rattle.im_journal.specs.Holding.{ahead_after, IsFullBy, IsFullFor, IsJournal, JournalState, longer, room_after}
 use Rattle.im_journal.specs.Holding.{slots_ahead, with_ahead}
+use Rattle.{im_memory.specs.State.MemoryState, im_groups.proofs.WholeLemmas.whole-commands}
 use Rattle.im_groups.proofs.CommandLemmas.{at-accepted, at-accepts, at-after, few_at}
 use Rattle.im_groups.proofs.EnoughLemmas.{at_most_members, enough-answers, enough-commands, enough-contents}
 use Rattle.im_groups.proofs.EnoughLemmas.{enough-pages, enough-takes, whole-accepted}
 use Rattle.im_groups.specs.Ahead.{AreAccepted, IsUnsure, ServesBehind}
 use Rattle.im_groups.specs.Commands.{answers_with, commands_at, contents_after_all, most_pages_with, places, takes_at}
 use Rattle.im_checkpoint.specs.{Step.changed_in, Step.PagedCheckpoint, Turns.AddsAtMost}
-use Rattle.im_engine.proofs.Members.{length_answers, length_refused, longer_none}
+use Rattle.im_engine.proofs.{Chaining.no_other, Members.length_answers, Members.length_refused, Members.longer_none}
 use Rattle.im_engine.specs.{Chain.Advances, Chain.calls_to_advance, Chain.FitsBehind, Chain.IsAhead, Chain.IsComing}
 use Rattle.im_engine.specs.{Chain.places_left, Chain.put_ahead, Chain.WereJudged, Commands.AreParted, Commands.AreWhole}
 use Rattle.im_engine.specs.{Commands.each_refused, State.engine_of, State.EngineState}
@@ -49,17 +50,6 @@ got_inside [] i x at = absurd (cc)
 got_inside (y ∷ xs) zero x at = omega arith
 got_inside (y ∷ xs) (suc i) x at = omega (arith, got_inside xs i x at)
 
--- a beginning of a beginning is one
-pub beginning : {X : Type 0} (next asked members : List X) (k many : ℕ) → asked ≡ take k next
-    → members ≡ take many asked → many ≤ length asked → members ≡ take (length members) next
-beginning next asked members k many asked_are members_are within =
-    let long : length members ≡ many = omega (arith, ap length members_are, length-take many asked, within) in
-    let inside : many ≤ k = omega (arith, within, ap length asked_are, length-take k next) in
-    members_are
-    ∙ ap (take many) asked_are
-    ∙ take-take many k next inside
-    ∙ ap (λ (n : ℕ). take n next) (sym long)
-
 -- what was judged with as many places as were asked holds with as many as were judged
 pub told_of : (m : Contents) (asked members commands : List Command) (taken : List Bool) (many : ℕ)
     → members ≡ take many asked → commands ≡ commands_at m (length asked) (take many asked)
@@ -68,8 +58,21 @@ told_of m asked members commands taken many members_are commands_are taken_are w
     subst (λ (l : List Command). WereJudged m l commands taken) (sym members_are) (record {
       commands = commands_are ∙ enough-commands m (length asked) (length (take many asked)) (take many asked)
           (omega (arith, length-take many asked)) (omega arith);
-      taken = taken_are ∙ enough-takes m (length asked) (length (take many asked)) (take many asked)
+      taken = λ other. taken_are ∙ enough-takes m (length asked) (length (take many asked)) (take many asked)
           (omega (arith, length-take many asked)) (omega arith);
+    })
+
+-- ---- all of the next members
+pub all_taken : {X : Type 0} (xs : List X) → take (length xs) xs ≡ xs
+all_taken xs = take_all (length xs) xs (omega arith)
+
+-- what was judged of them if each is accepted
+pub all_told : (m : Contents) (next put : List Command) (taken : List Bool) → put ≡ next → AreAccepted m next
+    → WereJudged m (take (length next) next) put taken
+all_told m next put taken put_is accepted =
+    subst (λ (l : List Command). WereJudged m l put taken) (sym (all_taken next)) (record {
+      commands = put_is ∙ sym (whole-commands m (length next) next accepted (omega arith));
+      taken = λ other. absurd (no_other (length put) (length next) (ap length put_is) other);
     })
 
 -- ---- an engine with a group ahead
@@ -227,6 +230,48 @@ module _ {D : Type 0} (d : D) (c : PagedCheckpoint) (m : MemoryState) (j : Journ
     pages = λ e w. absurd (cc);
   }
 
+-- all of the next members come, if there are places for them
+pub all_coming : {D : Type 0} (s : EngineState D) (next put : List Command) → length next ≤ places_left s
+    → IsComing s next put (length next)
+all_coming {D} s next put few = record {
+  within = omega arith;
+  few = few;
+  some = λ none places_are some. some;
+  stops = λ more command at. absurd (omega (arith, got_inside next (length next) command at));
+}
+
+-- a group that was judged is ahead, however it is kept
+pub renewed : (m : Contents) (j : JournalState) (next put : List Command) (told : List Bool) (many : ℕ)
+    (members2 put2 : List Command) (told2 : List Bool) → length next ≡ many → members2 ≡ next → put2 ≡ put
+    → ((length put == many) ≡ false → told2 ≡ told) → IsAhead m j next put told → IsAhead m j members2 put2 told2
+renewed m j next put told many members2 put2 told2 long members_are put_is told_is it = record {
+  enough = omega (arith, ap length members_are, it.enough);
+  told = record {
+    commands = put_is ∙ it.told.commands
+        ∙ (λ i. commands_at m (length (sym members_are i)) (sym members_are i));
+    taken = λ other.
+        let some : (length put == length next) ≡ false
+        = (λ i. length (sym put_is i) == length (sym members_are i)) ∙ other in
+        told_is (ap (λ (n : ℕ). length put == n) (sym long) ∙ some) ∙ it.told.taken some
+        ∙ (λ i. takes_at m (length (sym members_are i)) (sym members_are i));
+  };
+  laid = it.laid ∙ sym put_is;
+}
+
+-- commands as many as the members that were judged are these members
+pub put_whole : (m : Contents) (next put : List Command) (told : List Bool) (many : ℕ) → many ≤ length next
+    → WereJudged m (take many next) put told → (length put == many) ≡ true → put ≡ take many next
+put_whole m next put told many within it same =
+    let members : List Command = take many next in
+    let long : length put ≡ length members = omega (
+      arith,
+      eq_by_test (length put) many same,
+      length-take many next,
+      within,
+    ) in
+    it.commands ∙ whole-commands m (length members) members
+    (whole-accepted m (length members) members (sym (ap length it.commands) ∙ long)) (omega arith)
+
 -- no more calls than the next members and two
 pub few_calls : (ahead next : ℕ) → calls_to_advance ahead next ≤ next + 2
 few_calls zero zero = omega arith
@@ -314,10 +359,10 @@ whole_of m left members slice commands taken same enough few told all = record {
 
 pub parted_of : (m : Contents) (left : ℕ) (members slice commands : List Command) (taken told_slice : List Bool)
     → slice ≡ members → left ≡ length slice → length slice ≤ MAX_GROUP → WereJudged m members commands taken
-    → told_slice ≡ taken → AreParted m left slice told_slice
-parted_of m left members slice commands taken told_slice same enough few told is = record {
+    → told_slice ≡ taken → (length commands == length members) ≡ false → AreParted m left slice told_slice
+parted_of m left members slice commands taken told_slice same enough few told is other = record {
   few = few;
-  taken = is ∙ told.taken ∙ (λ i. takes_at m (at i) (sym same i));
+  taken = is ∙ told.taken other ∙ (λ i. takes_at m (at i) (sym same i));
 }
   where
     at : length members ≡ left

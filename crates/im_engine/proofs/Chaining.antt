@@ -1,27 +1,42 @@
 -- The group ahead of an engine.
-use Rattle.std.proofs.Common.{◌≡◌, ℕ, ◌≤◌, Bool, List, [], ◌∷◌, length, sym, refl, ap, ◌∙◌, subst, arith}
+use Rattle.std.proofs.Common.{◌≡◌, ℕ, ◌≤◌, Bool, true, false, List, [], ◌∷◌, length, ◌==◌, sym, refl, ap, ◌∙◌, subst}
+use Rattle.std.proofs.Common.{arith}
 use Rattle.im_types.specs.Types.{Command, Contents, after, Header}
+use Rattle.{im_laws.proofs.Tests.test-self, im_laws.proofs.Tests.true_false, im_groups.proofs.CommandLemmas.at-after}
 use Rattle.im_journal.specs.Holding.{ahead_after, IsJournal, JournalState, longer, with_ahead, with_room}
-use Rattle.im_groups.proofs.CommandLemmas.{at-after}
 use Rattle.im_groups.specs.Commands.{commands_at, contents_after_all, takes_at}
 use Rattle.im_checkpoint.specs.{declared.TurnDone.TurnDone, Keeping.Fits, Keeping.StepFits}
 use Rattle.im_checkpoint.specs.Step.{CheckpointState, NoCheckpoint, PagesDone, PagesLeft, Step, Synced}
 use Rattle.im_checkpoint.specs.Turns.{calls_to_sweep, swept_at_once, Turned}
-use Rattle.im_engine.{proofs.Members.longer_none, specs.Chain.IsAhead, specs.Chain.WereJudged, specs.State.journal_of}
+use Rattle.im_engine.proofs.Members.{longer_none}
+use Rattle.im_engine.specs.{Chain.IsAhead, Chain.laid_of, Chain.WereJudged, State.journal_of}
+
+-- as many are no other number
+pub no_other : (a b : ℕ) → a ≡ b → (a == b) ≡ false → ⊥
+no_other a b same other = true_false (sym (ap (λ (n : ℕ). n == b) same ∙ test-self b) ∙ other)
+
+-- the commands of members that take places, by whether it is known that all do
+pub whole_put : (whole : Bool) (members commands : List Command) → whole ≡ true
+    → laid_of whole members commands ≡ members
+whole_put whole members commands is = ap (λ (b : Bool). laid_of b members commands) is
+
+pub some_put : (whole : Bool) (members commands : List Command) → whole ≡ false
+    → laid_of whole members commands ≡ commands
+some_put whole members commands is = ap (λ (b : Bool). laid_of b members commands) is
 
 -- nothing is ahead
 none_told : (m : Contents) (members commands : List Command) (taken : List Bool) → members ≡ [] → commands ≡ []
-    → taken ≡ [] → WereJudged m members commands taken
-none_told m members commands taken none nothing told = record {
+    → WereJudged m members commands taken
+none_told m members commands taken none nothing = record {
   commands = nothing ∙ sym (ap (λ (l : List Command). commands_at m (length l) l) none);
-  taken = told ∙ sym (ap (λ (l : List Command). takes_at m (length l) l) none);
+  taken = λ other. absurd (no_other (length commands) (length members) (ap length (nothing ∙ sym none)) other);
 }
 
 pub nothing_ahead : (m : Contents) (j : JournalState) (members commands : List Command) (taken : List Bool)
-    → members ≡ [] → commands ≡ [] → taken ≡ [] → j.ahead ≡ [] → IsAhead m j members commands taken
-nothing_ahead m j members commands taken none nothing told laid = record {
+    → members ≡ [] → commands ≡ [] → j.ahead ≡ [] → IsAhead m j members commands taken
+nothing_ahead m j members commands taken none nothing laid = record {
   enough = omega (arith, ap length none);
-  told = none_told m members commands taken none nothing told;
+  told = none_told m members commands taken none nothing;
   laid = laid ∙ sym nothing;
 }
 
@@ -50,14 +65,16 @@ unchanged_after m left cs cmds are none = sym (at-after m left cs) ∙ ap (λ (l
 -- a group stays ahead where no command is put, and is no more where any is
 pub still_ahead : (m n : Contents) (j k : JournalState) (cmds members members2 commands commands2 : List Command)
     (taken taken2 : List Bool) → k ≡ longer (length cmds) j → members2 ≡ ahead_after (length cmds) members
-    → commands2 ≡ ahead_after (length cmds) commands → taken2 ≡ ahead_after (length cmds) taken
+    → commands2 ≡ ahead_after (length cmds) commands → taken2 ≡ taken
     → (cmds ≡ [] → n ≡ m) → IsJournal j → IsAhead m j members commands taken → IsAhead n k members2 commands2 taken2
 still_ahead m n j k [] members members2 commands commands2 taken taken2 k_is ms cs ts same known it =
     let here : k ≡ j = k_is ∙ longer_none j known in
     let told : WereJudged n members2 commands2 taken2 = record {
       commands = cs ∙ it.told.commands
           ∙ (λ i. commands_at (sym (same refl) i) (length (sym ms i)) (sym ms i));
-      taken = ts ∙ it.told.taken ∙ (λ i. takes_at (sym (same refl) i) (length (sym ms i)) (sym ms i));
+      taken = λ other. ts
+          ∙ it.told.taken ((λ i. length (sym cs i) == length (sym ms i)) ∙ other)
+          ∙ (λ i. takes_at (sym (same refl) i) (length (sym ms i)) (sym ms i));
     } in
     record {
       enough = omega (
@@ -71,7 +88,7 @@ still_ahead m n j k [] members members2 commands commands2 taken taken2 k_is ms 
       laid = ap (λ (x : JournalState). x.ahead) here ∙ it.laid ∙ sym cs;
     }
 still_ahead m n j k (c ∷ cmds) members members2 commands commands2 taken taken2 k_is ms cs ts same known it =
-    nothing_ahead n k members2 commands2 taken2 ms cs ts (ap (λ (x : JournalState). x.ahead) k_is)
+    nothing_ahead n k members2 commands2 taken2 ms cs (ap (λ (x : JournalState). x.ahead) k_is)
 
 -- the table of turns doesn't speak of what is ahead
 pub turned_alone : (c d : CheckpointState) (j k : JournalState) (answer : TurnDone) → Turned c j answer d k

@@ -1,15 +1,16 @@
 -- The members of a group: how they act, and requests as commands.
-use Rattle.std.proofs.Common.{◌≡◌, ℕ, zero, suc, ◌+◌, ◌-◌, ◌<◌, ◌≤◌, Bool, true, false, ◌&&◌, List, [], ◌∷◌, ◌++◌, map}
-use Rattle.std.proofs.Common.{length, get_or, take, drop, if◌then◌else◌, nat_lt, ◌==◌, slice_get, Some, Err, Result}
-use Rattle.std.proofs.Common.{sym, refl, ap, ◌∙◌, subst, append_assoc, arith, length-take-le}
+use Rattle.std.proofs.Common.{◌≡◌, ℕ, zero, suc, ◌+◌, ◌-◌, ◌<◌, ◌≤◌, Bool, true, false, ◌&&◌, ◌↔◌, List, [], ◌∷◌, ◌++◌}
+use Rattle.std.proofs.Common.{map, length, get_or, take, drop, if◌then◌else◌, OnOk, IsOk, nat_lt, ◌==◌, slice_get, Some}
+use Rattle.std.proofs.Common.{Ok, Err, Result, sym, refl, ap, ◌∙◌, subst, append_assoc, arith, length-take-le}
 use Rattle.std.proofs.{lemmas.Bool.Decides.nat_tests, Math.Seq.drop-cons}
 use Rattle.im_types.specs.Types.{Request, Command, Outcome, Asks, Served, Refusal, JournalFull, LAST, Contents, step}
 use Rattle.im_types.specs.Types.{is_accepted, as_served, is_put, reached_by_one, puts_of, Reached}
-use Rattle.im_laws.proofs.{MemoryLemmas.step-cell_count, MemoryLemmas.step-window_count, Tests.and_both}
-use Rattle.im_journal.specs.Holding.{IsJournal, JournalState, longer, room_after}
-use Rattle.{im_memory.specs.Covering.most_pages, im_groups.specs.Ahead.AreAccepted, im_groups.specs.Ahead.ServesPrefix}
+use Rattle.im_laws.proofs.MemoryLemmas.{step-cell_count, step-window_count}
+use Rattle.{im_laws.proofs.Tests.and_both, im_laws.proofs.Tests.true_false, im_memory.specs.Covering.most_pages}
 use Rattle.{im_image.specs.Reading.HasSizes, im_checkpoint.specs.Step.CheckpointState}
+use Rattle.im_journal.specs.Holding.{IsJournal, JournalState, longer, room_after}
 use Rattle.im_groups.proofs.{AheadLemmas.accepted_first, WholeLemmas.whole-commands, WholeLemmas.whole-takes}
+use Rattle.im_groups.specs.Ahead.{AreAccepted, ServesPrefix}
 use Rattle.im_groups.specs.Commands.{answer_with, answers_with, commands_at, contents_after_all, contents_with}
 use Rattle.im_groups.specs.Commands.{most_pages_at, places_behind, takes_at, takes_place}
 use Rattle.im_engine.specs.Commands.{each_refused}
@@ -26,6 +27,12 @@ told_next f g h xs rs i d a is_cons within is =
     ∙ ap (λ l. xs ++ l) (sym (is_cons (get_or rs i d) (drop (i + 1) rs)))
     ∙ ap (λ n. xs ++ f (get_or rs i d ∷ drop n rs)) next
     ∙ ap (λ l. xs ++ f l) (sym (drop-cons rs i d within))
+
+-- what is put into a list with room for it, where there was nothing
+pub put_all : {T E X : Type 0} (r : Result T E) (old new added : List X) (room : Type 0) → (IsOk r ↔ room) → room
+    → OnOk r (new ≡ old ++ added) → old ≡ [] → new ≡ added
+put_all (Ok x) old new added room is fits ok none = ok ∙ ap (λ l. l ++ added) none
+put_all (Err e) old new added room is fits ok none = absurd (true_false (sym (is.1 fits)))
 
 -- a member that isn't accepted is answered by the step
 pub answer_unaccepted : (m : Contents) (left : ℕ) (c : Command) → is_accepted m c ≡ false

@@ -1,6 +1,6 @@
 -- A chain of groups: each is put ahead while the one before it is opened, so both share a sync. (Own.)
 use Rattle.std.specs.Prelude.{◌≡◌, ℕ, zero, suc, ◌+◌, ◌-◌, ◌<◌, ◌≤◌, Bool, true, false, ◌⊎◌, List, [], ◌++◌, length}
-use Rattle.std.specs.Prelude.{take, OnOk, slice_get, Some, Ok, Err, Result}
+use Rattle.std.specs.Prelude.{take, if◌then◌else◌, OnOk, ◌==◌, slice_get, Some, Ok, Err, Result}
 use Rattle.im_types.specs.Types.{Command, Served, Refusal, Device, Failed, LAST, Contents}
 use Rattle.im_disk.specs.{declared.Disk.Ghosts, Moment.Faults, Moment.Moment}
 use Rattle.im_disk.specs.Since.{Calls, CallsAtMost, CallsBy, LeavesNow, LeavesWithin}
@@ -10,11 +10,15 @@ use Rattle.im_groups.specs.Commands.{commands_at, most_pages_with, places, takes
 use Rattle.im_engine.specs.Commands.{after_commands, answers_in_turn, commands_put, each_refused}
 use Rattle.im_engine.specs.State.{EngineState, MeansEither, MeansState}
 
+-- the commands of members that take places: the members themselves, if all of them do
+abbrev pub laid_of : Bool → List Command → List Command → List Command
+laid_of whole members commands = if whole then members else commands
+
 -- what was judged of members at this memory, with a place for each: `put` are the commands of those that are accepted,
--- and `told` is of each whether it is
+-- and if these aren't all, `told` is of each whether it is
 pub record WereJudged (m : Contents) (members put : List Command) (told : List Bool) : Type 0 where
   pub commands : put ≡ commands_at m (length members) members
-  pub taken : told ≡ takes_at m (length members) members
+  pub taken : (length put == length members) ≡ false → told ≡ takes_at m (length members) members
 
 -- the group ahead of an engine: there is a place for each of its members, and its commands are those ahead of the
 -- journal

@@ -1,22 +1,22 @@
 //! How an engine serves a chain of groups: the bodies of each share a sync with the gate of the one before.
-ghost use Rattle.std.specs.Prelude.{◌≡◌, ◌≤◌, true, [], map, length, take, IfOk, OnOk, MatchResult};
+ghost use Rattle.std.specs.Prelude.{◌≡◌, ◌≤◌, true, false, [], map, length, take, IfOk, OnOk, MatchResult};
 ghost use Rattle.im_types.specs.Types.{MAX_GROUP, Contents, after, as_served};
 ghost use Rattle.im_disk.specs.Moment.{Faults, Moment};
 ghost use Rattle.im_journal.specs.Holding.{AllHold, JournalState, longer, with_ahead};
-ghost use Rattle.{im_journal.specs.OnDisk.KnownOf, im_image.specs.Reading.HasSizes};
+ghost use Rattle.{im_journal.specs.OnDisk.KnownOf, im_groups.specs.Ahead.AreAccepted, im_image.specs.Reading.HasSizes};
 ghost use Rattle.im_groups.specs.Commands.{answers_with, contents_after_all, most_pages_with};
 ghost use Rattle.im_checkpoint.specs.Keeping.{IsKept, paged};
-ghost use Rattle.im_engine.specs.Chain.{Advances, BehindPut, FitsBehind, IsComing, put_ahead, ServesAhead, TakesNext};
-ghost use Rattle.im_engine.specs.Chain.{WereJudged};
+ghost use Rattle.im_engine.specs.Chain.{Advances, BehindPut, FitsBehind, IsComing, laid_of, places_left, put_ahead};
+ghost use Rattle.im_engine.specs.Chain.{ServesAhead, TakesNext, WereJudged};
 ghost use Rattle.im_engine.specs.Groups.{KeepsAfter, LeavesAllOrNone, StaysBut};
 
-use crate::ahead::GroupAhead;
+use crate::ahead::{Coming, GroupAhead};
 use crate::engine::Engine;
 use crate::groups::{Members, act_all, places_in};
 use arrayvec::ArrayVec;
 use im_checkpoint::Checkpoint;
 use im_disk::Disk;
-use im_groups::judge_next;
+use im_groups::{judge_next, judge_whole_next};
 use im_journal::Journal;
 use im_memory::Memory;
 use im_types::{Command, MAX_GROUP, Refusal, Served};
@@ -52,17 +52,6 @@ fn put_behind<D: Disk>(
     journal.lay_ahead(disk, next)
 }
 
-/// Copies members. (Own.)
-pub fn copy_members(members: &[Command], copies: &mut ArrayVec<Command, MAX_GROUP>)
-    requires fits { length members.now ≤ MAX_GROUP }
-    requires empty { copies.old.items ≡ [] }
-    ensures { copies.new.items ≡ members.now }
-{
-    for member in members {
-        copies.push(*member);
-    }
-}
-
 // Lets the members of a group act in their order that were judged with a place for each. The disk already has the
 // commands of those that are accepted.
 fn act_ahead(
@@ -71,8 +60,8 @@ fn act_ahead(
     ahead: &GroupAhead,
     served: &mut ArrayVec<Served, MAX_GROUP>,
 )
-    requires told { WereJudged memory.old.contents
-        ahead.now.members.items ahead.now.commands.items ahead.now.taken.items }
+    requires told { WereJudged memory.old.contents ahead.now.members.items
+        (laid_of ahead.now.whole ahead.now.members.items ahead.now.commands.items) ahead.now.taken.items }
     requires empty { served.old.items ≡ [] }
     requires sizes { HasSizes checkpoint.old.state.header.sizes memory.old.contents }
     ensures answers { let members = ahead.now.members.items in served.new.items
@@ -133,10 +122,106 @@ impl<D: Disk> Engine<D> {
             return Err(Refusal::Failed);
         }
         let members = next.as_slice();
-        let coming = self.judge_coming(members);
+        if self.takes_all(members) {
+            let coming = Coming {
+                next: members,
+                many: members.len(),
+                commands: next,
+                taken: &[],
+            };
+            return self.go_on(&coming, served);
+        }
+        self.advance_some(members, served)
+    }
+
+    // Returns whether all of the next members can be put behind the group ahead as they are: there is a place for each,
+    // and each is accepted in its turn.
+    #[inline(always)]
+    fn takes_all(&self, next: &[Command]) -> bool
+        requires few { length next.now ≤ MAX_GROUP }
+        ensures accepted { result ≡ true → AreAccepted (after self.now.memory (put_ahead self.now)) next.now }
+        ensures places { result ≡ true → length next.now ≤ places_left self.now }
+    {
+        let left = places_in(&self.journal) - self.journal.ahead() as u64;
+        if next.len() as u64 > left {
+            return false;
+        }
+        let group = self.ahead.put().as_slice();
+        match judge_whole_next(&self.memory, group, next) {
+            Some(many) => many == next.len(),
+            None => false,
+        }
+    }
+
+    // Judges the next members behind the group ahead, as many as there are places for, and goes on with those that are
+    // judged.
+    #[inline(never)]
+    fn advance_some(
+        &mut self,
+        next: &[Command],
+        served: &mut ArrayVec<Served, MAX_GROUP>,
+    ) -> Result<usize, Refusal>
+        requires alive { self.old.failed ≡ false }
+        requires few { length next.now ≤ MAX_GROUP }
+        requires empty { served.old.items ≡ [] }
+        ensures answered { Advances self.old next.now result served.new.items self.new }
+        ensures takes { IfOk result (λ many. TakesNext self.old next.now self.new many) }
+        ensures runs { ServesAhead D.Disk self.old self.new (length next.now) result }
+    {
+        let mut commands = ArrayVec::new();
+        let mut taken = ArrayVec::new();
+        let many = self.judge_coming(next, &mut commands, &mut taken);
+        let coming = Coming {
+            next,
+            many,
+            commands: &commands,
+            taken: taken.as_slice(),
+        };
+        self.go_on(&coming, served)
+    }
+
+    // Judges the next members behind the group ahead, as many as there are places for: how many are judged.
+    fn judge_coming(
+        &self,
+        next: &[Command],
+        commands: &mut ArrayVec<Command, MAX_GROUP>,
+        taken: &mut ArrayVec<bool, MAX_GROUP>,
+    ) -> usize
+        requires few { length next.now ≤ MAX_GROUP }
+        requires empty { (commands.old.items ≡ []) × (taken.old.items ≡ []) }
+        ensures told { WereJudged (after self.now.memory (put_ahead self.now))
+            (take result next.now) commands.new.items taken.new.items }
+        ensures begins { IsComing self.now next.now commands.new.items result }
+    {
+        let places = places_in(&self.journal);
+        let laid = self.journal.ahead();
+        let left = places - laid as u64;
+        let most = min(next.len() as u64, left);
+        let asked = &next[..most as usize];
+        let group = self.ahead.put().as_slice();
+        judge_next(&self.memory, group, asked, commands, taken)
+    }
+
+    // Lets the group ahead act, and puts the members ahead that were judged behind it.
+    fn go_on(
+        &mut self,
+        coming: &Coming,
+        served: &mut ArrayVec<Served, MAX_GROUP>,
+    ) -> Result<usize, Refusal>
+        requires alive { self.old.failed ≡ false }
+        requires few { (length coming.now.next.now ≤ MAX_GROUP) × (length coming.now.taken.now ≤ MAX_GROUP) }
+        requires told { WereJudged (after self.old.memory (put_ahead self.old))
+            (take coming.now.many coming.now.next.now) coming.now.commands.now.items coming.now.taken.now }
+        requires begins { IsComing self.old coming.now.next.now coming.now.commands.now.items coming.now.many }
+        requires empty { served.old.items ≡ [] }
+        ensures answered { Advances self.old coming.now.next.now result served.new.items self.new }
+        ensures takes { IfOk result (λ many. TakesNext self.old coming.now.next.now self.new many) }
+        ensures runs { ServesAhead D.Disk self.old self.new (length coming.now.next.now) result }
+    {
+        let _count = self.journal.count(); // So that it is known that it isn't past the last one.
         // A stop in it leaves all of the group ahead on the disk, or nothing of it, and nothing of the next one: no
         // answer is given before.
-        if let Err(_) = put_behind(&mut self.journal, &mut self.disk, &coming.commands) {
+        if let Err(_) = put_behind(&mut self.journal, &mut self.disk, coming.commands) {
             self.failed = true; // All of the group ahead is there, or nothing of it.
             self.ahead.refuse(Refusal::Device, served);
             self.ahead.forget();
@@ -144,34 +229,7 @@ impl<D: Disk> Engine<D> {
             return Err(Refusal::Device);
         }
         act_ahead(&mut self.checkpoint, &mut self.memory, &self.ahead, served);
-        let many = coming.many();
-        self.ahead = coming;
-        Ok(many)
-    }
-
-    // Judges the next members behind the group ahead, as many as there are places for.
-    fn judge_coming(&self, next: &[Command]) -> GroupAhead
-        requires few { length next.now ≤ MAX_GROUP }
-        ensures told { WereJudged (after self.now.memory (put_ahead self.now))
-            result.members.items result.commands.items result.taken.items }
-        ensures members { result.members.items ≡ take (length result.members.items) next.now }
-        ensures begins { IsComing self.now next.now result.commands.items (length result.members.items) }
-    {
-        let places = places_in(&self.journal);
-        let laid = self.journal.ahead();
-        let left = places - laid as u64;
-        let most = min(next.len() as u64, left);
-        let asked = &next[..most as usize];
-        let group = self.ahead.commands.as_slice();
-        let mut coming = GroupAhead::none();
-        let many = judge_next(
-            &self.memory,
-            group,
-            asked,
-            &mut coming.commands,
-            &mut coming.taken,
-        );
-        copy_members(&asked[..many], &mut coming.members);
-        coming
+        self.ahead.renew(coming);
+        Ok(coming.many)
     }
 }

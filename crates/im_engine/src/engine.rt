@@ -48,7 +48,7 @@ impl<D: Disk + Drop> Drop for Engine<D> {
 impl<D: Disk> Model for Engine<D> {
     ghost use Rattle.std.specs.Prelude.{◌≡◌, false};
     ghost use Rattle.im_checkpoint.specs.{Keeping.Fits, Keeping.IsKept, Keeping.paged, Step.changed_in};
-    ghost use Rattle.im_engine.specs.{Chain.IsAhead, State.EngineState};
+    ghost use Rattle.im_engine.specs.{Chain.IsAhead, Chain.laid_of, State.EngineState};
 
     ghost Value = { EngineState D };
 
@@ -67,7 +67,8 @@ impl<D: Disk> Model for Engine<D> {
     ghost invariant = { λ e. Fits e.checkpoint.state e.memory.contents e.journal
         × (D.honest e.disk → e.failed ≡ false
         → IsKept e.checkpoint.state (paged e.checkpoint e.memory) e.memory.contents e.journal (D.now e.disk))
-        × IsAhead e.memory.contents e.journal e.ahead.members.items e.ahead.commands.items e.ahead.taken.items };
+        × IsAhead e.memory.contents e.journal e.ahead.members.items
+        (laid_of e.ahead.whole e.ahead.members.items e.ahead.commands.items) e.ahead.taken.items };
 }
 
 impl<D: Disk> Engine<D> {

@@ -15,8 +15,8 @@ mod looking;
 mod open;
 mod whole;
 
+pub use ahead::copy_members;
 pub use apart::Group;
-pub use chain::copy_members;
 pub use emptying::Empties;
 pub use engine::Engine;
 pub use groups::{are_apart, commands_of, refuse_all};

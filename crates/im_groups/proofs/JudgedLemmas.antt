@@ -1,7 +1,7 @@
 -- Members that are judged one after another.
 use Rattle.std.proofs.Common.{◌≡◌, ℕ, zero, suc, ◌+◌, ◌-◌, ◌<◌, ◌≤◌, Bool, true, false, ◌&&◌, List, [], ◌∷◌, ◌++◌}
-use Rattle.std.proofs.Common.{length, get_or, take, if◌then◌else◌, nat_lt, slice_get, Some, None, sym, ap, ◌∙◌, subst}
-use Rattle.std.proofs.Common.{arith, length-append}
+use Rattle.std.proofs.Common.{length, get_or, take, IfSome, if◌then◌else◌, nat_lt, slice_get, Some, None, Option, sym}
+use Rattle.std.proofs.Common.{refl, ap, ◌∙◌, subst, arith, length-append}
 use Rattle.std.proofs.lemmas.List.{take_more}
 use Rattle.im_types.specs.Types.{Command, Asks, Confirm, Contents, step, is_accepted, after, accept_each}
 use Rattle.im_laws.proofs.RunLemmas.{after-append}
@@ -137,3 +137,19 @@ all-behind m ahead put members many is = record {
   some = λ none some. omega (arith, is, some);
   stops = λ c at. absurd (nothing_past members many is c at);
 }
+
+-- with no command ahead, the members are judged as a group of their own
+pub behind-nothing : (m : Contents) (members : List Command) (o : Option ℕ)
+    → IfSome o (λ many. ServesBehind m [] (take many members) members many)
+    → IfSome o (λ many. ServesPrefix m (take many members) members many)
+behind-nothing m members (Some many) it = record {
+  within = it.within;
+  some = it.some refl;
+  stops = it.stops;
+}
+behind-nothing m members None it = tt
+
+pub few-behind : (m : Contents) (members : List Command) (places : ℕ) (o : Option ℕ) → length members ≤ places
+    → IfSome o (λ many. ServesBehind m [] (take many members) members many) → IfSome o (λ many. many ≤ places)
+few-behind m members places (Some many) enough it = omega (arith, enough, it.within)
+few-behind m members places None enough it = tt

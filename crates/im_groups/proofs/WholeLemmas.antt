@@ -14,10 +14,10 @@ accepted_behind m (d ∷ cs) c it is =
     ap (λ (b : Bool). if b then accept_each (step m d).contents (cs ++ c ∷ []) else None) first.0
     ∙ accepted_behind (step m d).contents cs c first.1 is
 
--- what is found behind commands is found behind the same ones
-pub whole-found : (m : Contents) (line ahead : List Command) (x : Command) (b : Bool) → line ≡ ahead
-    → b ≡ is_accepted (after m line) x → b ≡ is_accepted (after m ahead) x
-whole-found m line ahead x b same found = found ∙ ap (λ (l : List Command). is_accepted (after m l) x) same
+-- before the first member there is none
+pub none-before : {X : Type 0} (xs : List X) → take 0 xs ≡ []
+none-before [] = refl
+none-before (x ∷ xs) = refl
 
 -- one member more
 pub accepted-next : (m : Contents) (members : List Command) (i : ℕ) (d : Command) (b : Bool) → i < length members

@@ -110,10 +110,27 @@ pub fn judge_whole(memory: &Memory, places: u64, members: &[Command]) -> Option<
     if members.len() as u64 > places {
         return None;
     }
+    judge_whole_next(memory, &[], members)
+}
+
+/// Judges members as [`judge_next`] does, if each judged member is accepted. Returns the number of judged members then:
+/// their commands are the members themselves, so none is copied. Returns `None` if a member isn't accepted in its turn.
+/// It takes no memory. (Own.)
+#[inline(always)]
+pub fn judge_whole_next(memory: &Memory, group: &[Command], members: &[Command]) -> Option<usize>
+    requires fits { (length group.now ≤ MAX_GROUP) × (length members.now ≤ MAX_GROUP) }
+    requires accepted { AreAccepted memory.now.contents group.now }
+    ensures accepted { IfSome result (λ many.
+        AreAccepted (after memory.now.contents group.now) (take many members.now)) }
+    ensures begins { IfSome result (λ many.
+        ServesBehind memory.now.contents group.now (take many members.now) members.now many) }
+    ensures none { IsNone result → accept_each (after memory.now.contents group.now) members.now ≡ None }
+{
     let mut marks = [false; ELEMENTS];
+    mark_all(&mut marks, group);
     for i in 0..members.len() {
         let member = &members[i];
-        let ahead = CommandsAhead::of(&[], &members[..i]);
+        let ahead = CommandsAhead::of(group, &members[..i]);
         match take_member(memory, &ahead, &mut marks, member) {
             Some(accepted) => {
                 if !accepted {

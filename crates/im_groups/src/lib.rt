@@ -8,5 +8,7 @@ mod line;
 mod marks;
 
 pub use ahead::{accepts, judge_behind};
-pub use judging::{judge_each, judge_members, judge_next, judge_whole, takes_place};
+pub use judging::{
+    judge_each, judge_members, judge_next, judge_whole, judge_whole_next, takes_place,
+};
 pub use line::CommandsAhead;

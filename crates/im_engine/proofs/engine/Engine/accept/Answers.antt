@@ -5,7 +5,8 @@ use Rattle.{im_disk.specs.Since.LeavesOnly, im_journal.specs.Holding.JournalStat
 use Rattle.im_checkpoint.specs.{Keeping.Fits, Keeping.paged, Step.CheckpointState}
 use Rattle.im_engine.proofs.{Chaining.nothing_ahead, Serving.calls_after, Serving.fits_longer, Serving.kept_with_it}
 use Rattle.im_engine.proofs.Keeping.{accept_one, all_hold, all_mean, kept_prepared, may_put_means}
-use Rattle.im_engine.specs.{Chain.IsAhead, State.EngineState, State.MeansEither, State.MeansState, State.with_command}
+use Rattle.im_engine.specs.Chain.{IsAhead, laid_of}
+use Rattle.im_engine.specs.State.{EngineState, MeansEither, MeansState, with_command}
 use Rattle.im_engine.proofs.engine.Engine.accept.Goals as goal
 
 pub returns-then-room-eq0-clause-leaves : goal.returns-then-room-eq0-clause-leaves
@@ -76,7 +77,7 @@ invariant_of-self-2 g c =
           (g.D.Disk.now c.append.new.disk) (done.added h).kept (done.added h).calm (done.added h).added
           (done.added h).holds),
       nothing_ahead c.accept.new.self.contents c.append.new.self _ _ _ c.forget.ensures.members
-          c.forget.ensures.commands c.forget.ensures.taken (ap (λ j. j.ahead) done.state),
+          c.forget.ensures.put (ap (λ j. j.ahead) done.state),
     )
 
 pub returns-clause-leaves : goal.returns-clause-leaves
@@ -128,6 +129,7 @@ invariant_of-self g c =
     let same = c.in-Err.ensures.state in (
       subst (λ (j : JournalState). Fits e.checkpoint.state e.memory.contents j) (sym same) c.self.invariant.0,
       λ h f. absurd (cc),
-      subst (λ (j : JournalState). IsAhead e.memory.contents j e.ahead.members.items e.ahead.commands.items
-          e.ahead.taken.items) (sym same) c.self.invariant.2,
+      subst (λ (j : JournalState). IsAhead e.memory.contents j e.ahead.members.items
+          (laid_of e.ahead.whole e.ahead.members.items e.ahead.commands.items) e.ahead.taken.items)
+          (sym same) c.self.invariant.2,
     )

@@ -1,16 +1,8 @@
-use Rattle.std.proofs.Common.{◌≡◌, ℕ, ◌≤◌, true, false, List, [], length, take, Ok, Err, sym, refl, ap, ◌∙◌, subst, inl}
-use Rattle.std.proofs.Common.{inr, arith}
-use Rattle.im_types.specs.Types.{Command, Device, Failed, Contents, after}
-use Rattle.im_disk.{proofs.SinceLemmas.only_weaker, specs.Since.Calls}
-use Rattle.im_journal.specs.Holding.{JournalState, longer, with_ahead}
-use Rattle.im_groups.{proofs.EnoughLemmas.enough-contents, specs.Commands.contents_after_all, specs.Commands.places}
-use Rattle.im_checkpoint.specs.Keeping.{IsKept, paged}
-use Rattle.im_engine.proofs.Advancing.{accepts, advance_dead, advance_done, advance_failed, calls_few, calls_made}
-use Rattle.im_engine.proofs.Advancing.{few_coming, fits, laid_is, new_put, next_ahead}
-use Rattle.im_engine.proofs.Chaining.{fits_ahead, nothing_ahead}
-use Rattle.im_engine.proofs.{Keeping.all_hold, Keeping.all_mean, Together.fits_group, Together.means_group}
-use Rattle.im_engine.specs.Chain.{Advances, calls_to_advance, IsComing, places_left, put_ahead, ServesAhead, WereJudged}
-use Rattle.im_engine.specs.{Commands.after_commands, State.engine_of, State.EngineState, State.MeansEither}
+use Rattle.std.proofs.Common.{◌≡◌, true, List, [], length, IfOk, Err, sym, refl, subst, inl, arith}
+use Rattle.im_types.specs.Types.{Command, Failed, after}
+use Rattle.im_engine.proofs.Advancing.{advance_dead, all_coming, all_told}
+use Rattle.im_engine.specs.Chain.{Advances, laid_of, put_ahead, ServesAhead, TakesNext}
+use Rattle.im_engine.specs.State.{EngineState}
 use Rattle.im_engine.proofs.engine.Engine.advance.Goals as goal
 
 pub returns-then-self-clause-answered : goal.returns-then-self-clause-answered
@@ -18,8 +10,9 @@ returns-then-self-clause-answered g c =
     let e = c.self.inside in
     subst (λ (s : EngineState g.row.D.Denot). Advances s c.args.next.now.items (Err Failed)
     c.refuse.new.served.items s) c.self.view_is
-    (advance_dead e.disk e.checkpoint e.memory e.journal e.ahead.members.items e.ahead.commands.items
-    e.ahead.taken.items e.failed c.count-count.ensures.known c.self.invariant.2 c.if-self.true c.args.next.now.items
+    (advance_dead e.disk e.checkpoint e.memory e.journal e.ahead.members.items
+    (laid_of e.ahead.whole e.ahead.members.items e.ahead.commands.items) e.ahead.taken.items e.failed
+    c.count-count.ensures.known c.self.invariant.2 c.if-self.true c.args.next.now.items
     c.refuse.new.served.items c.refuse.ensures)
 
 pub returns-then-self-clause-runs : goal.returns-then-self-clause-runs
@@ -37,245 +30,43 @@ returns-then-self-clause-runs g c =
       means = λ h f. absurd (cc);
     })
 
-pub put_behind-requires-clause-fits : goal.put_behind-requires-clause-fits
-put_behind-requires-clause-fits g c =
-    let e = c.self.inside in
-    let alive : e.failed ≡ false = c.if-self.false in
-    let ms = e.ahead.members.items in
-    let cs = e.ahead.commands.items in
-    let ts = e.ahead.taken.items in
-    let known = c.count-count.ensures.known in
-    let it = c.self.invariant.2 in
-    let next = c.judge_coming-coming.result in
-    fits e.disk e.checkpoint e.memory e.journal ms cs ts e.failed known it next.members.items next.commands.items
-    next.taken.items
-    (subst (λ (s : EngineState g.row.D.Denot). WereJudged (after s.memory (put_ahead s)) next.members.items
-    next.commands.items next.taken.items) (sym c.self.view_is) c.judge_coming-coming.ensures.told)
-    (subst (λ (s : EngineState g.row.D.Denot). length next.members.items ≤ places_left s) (sym c.self.view_is)
-    c.judge_coming-coming.ensures.begins.few)
+pub go_on-requires-clause-told : goal.go_on-requires-clause-told
+go_on-requires-clause-told g c =
+    let next = c.as_slice-members.result.now in
+    all_told (after c.args.self.now.memory (put_ahead c.args.self.now)) next c.args.next.now.items []
+    (sym c.as_slice-members.ensures.value) (c.takes_all.ensures.accepted c.if-takes_all.true)
 
-pub put_behind-requires-clause-holds : goal.put_behind-requires-clause-holds
-put_behind-requires-clause-holds g c = λ h.
-    let e = c.self.inside in
-    all_hold e.checkpoint.state (paged e.checkpoint e.memory) e.memory.contents e.journal (g.D.Disk.now e.disk)
-    (c.self.invariant.1 h c.if-self.false)
+pub go_on-requires-clause-begins : goal.go_on-requires-clause-begins
+go_on-requires-clause-begins g c = all_coming c.args.self.now c.as_slice-members.result.now c.args.next.now.items
+    (c.takes_all.ensures.places c.if-takes_all.true)
 
-pub act_ahead-requires-clause-told : goal.act_ahead-requires-clause-told
-act_ahead-requires-clause-told g c = c.self.invariant.2.told
+pub returns-then-takes_all-clause-answered : goal.returns-then-takes_all-clause-answered
+returns-then-takes_all-clause-answered g c =
+    subst (λ (l : List Command). Advances c.args.self.now l c.go_on.result c.go_on.new.served.items c.go_on.new.self)
+    c.as_slice-members.ensures.value c.go_on.ensures.answered
 
-pub returns-in-Err-clause-answered : goal.returns-in-Err-clause-answered
-returns-in-Err-clause-answered g c =
-    let e = c.self.inside in
-    let alive : e.failed ≡ false = c.if-self.false in
-    let ms = e.ahead.members.items in
-    let cs = e.ahead.commands.items in
-    let ts = e.ahead.taken.items in
-    let known = c.count-count.ensures.known in
-    let it = c.self.invariant.2 in
-    subst (λ (s : EngineState g.row.D.Denot). Advances s c.args.next.now.items (Err Device)
-    c.refuse-in-Err.new.served.items (engine_of c.put_behind.new.disk e.checkpoint e.memory c.forget_ahead.new.self
-    c.forget.new.self.members.items true)) c.self.view_is
-    (advance_failed e.disk e.checkpoint e.memory e.journal ms cs ts e.failed known it alive c.put_behind.new.disk
-    c.forget_ahead.new.self c.args.next.now.items c.forget.new.self.members.items
-    (c.forget_ahead.ensures.state ∙ ap (λ (j : JournalState). with_ahead [] j) c.in-Err.ensures.state)
-    c.forget.ensures.members c.refuse-in-Err.new.served.items c.refuse-in-Err.ensures)
+pub returns-then-takes_all-clause-takes : goal.returns-then-takes_all-clause-takes
+returns-then-takes_all-clause-takes g c =
+    subst (λ (l : List Command). IfOk c.go_on.result (λ many. TakesNext c.args.self.now l c.go_on.new.self many))
+    c.as_slice-members.ensures.value c.go_on.ensures.takes
 
-pub invariant_of-self : goal.invariant_of-self
-invariant_of-self g c =
-    let e = c.self.inside in
-    let state = c.forget_ahead.ensures.state ∙ ap (λ (j : JournalState). with_ahead [] j) c.in-Err.ensures.state in (
-      fits_ahead e.checkpoint.state e.memory.contents e.journal c.forget_ahead.new.self [] state c.self.invariant.0,
-      λ h f. absurd (cc),
-      nothing_ahead e.memory.contents c.forget_ahead.new.self c.forget.new.self.members.items
-          c.forget.new.self.commands.items c.forget.new.self.taken.items c.forget.ensures.members
-          c.forget.ensures.commands c.forget.ensures.taken (ap (λ (j : JournalState). j.ahead) state),
-    )
+pub returns-then-takes_all-clause-runs : goal.returns-then-takes_all-clause-runs
+returns-then-takes_all-clause-runs g c =
+    subst (λ (l : List Command). ServesAhead g.D.Disk c.args.self.now c.go_on.new.self (length l) c.go_on.result)
+    c.as_slice-members.ensures.value c.go_on.ensures.runs
 
 pub returns-clause-answered : goal.returns-clause-answered
 returns-clause-answered g c =
-    let e = c.self.inside in
-    let alive : e.failed ≡ false = c.if-self.false in
-    let ms = e.ahead.members.items in
-    let cs = e.ahead.commands.items in
-    let ts = e.ahead.taken.items in
-    let known = c.count-count.ensures.known in
-    let it = c.self.invariant.2 in
-    let next = c.judge_coming-coming.result in
-    let taken : next.members.items ≡ take c.many-many.result c.args.next.now.items =
-    c.judge_coming-coming.ensures.members
-    ∙ (λ i. take (sym c.many-many.ensures i) (c.as_slice-members.ensures.value i)) in
-    subst (λ (s : EngineState g.row.D.Denot). Advances s c.args.next.now.items (Ok c.many-many.result)
-    c.act_ahead.new.served.items (engine_of c.put_behind.new.disk c.act_ahead.new.checkpoint c.act_ahead.new.memory
-    c.put_behind.new.journal next.members.items e.failed)) c.self.view_is
-    (advance_done e.disk e.checkpoint e.memory e.journal ms cs ts e.failed known it alive c.put_behind.new.disk
-    c.act_ahead.new.checkpoint c.act_ahead.new.memory c.put_behind.new.journal c.args.next.now.items
-    next.commands.items next.members.items c.many-many.result c.in_default.ensures.state taken
-    c.act_ahead.ensures.stays.state c.act_ahead.ensures.contents c.act_ahead.new.served.items
-    c.act_ahead.ensures.answers c.act_ahead.ensures.stays.pages)
+    subst (λ (l : List Command). Advances c.args.self.now l c.advance_some.result c.advance_some.new.served.items
+    c.advance_some.new.self) c.as_slice-members.ensures.value c.advance_some.ensures.answered
 
-pub returns-in-Err-clause-runs : goal.returns-in-Err-clause-runs
-returns-in-Err-clause-runs g c =
-    let e = c.self.inside in
-    let alive : e.failed ≡ false = c.if-self.false in
-    let ms = e.ahead.members.items in
-    let cs = e.ahead.commands.items in
-    let ts = e.ahead.taken.items in
-    let known = c.count-count.ensures.known in
-    let it = c.self.invariant.2 in
-    let next = c.judge_coming-coming.result in
-    let only = λ (h : g.D.Disk.honest c.put_behind.new.disk). only_weaker g.D.Disk.now g.D.Disk.past e.disk
-    c.put_behind.new.disk _
-    (MeansEither (engine_of e.disk e.checkpoint e.memory e.journal ms e.failed)
-    (after_commands (engine_of e.disk e.checkpoint e.memory e.journal ms e.failed) ms))
-    (c.put_behind.ensures.leaves h e.checkpoint.state (paged e.checkpoint e.memory) e.memory.contents
-    (contents_after_all e.memory.contents (places e.journal.count e.journal.room) ms)
-    (accepts e.disk e.checkpoint e.memory e.journal ms cs ts e.failed known it)
-    (c.self.invariant.1 (c.put_behind.ensures.honest h) alive))
-    (means_group e.disk e.checkpoint e.memory e.journal ms e.failed ms known e.journal.ahead
-    (laid_is e.disk e.checkpoint e.memory e.journal ms cs ts e.failed known it)) in
-    subst (λ (s : EngineState g.row.D.Denot). ServesAhead g.D.Disk s (engine_of c.put_behind.new.disk e.checkpoint
-    e.memory c.forget_ahead.new.self c.forget.new.self.members.items true) (length c.args.next.now.items)
-    (Err Device)) c.self.view_is (record {
-      honest = λ h. c.put_behind.ensures.honest h;
-      calls = tt;
-      few = λ h. calls_few g.D.Disk.past e.disk c.put_behind.new.disk (length e.journal.ahead)
-          (length next.commands.items) (length c.args.next.now.items) c.put_behind.result
-          (few_coming _ c.args.next.now.items c.as_slice-members.result.now next.members.items next.commands.items
-          next.taken.items c.as_slice-members.ensures.value c.judge_coming-coming.ensures.told
-          c.judge_coming-coming.ensures.begins.within) (c.put_behind.ensures.calls.made h);
-      faults = (inr refl, λ is. c.in-Err.ensures.faults.1 c.in-Err.ensures.faults.0, λ no. absurd (no refl));
-      leaves = λ h f. (only h).within;
-      doubt = λ h f. (only h).after;
-      means = λ h f. absurd (cc);
-    })
-
-pub invariant_of-self-2 : goal.invariant_of-self-2
-invariant_of-self-2 g c =
-    let e = c.self.inside in
-    let alive : e.failed ≡ false = c.if-self.false in
-    let ms = e.ahead.members.items in
-    let cs = e.ahead.commands.items in
-    let ts = e.ahead.taken.items in
-    let known = c.count-count.ensures.known in
-    let it = c.self.invariant.2 in
-    let next = c.judge_coming-coming.result in
-    let contents = c.act_ahead.ensures.contents
-    ∙ enough-contents e.memory.contents (length ms) (places e.journal.count e.journal.room) ms (omega arith) it.enough
-    in
-    let kept = λ (h : g.D.Disk.honest c.put_behind.new.disk). subst (λ (n : Contents). IsKept
-    c.act_ahead.new.checkpoint.state (paged c.act_ahead.new.checkpoint c.act_ahead.new.memory) n
-    c.put_behind.new.journal (g.D.Disk.now c.put_behind.new.disk)) (sym contents)
-    (c.act_ahead.ensures.kept
-    (contents_after_all e.memory.contents (places e.journal.count e.journal.room) ms)
-    c.put_behind.new.journal (g.D.Disk.now c.put_behind.new.disk)
-    (c.in_default.ensures.kept h e.checkpoint.state (paged e.checkpoint e.memory) e.memory.contents
-    (contents_after_all e.memory.contents (places e.journal.count e.journal.room) ms)
-    (accepts e.disk e.checkpoint e.memory e.journal ms cs ts e.failed known it)
-    (c.self.invariant.1 (c.put_behind.ensures.honest h) alive))) in (
-      fits_ahead c.act_ahead.new.checkpoint.state c.act_ahead.new.memory.contents
-          (longer (length e.journal.ahead) e.journal) c.put_behind.new.journal next.commands.items
-          c.in_default.ensures.state
-          (fits_group e.checkpoint.state c.act_ahead.new.checkpoint.state e.memory.contents
-          c.act_ahead.new.memory.contents e.journal (longer (length e.journal.ahead) e.journal)
-          (length e.journal.ahead) c.self.invariant.0 c.act_ahead.ensures.stays.state c.act_ahead.ensures.sizes refl),
-      λ h f. kept h,
-      next_ahead e.disk e.checkpoint e.memory e.journal ms cs ts e.failed known it next.members.items
-          next.commands.items next.taken.items
-          (subst (λ (s : EngineState g.row.D.Denot). WereJudged (after s.memory (put_ahead s)) next.members.items
-          next.commands.items next.taken.items) (sym c.self.view_is) c.judge_coming-coming.ensures.told)
-          (subst (λ (s : EngineState g.row.D.Denot). length next.members.items ≤ places_left s) (sym c.self.view_is)
-          c.judge_coming-coming.ensures.begins.few)
-          c.act_ahead.new.memory.contents c.put_behind.new.journal c.act_ahead.ensures.contents
-          c.in_default.ensures.state,
-    )
+pub returns-clause-takes : goal.returns-clause-takes
+returns-clause-takes g c =
+    subst (λ (l : List Command). IfOk c.advance_some.result
+    (λ many. TakesNext c.args.self.now l c.advance_some.new.self many))
+    c.as_slice-members.ensures.value c.advance_some.ensures.takes
 
 pub returns-clause-runs : goal.returns-clause-runs
 returns-clause-runs g c =
-    let e = c.self.inside in
-    let alive : e.failed ≡ false = c.if-self.false in
-    let ms = e.ahead.members.items in
-    let cs = e.ahead.commands.items in
-    let ts = e.ahead.taken.items in
-    let known = c.count-count.ensures.known in
-    let it = c.self.invariant.2 in
-    let next = c.judge_coming-coming.result in
-    let only = λ (h : g.D.Disk.honest c.put_behind.new.disk). only_weaker g.D.Disk.now g.D.Disk.past e.disk
-    c.put_behind.new.disk _
-    (MeansEither (engine_of e.disk e.checkpoint e.memory e.journal ms e.failed)
-    (after_commands (engine_of e.disk e.checkpoint e.memory e.journal ms e.failed) ms))
-    (c.put_behind.ensures.leaves h e.checkpoint.state (paged e.checkpoint e.memory) e.memory.contents
-    (contents_after_all e.memory.contents (places e.journal.count e.journal.room) ms)
-    (accepts e.disk e.checkpoint e.memory e.journal ms cs ts e.failed known it)
-    (c.self.invariant.1 (c.put_behind.ensures.honest h) alive))
-    (means_group e.disk e.checkpoint e.memory e.journal ms e.failed ms known e.journal.ahead
-    (laid_is e.disk e.checkpoint e.memory e.journal ms cs ts e.failed known it)) in
-    let contents = c.act_ahead.ensures.contents
-    ∙ enough-contents e.memory.contents (length ms) (places e.journal.count e.journal.room) ms (omega arith) it.enough
-    in
-    let kept = λ (h : g.D.Disk.honest c.put_behind.new.disk). subst (λ (n : Contents). IsKept
-    c.act_ahead.new.checkpoint.state (paged c.act_ahead.new.checkpoint c.act_ahead.new.memory) n
-    c.put_behind.new.journal (g.D.Disk.now c.put_behind.new.disk)) (sym contents)
-    (c.act_ahead.ensures.kept
-    (contents_after_all e.memory.contents (places e.journal.count e.journal.room) ms)
-    c.put_behind.new.journal (g.D.Disk.now c.put_behind.new.disk)
-    (c.in_default.ensures.kept h e.checkpoint.state (paged e.checkpoint e.memory) e.memory.contents
-    (contents_after_all e.memory.contents (places e.journal.count e.journal.room) ms)
-    (accepts e.disk e.checkpoint e.memory e.journal ms cs ts e.failed known it)
-    (c.self.invariant.1 (c.put_behind.ensures.honest h) alive))) in
-    let ahead2 = next_ahead e.disk e.checkpoint e.memory e.journal ms cs ts e.failed known it next.members.items
-    next.commands.items next.taken.items
-    (subst (λ (s : EngineState g.row.D.Denot). WereJudged (after s.memory (put_ahead s)) next.members.items
-    next.commands.items next.taken.items) (sym c.self.view_is) c.judge_coming-coming.ensures.told)
-    (subst (λ (s : EngineState g.row.D.Denot). length next.members.items ≤ places_left s) (sym c.self.view_is)
-    c.judge_coming-coming.ensures.begins.few)
-    c.act_ahead.new.memory.contents c.put_behind.new.journal c.act_ahead.ensures.contents c.in_default.ensures.state in
-    let was : length e.journal.ahead ≡ length (put_ahead (engine_of e.disk e.checkpoint e.memory e.journal ms e.failed))
-    = ap length (laid_is e.disk e.checkpoint e.memory e.journal ms cs ts e.failed known it) in
-    let is : length next.commands.items ≡ length (put_ahead (engine_of c.put_behind.new.disk c.act_ahead.new.checkpoint
-    c.act_ahead.new.memory c.put_behind.new.journal next.members.items e.failed))
-    = ap length (new_put e.memory.contents c.act_ahead.new.memory.contents c.put_behind.new.journal
-    next.members.items next.commands.items next.taken.items ahead2) in
-    subst (λ (s : EngineState g.row.D.Denot). ServesAhead g.D.Disk s (engine_of c.put_behind.new.disk
-    c.act_ahead.new.checkpoint c.act_ahead.new.memory c.put_behind.new.journal next.members.items e.failed)
-    (length c.args.next.now.items) (Ok c.many-many.result)) c.self.view_is (record {
-      honest = λ h. c.put_behind.ensures.honest h;
-      calls = λ h. subst (λ (n : ℕ). Calls g.D.Disk.past e.disk c.put_behind.new.disk n)
-          (λ i. calls_to_advance (was i) (is i))
-          (calls_made g.D.Disk.past e.disk c.put_behind.new.disk _ c.put_behind.result _ c.in_default.is
-          (c.put_behind.ensures.calls.made h));
-      few = λ h. calls_few g.D.Disk.past e.disk c.put_behind.new.disk (length e.journal.ahead)
-          (length next.commands.items) (length c.args.next.now.items) c.put_behind.result
-          (few_coming _ c.args.next.now.items c.as_slice-members.result.now next.members.items next.commands.items
-          next.taken.items c.as_slice-members.ensures.value c.judge_coming-coming.ensures.told
-          c.judge_coming-coming.ensures.begins.within) (c.put_behind.ensures.calls.made h);
-      faults = c.in_default.ensures.faults;
-      leaves = λ h f. (only h).within;
-      doubt = λ h f. (only h).after;
-      means = λ h f. all_mean c.act_ahead.new.checkpoint.state
-          (paged c.act_ahead.new.checkpoint c.act_ahead.new.memory) c.act_ahead.new.memory.contents
-          c.put_behind.new.journal (g.D.Disk.now c.put_behind.new.disk) (kept h);
-    })
-
--- the commands of the next members are those ahead of the new engine
-pub returns-clause-takes : goal.returns-clause-takes
-returns-clause-takes g c =
-    let e = c.self.inside in
-    let ms = e.ahead.members.items in
-    let cs = e.ahead.commands.items in
-    let ts = e.ahead.taken.items in
-    let known = c.count-count.ensures.known in
-    let it = c.self.invariant.2 in
-    let next = c.judge_coming-coming.result in
-    let ahead2 = next_ahead e.disk e.checkpoint e.memory e.journal ms cs ts e.failed known it next.members.items
-    next.commands.items next.taken.items
-    (subst (λ (s : EngineState g.row.D.Denot). WereJudged (after s.memory (put_ahead s)) next.members.items
-    next.commands.items next.taken.items) (sym c.self.view_is) c.judge_coming-coming.ensures.told)
-    (subst (λ (s : EngineState g.row.D.Denot). length next.members.items ≤ places_left s) (sym c.self.view_is)
-    c.judge_coming-coming.ensures.begins.few)
-    c.act_ahead.new.memory.contents c.put_behind.new.journal c.act_ahead.ensures.contents c.in_default.ensures.state in
-    subst (λ (l : List Command). IsComing c.args.self.now c.args.next.now.items l c.many-many.result)
-    (new_put e.memory.contents c.act_ahead.new.memory.contents c.put_behind.new.journal
-    next.members.items next.commands.items next.taken.items ahead2)
-    (subst (λ (n : ℕ). IsComing c.args.self.now c.args.next.now.items next.commands.items n) (sym c.many-many.ensures)
-    (subst (λ (l : List Command). IsComing c.args.self.now l next.commands.items (length next.members.items))
-    c.as_slice-members.ensures.value c.judge_coming-coming.ensures.begins))
+    subst (λ (l : List Command). ServesAhead g.D.Disk c.args.self.now c.advance_some.new.self (length l)
+    c.advance_some.result) c.as_slice-members.ensures.value c.advance_some.ensures.runs

@@ -2,7 +2,7 @@ use Rattle.std.proofs.Common.{◌≡◌, true, false, Ok, sym, ap, ◌∙◌, su
 use Rattle.{im_types.specs.Types.step, im_types.specs.Types.is_accepted, im_memory.specs.State.MemoryState}
 use Rattle.im_disk.specs.Since.{CallsBy, LeavesNow}
 use Rattle.im_checkpoint.specs.{Keeping.Fits, Keeping.IsKept, Keeping.paged, Step.changed_in}
-use Rattle.im_engine.{proofs.Keeping.all_mean, specs.Answered.calls_for, specs.Chain.IsAhead}
+use Rattle.im_engine.{proofs.Keeping.all_mean, specs.Answered.calls_for, specs.Chain.IsAhead, specs.Chain.laid_of}
 use Rattle.im_engine.proofs.Serving.{accepts, answered_unaccepted, calls_accepted, calls_none}
 use Rattle.im_engine.specs.State.{EngineState, MeansEither, MeansState, with_command}
 use Rattle.im_engine.proofs.engine.Engine.serve.Goals as goal
@@ -17,8 +17,9 @@ invariant_of-self g c =
       subst (λ (m : MemoryState). Fits e.checkpoint.state m.contents e.journal) (sym same) c.self.invariant.0,
       λ h f. subst (λ (m : MemoryState). IsKept e.checkpoint.state (paged e.checkpoint m) m.contents e.journal
           (g.D.Disk.now e.disk)) (sym same) (c.self.invariant.1 h f),
-      subst (λ (m : MemoryState). IsAhead m.contents e.journal e.ahead.members.items e.ahead.commands.items
-          e.ahead.taken.items) (sym same) c.self.invariant.2,
+      subst (λ (m : MemoryState). IsAhead m.contents e.journal e.ahead.members.items
+          (laid_of e.ahead.whole e.ahead.members.items e.ahead.commands.items) e.ahead.taken.items)
+          (sym same) c.self.invariant.2,
     )
 
 pub returns-in-Ok-true-clause-leaves : goal.returns-in-Ok-true-clause-leaves

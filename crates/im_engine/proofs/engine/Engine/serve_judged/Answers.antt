@@ -7,7 +7,7 @@ use Rattle.im_engine.proofs.{Chaining.still_ahead, Chaining.unchanged_after, Kee
 use Rattle.im_engine.proofs.Members.{length_answers, length_refused}
 use Rattle.im_engine.proofs.Together.{accepts, calls_done, calls_failed, fits_group, group_done, group_failed, last_for}
 use Rattle.im_engine.proofs.Together.{means_group, room_for}
-use Rattle.im_engine.specs.{Chain.IsAhead, State.engine_of, State.EngineState, State.MeansEither}
+use Rattle.im_engine.specs.{Chain.IsAhead, Chain.laid_of, State.engine_of, State.EngineState, State.MeansEither}
 use Rattle.im_engine.specs.Commands.{after_commands, AreParted, AreWhole, commands_put, CommandsAnswered}
 use Rattle.im_engine.specs.Commands.{ServesCommands}
 use Rattle.im_engine.proofs.engine.Engine.serve_judged.Goals as goal
@@ -120,7 +120,7 @@ invariant_of-self-2 g c =
           (c.self.invariant.1 (c.put_on.ensures.honest h) f))),
       still_ahead e.memory.contents c.act_all.new.memory.contents e.journal c.put_on.new.journal
           c.args.commands.now _ _ _ _ _ _ c.in_default.ensures.state c.forget_behind.ensures.members
-          c.forget_behind.ensures.commands c.forget_behind.ensures.taken
+          c.forget_behind.ensures.put c.forget_behind.ensures.taken
           (λ none. contents ∙ unchanged_after e.memory.contents (places e.journal.count e.journal.room)
           c.args.members.now.all.now c.args.commands.now are none) c.places_in-places.ensures.known c.self.invariant.2,
     )
@@ -231,6 +231,7 @@ invariant_of-self g c =
     let same = c.in-Err.ensures.state in (
       subst (λ (j : JournalState). Fits e.checkpoint.state e.memory.contents j) (sym same) c.self.invariant.0,
       λ h f. absurd (cc),
-      subst (λ (j : JournalState). IsAhead e.memory.contents j e.ahead.members.items e.ahead.commands.items
-          e.ahead.taken.items) (sym same) c.self.invariant.2,
+      subst (λ (j : JournalState). IsAhead e.memory.contents j e.ahead.members.items
+          (laid_of e.ahead.whole e.ahead.members.items e.ahead.commands.items) e.ahead.taken.items)
+          (sym same) c.self.invariant.2,
     )

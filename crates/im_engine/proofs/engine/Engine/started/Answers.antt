@@ -6,8 +6,8 @@ pub invariant_of-result : goal.invariant_of-result
 invariant_of-result g c = (
   c.requires.fits,
   λ h f. c.requires.kept h,
-  nothing_ahead c.args.memory.contents c.args.journal _ _ _ c.none.ensures.members c.none.ensures.commands
-      c.none.ensures.taken c.requires.none,
+  nothing_ahead c.args.memory.contents c.args.journal _ _ _ c.none.ensures.members
+      c.none.ensures.put c.requires.none,
 )
 
 pub returns-clause-means : goal.returns-clause-means

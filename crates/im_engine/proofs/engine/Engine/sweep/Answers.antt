@@ -5,7 +5,7 @@ use Rattle.im_checkpoint.{proofs.Fitting.room_fits, specs.Turns.calls_to_sweep, 
 use Rattle.im_checkpoint.specs.{Keeping.Fits, Keeping.IsKept, Keeping.paged, Step.changed_in}
 use Rattle.im_engine.proofs.Chaining.{calls_alone, more_room, number_here, swept_alone}
 use Rattle.im_engine.proofs.Keeping.{all_hold, all_mean}
-use Rattle.im_engine.specs.{Answered.SweepAnswered, Chain.IsAhead}
+use Rattle.im_engine.specs.{Answered.SweepAnswered, Chain.IsAhead, Chain.laid_of}
 use Rattle.im_engine.specs.State.{engine_of, EngineState, journal_in, journal_of, MeansState}
 use Rattle.im_engine.proofs.engine.Engine.sweep.Goals as goal
 
@@ -121,6 +121,7 @@ invariant_of-self-in-Err g c =
     let same = c.in-Err.ensures.same in (
       subst (λ (j : JournalState). Fits e.checkpoint.state e.memory.contents j) (sym same) c.self.invariant.0,
       λ h f. absurd (cc),
-      subst (λ (j : JournalState). IsAhead e.memory.contents j e.ahead.members.items e.ahead.commands.items
-          e.ahead.taken.items) (sym same) c.self.invariant.2,
+      subst (λ (j : JournalState). IsAhead e.memory.contents j e.ahead.members.items
+          (laid_of e.ahead.whole e.ahead.members.items e.ahead.commands.items) e.ahead.taken.items)
+          (sym same) c.self.invariant.2,
     )

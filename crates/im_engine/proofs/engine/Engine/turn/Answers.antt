@@ -4,7 +4,8 @@ use Rattle.im_disk.specs.Since.{Leaves, LeavesNow}
 use Rattle.im_checkpoint.specs.{declared.TurnDone.TurnDone, Step.PagedCheckpoint}
 use Rattle.im_checkpoint.specs.Keeping.{Fits, IsKept, paged}
 use Rattle.im_engine.proofs.{Chaining.ahead_kept, Chaining.turned_here, Keeping.all_mean}
-use Rattle.im_engine.specs.{Answered.TurnAnswered, Chain.IsAhead, State.engine_of, State.EngineState, State.MeansState}
+use Rattle.im_engine.specs.{Answered.TurnAnswered, Chain.IsAhead, Chain.laid_of}
+use Rattle.im_engine.specs.State.{engine_of, EngineState, MeansState}
 use Rattle.im_engine.proofs.engine.Engine.turn.Goals as goal
 
 pub turn-requires-clause-kept : goal.turn-requires-clause-kept
@@ -82,6 +83,7 @@ invariant_of-self-in-Err g c =
       subst (λ (j : JournalState). Fits c.turn.new.self.state e.memory.contents j) (sym same.1)
           (subst (λ (k : PagedCheckpoint). Fits k.state e.memory.contents e.journal) (sym same.0) c.self.invariant.0),
       λ h f. absurd (cc),
-      subst (λ (j : JournalState). IsAhead e.memory.contents j e.ahead.members.items e.ahead.commands.items
-          e.ahead.taken.items) (sym same.1) c.self.invariant.2,
+      subst (λ (j : JournalState). IsAhead e.memory.contents j e.ahead.members.items
+          (laid_of e.ahead.whole e.ahead.members.items e.ahead.commands.items) e.ahead.taken.items)
+          (sym same.1) c.self.invariant.2,
     )
