@@ -10,8 +10,11 @@ use Rattle.im_dialogue.specs.declared.{about.About.About, answers.LineAnswer.Lin
 use Rattle.im_dialogue.specs.declared.answers.LineAnswer.TheVariants.{About as Facts, Backup, Count, Looked, Room}
 use Rattle.im_dialogue.specs.declared.answers.LineAnswer.TheVariants.{Served, Turned, Window, Wrong}
 use Rattle.im_dialogue.specs.declared.backups.BackupFault.{BackupFault}
-use Rattle.im_dialogue.specs.declared.look.Look.TheVariants.{Block, Cell, Collect, Entry as Recalls, Help, Stat}
-use Rattle.im_dialogue.specs.Showing.{block_said, cell_said, help_line, recall, stat_line}
+use Rattle.im_dialogue.specs.declared.look.Look.TheVariants.{Block, Blocks, Cell, Cells, Collect, Elements}
+use Rattle.im_dialogue.specs.declared.look.Look.TheVariants.{Entry as Recalls, Help, Stat, Waiting}
+use Rattle.im_dialogue.specs.Showing.{block_said, cell_said, cells_list, elements_list, help_line, recall, sort_list}
+use Rattle.im_dialogue.specs.Showing.{stat_line, window_said}
+use Rattle.im_dialogue.specs.declared.sort.Sort.TheVariants as sort
 
 -- E.N refused NUMBER NAME
 abbrev pub request_refused : ℕ → ℕ → Refusal → List ℕ → List ℕ
@@ -51,8 +54,7 @@ served_line name (Confirm element upto) (Err refusal) = element_refused element 
 
 -- E window BASE NEXT
 abbrev pub window_line : ℕ → List ℕ → Result (ℕ × ℕ) Refusal → List ℕ
-window_line element name (Ok (base, next)) =
-    decimal element ++ codes " window " ++ decimal base ++ codes " " ++ decimal next ++ line_feed
+window_line element name (Ok w) = window_said element (Ok w) ++ line_feed
 window_line element name (Err refusal) = element_refused element refusal name
 
 -- version V cells C
@@ -88,8 +90,12 @@ wrong_line number words = codes "error " ++ decimal number ++ codes ": " ++ word
 abbrev pub look_text : List ℕ → Contents → Look → List ℕ
 look_text name m (Collect who) = kept_line who.element who.number name (ask m.windows who)
 look_text name m (Recalls who) = recalled_line who.element who.number name (recall m.windows who)
-look_text name m (Cell a) = cell_said a (held_at m.cells a)
-look_text name m (Block a) = block_said a (block_at m.cells a)
+look_text name m (Cell a) = cell_said a (held_at m.cells a) ++ line_feed
+look_text name m (Cells a b) = cells_list a b m
+look_text name m Waiting = sort_list (codes "waiting") sort.Waiting m
+look_text name m (Block a) = block_said a (block_at m.cells a) ++ line_feed
+look_text name m Blocks = sort_list (codes "blocks") sort.Base m
+look_text name m Elements = elements_list m
 look_text name m Stat = stat_line m
 look_text name m Help = help_line
 

@@ -3,11 +3,13 @@ use Rattle.std.specs.Prelude.{ℕ, List, [], ◌∷◌, if◌then◌else◌, ◌
 use Rattle.std.specs.Prelude.{option_and_then}
 use Rattle.std.specs.{List.slice_split, Option.option_or}
 use Rattle.im_types.specs.Types.{Op, Waiter, Command, Asks, Confirm}
-use Rattle.im_script.specs.{Grammar.is_line, Grammar.number_up_to, Grammar.words_of, Lines.action_of, Places.action_op}
+use Rattle.im_script.specs.Grammar.{is_line, number_up_to, span_in, words_of}
+use Rattle.im_script.specs.{Lines.action_of, Places.action_op}
 use Rattle.im_dialogue.specs.{Backups.backup_name_of, declared.asking.Question.Question}
 use Rattle.im_dialogue.specs.declared.asking.Question.TheVariants.{About, Backup, Count, Look, Quit, Room, Serve, Turn}
 use Rattle.im_dialogue.specs.declared.asking.Question.TheVariants.{Window}
-use Rattle.im_dialogue.specs.declared.look.Look.TheVariants.{Block, Cell, Collect, Entry, Help, Stat}
+use Rattle.im_dialogue.specs.declared.look.Look.TheVariants.{Block, Blocks, Cell, Cells, Collect, Elements, Entry, Help}
+use Rattle.im_dialogue.specs.declared.look.Look.TheVariants.{Stat, Waiting}
 
 -- an element's number
 abbrev pub element_of : List ℕ → Option ℕ
@@ -36,28 +38,32 @@ waiter_named word = waiter_by (slice_split (λ byte. byte == 46) word)
 abbrev pub op_in : List (List ℕ) → Option Op
 op_in words = option_and_then (action_op []) (action_of [] words)
 
--- room, turn, count, about, stat, help or quit
+-- room, turn, count, about, stat, blocks, elements, waiting, help or quit
 abbrev pub asked_by_one : List ℕ → Option Question
 asked_by_one word = if bytes_eq word (codes "room") then Some Room
     else (if bytes_eq word (codes "turn") then Some Turn
     else (if bytes_eq word (codes "count") then Some Count
     else (if bytes_eq word (codes "about") then Some About
     else (if bytes_eq word (codes "stat") then Some (Look Stat)
+    else (if bytes_eq word (codes "blocks") then Some (Look Blocks)
+    else (if bytes_eq word (codes "elements") then Some (Look Elements)
+    else (if bytes_eq word (codes "waiting") then Some (Look Waiting)
     else (if bytes_eq word (codes "help") then Some (Look Help)
-    else (if bytes_eq word (codes "quit") then Some Quit else None))))))
+    else (if bytes_eq word (codes "quit") then Some Quit else None)))))))))
 
 -- cell A or block A, given the address
 abbrev pub asked_at : List ℕ → ℕ → Option Question
 asked_at word a = if bytes_eq word (codes "cell") then Some (Look (Cell a))
     else (if bytes_eq word (codes "block") then Some (Look (Block a)) else None)
 
--- collect E.N, entry E.N, window E, backup NAME, cell A or block A
+-- collect E.N, entry E.N, window E, backup NAME, cells A-B, cell A or block A
 abbrev pub asked_by_two : List ℕ → List ℕ → Option Question
 asked_by_two word what = if bytes_eq word (codes "collect") then option_map (λ w. Look (Collect w)) (waiter_named what)
     else (if bytes_eq word (codes "entry") then option_map (λ w. Look (Entry w)) (waiter_named what)
     else (if bytes_eq word (codes "window") then option_map Window (element_of what)
     else (if bytes_eq word (codes "backup") then option_map Backup (backup_name_of what)
-    else option_and_then (asked_at word) (number_up_to 4294967295 what))))
+    else (if bytes_eq word (codes "cells") then option_map (λ s. Look (Cells s.0 s.1)) (span_in what)
+    else option_and_then (asked_at word) (number_up_to 4294967295 what)))))
 
 -- confirm E UPTO
 abbrev pub asked_by_three : List ℕ → List ℕ → List ℕ → Option Question

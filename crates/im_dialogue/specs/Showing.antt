@@ -1,11 +1,11 @@
 -- What is shown of a memory by a line that only looks. (Own.)
-use Rattle.std.specs.Prelude.{ℕ, List, [], ◌∷◌, ◌++◌, length, if◌then◌else◌, nat_lt, slice_get, Some, None, Ok, Err}
-use Rattle.std.specs.Prelude.{codes, decimal, Option, Result, option_map}
+use Rattle.std.specs.Prelude.{ℕ, ◌+◌, ◌-◌, List, [], ◌∷◌, ◌++◌, length, if◌then◌else◌, nat_lt, slice_get, Some, None}
+use Rattle.std.specs.Prelude.{Ok, Err, codes, decimal, Option, Result, option_map}
 use Rattle.im_types.specs.Types.{Waiter, Block, Kept as KeptEntry, Refusal, Gap, Forgotten, Held, Window, Contents}
-use Rattle.im_types.specs.Types.{waiters_in, kept_for, presence_in, Cell, bounds}
-use Rattle.im_text.specs.Texts.{kind_text, line_feed}
-use Rattle.im_report.specs.Figures.{kept_in, queue_at, sum_below}
-use Rattle.im_dialogue.specs.Counting.{many_cells}
+use Rattle.im_types.specs.Types.{held_at, waiters_in, kept_for, block_at, presence_in, Cell, bounds}
+use Rattle.im_text.specs.Texts.{kind_text, line_feed, texts_below}
+use Rattle.im_report.specs.{Figures.kept_in, Figures.queue_at, Figures.sum_below, Look.text_if}
+use Rattle.im_dialogue.specs.{Counting.is_counted, Counting.many_cells, declared.sort.Sort.Sort}
 use Rattle.im_dialogue.specs.declared.sort.Sort.TheVariants.{Base, Clashed, Empty, Full, Waiting}
 use Rattle.im_types.specs.declared.cells.Cell.TheVariants as cell
 
@@ -45,14 +45,63 @@ held_text (Some block) seen waiters = kind_text block.kind ++ state_text seen wa
 -- cell A KIND STATE, or cell A nocell
 abbrev pub cell_said : ℕ → Option Held → List ℕ
 cell_said a held = codes "cell " ++ decimal a ++ codes " "
-    ++ held_text (option_map (λ (h : Held). h.block) held) (presence_in held) (waiters_in held) ++ line_feed
+    ++ held_text (option_map (λ (h : Held). h.block) held) (presence_in held) (waiters_in held)
 
 -- block BASE KIND LENGTH, or block A noblock
 abbrev pub block_said : ℕ → Option Block → List ℕ
-block_said a None = codes "block " ++ decimal a ++ codes " noblock" ++ line_feed
+block_said a None = codes "block " ++ decimal a ++ codes " noblock"
 block_said a (Some b) =
     codes "block " ++ decimal b.base ++ codes " " ++ kind_text b.kind ++ codes " " ++ decimal b.length
-    ++ line_feed
+
+-- E window BASE NEXT, by the bounds of the window
+abbrev pub window_said : ℕ → Result (ℕ × ℕ) Refusal → List ℕ
+window_said element (Ok w) = decimal element ++ codes " window " ++ decimal w.0 ++ codes " " ++ decimal w.1
+window_said element (Err refusal) = []
+
+-- ---- lists: a word, how many parts there are, and each behind a comma
+
+-- a part of a list
+abbrev pub behind_comma : List ℕ → List ℕ
+behind_comma said = codes ", " ++ said
+
+-- a word, a number and parts, which are a line
+abbrev pub list_line : List ℕ → ℕ → List ℕ → List ℕ
+list_line word many parts = word ++ codes " " ++ decimal many ++ parts ++ line_feed
+
+-- how many cells a memory has from one address to another
+abbrev pub many_from : ℕ → ℕ → Contents → ℕ
+many_from a b m = (if nat_lt b (length m.cells) then b + 1 else length m.cells) - a
+
+-- so many cells, from an address on, as parts
+abbrev pub cell_parts : ℕ → Contents → ℕ → List ℕ
+cell_parts a m many = texts_below (λ i. behind_comma (cell_said (a + i) (held_at m.cells (a + i)))) many
+
+-- the cells from one address to another that a memory has, each as `cell` says it
+abbrev pub cells_list : ℕ → ℕ → Contents → List ℕ
+cells_list a b m = list_line (codes "cells") (many_from a b m) (cell_parts a m (many_from a b m))
+
+-- what is said of an address of this sort: of a base its block, else its cell
+abbrev pub shown_at : Sort → Contents → ℕ → List ℕ
+shown_at Base m a = block_said a (block_at m.cells a)
+shown_at sort m a = cell_said a (held_at m.cells a)
+
+-- the part of an address, if it is of this sort
+abbrev pub part_at : Sort → Contents → ℕ → List ℕ
+part_at sort m a = text_if (is_counted sort a (block_at m.cells a) (presence_in (held_at m.cells a)))
+    (behind_comma (shown_at sort m a))
+
+-- all addresses of this sort, each as `block` or `cell` says it
+abbrev pub sort_list : List ℕ → Sort → Contents → List ℕ
+sort_list word sort m = list_line word (many_cells sort m) (texts_below (part_at sort m) (length m.cells))
+
+-- the window of an element as a part
+abbrev pub window_part : Contents → ℕ → List ℕ
+window_part m element = behind_comma (window_said element (bounds m.windows element))
+
+-- all elements, each as `window` says it
+abbrev pub elements_list : Contents → List ℕ
+elements_list m =
+    list_line (codes "elements") (length m.windows) (texts_below (window_part m) (length m.windows))
 
 -- ---- counts
 
@@ -80,5 +129,6 @@ stat_line m = blocks_said m ++ states_said m ++ entries_said m
 abbrev pub help_line : List ℕ
 help_line = (codes "help E.N alloc i LENGTH, E.N alloc m LENGTH, E.N release A, E.N reset A, E.N fetch A, "
     ++ codes "E.N store A VALUE, E.N take A, E.N put A VALUE, ")
-    ++ (codes "collect E.N, entry E.N, confirm E UPTO, window E, cell A, block A, "
+    ++ (codes "collect E.N, entry E.N, confirm E UPTO, window E, elements, cell A, "
+    ++ codes "cells A-B, waiting, block A, blocks, "
     ++ codes "stat, room, turn, count, about, backup NAME, help, quit" ++ line_feed)

@@ -10,7 +10,7 @@ use crate::about::About;
 use crate::backup_name::BackupName;
 use crate::backups::BackupFault;
 use crate::look::Look;
-use crate::showing::{add_look, look_refused};
+use crate::showing::{add_bounds, add_look, look_refused};
 use im_checkpoint::TurnDone;
 use im_memory::Memory;
 use im_script::LineFault;
@@ -176,7 +176,10 @@ fn add_window(
     ensures { OnOk result (string_bytes out.new ≡ string_bytes out.old ++ window_line element name.now answer) }
 {
     match answer {
-        Ok((base, next)) => write!(out, "{element} window {base} {next}\n"),
+        Ok(window) => {
+            add_bounds(out, element, window)?;
+            out.push_str("\n")
+        }
         Err(refusal) => add_element_refused(out, element, refusal, name),
     }
 }

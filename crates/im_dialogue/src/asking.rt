@@ -1,17 +1,18 @@
 //! What a line asks for.
 ghost use Rattle.std.specs.Prelude.{◌≡◌, [], ◌∷◌, IfOk, ◌==◌, option_map, option_and_then};
 ghost use Rattle.std.specs.{List.slice_split, Option.option_or};
-ghost use Rattle.{im_types.specs.Types.Asks, im_script.specs.Grammar.texts, im_script.specs.Grammar.words_of};
+ghost use Rattle.im_types.specs.Types.{Asks};
+ghost use Rattle.im_script.specs.Grammar.{span_in, texts, words_of};
 ghost use Rattle.im_dialogue.specs.Asking.{asked_at, asked_by_one, asked_by_request, asked_by_three, asked_by_two};
 ghost use Rattle.im_dialogue.specs.Asking.{asked_in, asked_of, element_of, op_in, request_number_of, waiter_by};
 ghost use Rattle.im_dialogue.specs.Asking.{waiter_from, waiter_named};
 ghost use Rattle.im_dialogue.specs.Backups.{backup_name_of};
 ghost use Rattle.im_dialogue.specs.declared.asking.Question.TheVariants.{Backup, Look as Looks, Serve, Window};
-ghost use Rattle.im_dialogue.specs.declared.look.Look.TheVariants.{Collect, Entry};
+ghost use Rattle.im_dialogue.specs.declared.look.Look.TheVariants.{Cells, Collect, Entry};
 
 use crate::backup_name::BackupName;
 use crate::look::Look;
-use im_script::{is_line, read_action, read_number, read_u32, split_words};
+use im_script::{is_line, read_action, read_number, read_span, read_u32, split_words};
 use im_types::{Command, Op, Request, Waiter};
 use indexmap::IndexSet;
 use std::alloc::{AllocError, Global};
@@ -106,6 +107,12 @@ pub(crate) fn read_one(word: &[u8]) -> Option<Question>
         Some(Question::About)
     } else if word == b"stat".as_slice() {
         Some(Question::Look(Look::Stat))
+    } else if word == b"blocks".as_slice() {
+        Some(Question::Look(Look::Blocks))
+    } else if word == b"elements".as_slice() {
+        Some(Question::Look(Look::Elements))
+    } else if word == b"waiting".as_slice() {
+        Some(Question::Look(Look::Waiting))
     } else if word == b"help".as_slice() {
         Some(Question::Look(Look::Help))
     } else if word == b"quit".as_slice() {
@@ -155,6 +162,16 @@ fn ask_entry(who: Option<Waiter>) -> Option<Question>
     }
 }
 
+// Asks for the cells at the addresses FROM-TO.
+fn read_cells(span: &[u8]) -> Option<Question>
+    ensures { result ≡ option_map (λ s. Looks (Cells s.0 s.1)) (span_in span.now) }
+{
+    match read_span(span) {
+        Some((from, to)) => Some(Question::Look(Look::Cells(from, to))),
+        None => None,
+    }
+}
+
 // Asks for what is at an address.
 fn ask_at(word: &[u8], a: Option<u32>) -> Option<Question>
     ensures { result ≡ option_and_then (asked_at word.now) a }
@@ -183,6 +200,8 @@ fn read_two(alloc: Global, word: &[u8], what: &[u8]) -> Result<Option<Question>,
         Ok(read_window(what))
     } else if word == b"backup".as_slice() {
         Ok(read_backup(what))
+    } else if word == b"cells".as_slice() {
+        Ok(read_cells(what))
     } else {
         Ok(ask_at(word, read_u32(what)))
     }

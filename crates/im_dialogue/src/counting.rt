@@ -24,8 +24,8 @@ fn stands_at(a: u32, block: Option<Block>) -> bool
     }
 }
 
-// Returns whether an address is of this sort, by the block that it lies in and its cell.
-fn is_counted(sort: Sort, a: u32, block: Option<Block>, cell: Option<Cell>) -> bool
+/// Returns whether an address is of this sort, by the block that it lies in and its cell.
+pub(crate) fn is_counted(sort: Sort, a: u32, block: Option<Block>, cell: Option<Cell>) -> bool
     ensures { result ≡ is_counted sort a block cell }
 {
     match sort {

@@ -5,8 +5,8 @@ ghost use Rattle.im_script.specs.{Faults.is_of_length, Grammar.is_short};
 use crate::asking::{read_element, read_one, read_waiter};
 use crate::backup_name::BackupName;
 use im_script::{
-    Expected, LineFault, MAX_LINE, Quoted, behind_request, bytes_fault, read_number, read_u32,
-    split_words,
+    Expected, LineFault, MAX_LINE, Quoted, behind_request, bytes_fault, read_number, read_span,
+    read_u32, split_words,
 };
 use std::alloc::{AllocError, Global};
 
@@ -24,6 +24,8 @@ fn behind(word: &[u8]) -> Option<&'static [Expected]> {
         Some(&[Expected::Asker])
     } else if word == b"cell".as_slice() || word == b"block".as_slice() {
         Some(&[Expected::Address])
+    } else if word == b"cells".as_slice() {
+        Some(&[Expected::Span])
     } else if word == b"backup".as_slice() {
         Some(&[Expected::BackupName])
     } else {
@@ -49,6 +51,7 @@ fn fits(alloc: Global, word: &[u8], expected: Expected) -> Result<bool, AllocErr
         Expected::Length | Expected::Address => read_u32(word).is_some(),
         Expected::Number | Expected::Value => read_number(word, u64::MAX).is_some(),
         Expected::BackupName => BackupName::read(word).is_some(),
+        Expected::Span => read_span(word).is_some(),
         _ => true,
     })
 }

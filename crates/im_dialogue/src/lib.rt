@@ -15,6 +15,7 @@ mod firsts;
 mod line_part;
 mod line_serving;
 mod lines;
+mod listing;
 mod look;
 mod resting;
 mod saying;

@@ -1,12 +1,13 @@
 //! Adds what lines show that only look at the memory.
-ghost use Rattle.std.specs.Prelude.{◌≡◌, ◌++◌, OnOk, string_bytes};
+ghost use Rattle.std.specs.Prelude.{◌≡◌, ◌++◌, OnOk, Ok, string_bytes};
 ghost use Rattle.im_types.specs.Types.{held_at, waiters_at, block_at, presence_in};
 ghost use Rattle.im_dialogue.specs.Answers.{look_text, recalled_line};
 ghost use Rattle.im_dialogue.specs.Showing.{block_said, blocks_said, cell_said, entries_said, held_text, help_line};
-ghost use Rattle.im_dialogue.specs.Showing.{queue_text, recall, stat_line, state_text, states_said};
+ghost use Rattle.im_dialogue.specs.Showing.{queue_text, recall, stat_line, state_text, states_said, window_said};
 
 use crate::answers::{add_kept, add_operation, add_request_refused};
 use crate::counting::count_cells;
+use crate::listing::{add_cells, add_elements, add_list};
 use crate::look::Look;
 use crate::sort::Sort;
 use im_memory::Memory;
@@ -97,27 +98,38 @@ fn add_held(out: &mut String, memory: &Memory, a: u32) -> Result<(), AllocError>
     }
 }
 
-// Adds `cell A KIND STATE`, or `cell A nocell`.
-fn add_cell(out: &mut String, memory: &Memory, a: u32) -> Result<(), AllocError>
+/// Adds `cell A KIND STATE`, or `cell A nocell`.
+pub(crate) fn add_cell(out: &mut String, memory: &Memory, a: u32) -> Result<(), AllocError>
     ensures { OnOk result (string_bytes out.new ≡ string_bytes out.old
         ++ cell_said a (held_at memory.now.contents.cells a)) }
 {
     write!(out, "cell {a} ")?;
-    add_held(out, memory, a)?;
-    out.push_str("\n")
+    add_held(out, memory, a)
 }
 
-// Adds `block BASE KIND LENGTH`, or `block A noblock`.
-fn add_block(out: &mut String, a: u32, block: Option<Block>) -> Result<(), AllocError>
+/// Adds `block BASE KIND LENGTH`, or `block A noblock`.
+pub(crate) fn add_block(out: &mut String, a: u32, block: Option<Block>) -> Result<(), AllocError>
     ensures { OnOk result (string_bytes out.new ≡ string_bytes out.old ++ block_said a block) }
 {
     let Some(block) = block else {
-        return write!(out, "block {a} noblock\n");
+        return write!(out, "block {a} noblock");
     };
     let base = block.base;
     let kind = kind_text(block.kind);
     let length = block.length;
-    write!(out, "block {base} {kind} {length}\n")
+    write!(out, "block {base} {kind} {length}")
+}
+
+/// Adds `E window BASE NEXT`.
+pub(crate) fn add_bounds(
+    out: &mut String,
+    element: u16,
+    window: (u64, u64),
+) -> Result<(), AllocError>
+    ensures { OnOk result (string_bytes out.new ≡ string_bytes out.old ++ window_said element (Ok window)) }
+{
+    let (base, next) = window;
+    write!(out, "{element} window {base} {next}")
 }
 
 // ---- counts
@@ -171,7 +183,8 @@ fn add_help(out: &mut String) -> Result<(), AllocError>
         "help E.N alloc i LENGTH, E.N alloc m LENGTH, E.N release A, E.N reset A, E.N fetch A, ",
     )?;
     out.push_str("E.N store A VALUE, E.N take A, E.N put A VALUE, ")?;
-    out.push_str("collect E.N, entry E.N, confirm E UPTO, window E, cell A, block A, ")?;
+    out.push_str("collect E.N, entry E.N, confirm E UPTO, window E, elements, cell A, ")?;
+    out.push_str("cells A-B, waiting, block A, blocks, ")?;
     out.push_str("stat, room, turn, count, about, backup NAME, help, quit\n")
 }
 
@@ -190,8 +203,18 @@ pub(crate) fn add_look(
     match look {
         Look::Collect(who) => add_kept(out, who, memory.collect(who.element, who.number), name),
         Look::Entry(who) => add_recalled(out, who, recall(memory, who), name),
-        Look::Cell(a) => add_cell(out, memory, a),
-        Look::Block(a) => add_block(out, a, memory.block(a)),
+        Look::Cell(a) => {
+            add_cell(out, memory, a)?;
+            out.push_str("\n")
+        }
+        Look::Cells(from, to) => add_cells(out, memory, from, to),
+        Look::Waiting => add_list(out, memory, "waiting", Sort::Waiting),
+        Look::Block(a) => {
+            add_block(out, a, memory.block(a))?;
+            out.push_str("\n")
+        }
+        Look::Blocks => add_list(out, memory, "blocks", Sort::Base),
+        Look::Elements => add_elements(out, memory),
         Look::Stat => add_stat(out, memory),
         Look::Help => add_help(out),
     }

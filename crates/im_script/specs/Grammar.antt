@@ -42,6 +42,22 @@ abbrev pub number_up_to : ℕ → List ℕ → Option ℕ
 number_up_to most text =
     if is_numeral text && nat_le (digits_value 10 text) most then Some (digits_value 10 text) else None
 
+-- two addresses in order, by their texts
+abbrev pub span_between : List ℕ → List ℕ → Option (ℕ × ℕ)
+span_between first last = option_and_then (λ from. option_and_then
+    (λ to. if nat_le from to then Some (from, to) else None)
+    (number_up_to 4294967295 last)) (number_up_to 4294967295 first)
+
+-- the same, by what stands before a dash, and by the dash and what stands behind it
+abbrev pub span_past : List ℕ → List ℕ → Option (ℕ × ℕ)
+span_past first [] = None
+span_past first (dash ∷ last) = span_between first last
+
+-- the first and the last of the addresses FROM-TO, which are in order
+abbrev pub span_in : List ℕ → Option (ℕ × ℕ)
+span_in word = span_past (before_first (λ byte. byte == 45) word)
+    (drop (position_or_len (λ byte. byte == 45) word) word)
+
 -- ---- kinds and names
 
 -- the kind that a word names

@@ -54,6 +54,8 @@ pub enum Expected {
     Operation,
     /// Where a request of a dialogue acts.
     Address,
+    /// The first and the last of the addresses that a dialogue shows.
+    Span,
     /// The name of a backup.
     BackupName,
 }
@@ -79,8 +81,8 @@ impl Expected {
             Expected::Ascii => "ASCII",
             Expected::AsciiRemark => "ASCII, in a remark as elsewhere,",
             Expected::Asked => {
-                "E.N, collect, entry, confirm, window, cell, block, stat, room, turn, count, about, \
-                 backup, help or quit"
+                "E.N, collect, entry, confirm, window, elements, cell, cells, waiting, block, blocks, stat, \
+                 room, turn, count, about, backup, help or quit"
             }
             Expected::Waiter => {
                 "E.N, with an element's number E from 0 to 65535 and a request's number N,"
@@ -89,6 +91,7 @@ impl Expected {
             Expected::Number => "a request's number",
             Expected::Operation => "alloc, fetch, store, take, put, release or reset",
             Expected::Address => "an address from 0 to 4294967295",
+            Expected::Span => "a span of addresses in order, as 0-99,",
             Expected::BackupName => {
                 "a name of 1 to 64 characters a to z, 0 to 9, - and ., the first a letter"
             }

@@ -5,7 +5,8 @@ ghost use Rattle.std.specs.Prelude.{option_and_then};
 ghost use Rattle.std.specs.{Char.is_ascii, Option.option_map_or};
 ghost use Rattle.std.specs.List.{before_first, list_all, list_any, position_or_len};
 ghost use Rattle.im_script.specs.Grammar.{digit_after, is_line, is_name, is_name_byte, is_short, number_up_to};
-ghost use Rattle.im_script.specs.Grammar.{offset_of, place_past, texts, word_kind, word_place, words_of};
+ghost use Rattle.im_script.specs.Grammar.{offset_of, place_past, span_between, span_in, texts, word_kind, word_place};
+ghost use Rattle.im_script.specs.Grammar.{words_of};
 ghost use Rattle.im_script.specs.Words.{words_past};
 
 use crate::places::Place;
@@ -208,23 +209,43 @@ pub fn find_name(names: &IndexSet<&[u8]>, name: &[u8]) -> Option<usize>
     names.get_index_of(name)
 }
 
-/// Returns the number of bytes in the name of a place: those before the first plus, or all of them.
-fn name_len(word: &[u8]) -> usize
-    ensures len { result ≡ position_or_len (λ byte. byte == 43) word.now }
+/// Returns the number of bytes before the first mark in a word, or of all of them if it has none.
+fn len_before(mark: u8, word: &[u8]) -> usize
+    ensures len { result ≡ position_or_len (λ byte. byte == mark) word.now }
     ensures within { result ≤ length word.now }
 {
-    match word.iter().position(|byte| *byte == b'+') {
-        Some(plus) => plus,
+    match word.iter().position(|byte| *byte == mark) {
+        Some(at) => at,
         None => word.len(),
     }
 }
 
-/// Splits a place into its name and what follows the name.
-fn split_name(word: &[u8]) -> (&[u8], &[u8])
-    ensures name { result.0.now ≡ before_first (λ byte. byte == 43) word.now }
-    ensures rest { result.1.now ≡ drop (position_or_len (λ byte. byte == 43) word.now) word.now }
+/// Splits a word into what comes before the first mark, and the rest from the mark on.
+fn split_before(mark: u8, word: &[u8]) -> (&[u8], &[u8])
+    ensures first { result.0.now ≡ before_first (λ byte. byte == mark) word.now }
+    ensures rest { result.1.now ≡ drop (position_or_len (λ byte. byte == mark) word.now) word.now }
 {
-    word.split_at(name_len(word))
+    word.split_at(len_before(mark, word))
+}
+
+// Reads two addresses that are in order.
+fn read_ends(first: &[u8], last: &[u8]) -> Option<(u32, u32)>
+    ensures { result ≡ span_between first.now last.now }
+{
+    let from = read_u32(first)?;
+    let to = read_u32(last)?;
+    if from <= to { Some((from, to)) } else { None }
+}
+
+/// Reads `FROM-TO`, two addresses that are in order: the first and the last. Returns `None` if the word isn't so.
+pub fn read_span(word: &[u8]) -> Option<(u32, u32)>
+    ensures { result ≡ span_in word.now }
+{
+    let (first, rest) = split_before(b'-', word);
+    match rest.split_first() {
+        Some((_dash, last)) => read_ends(first, last),
+        None => None,
+    }
 }
 
 /// Reads the offset after the name in a place: nothing, or a plus and a number.
@@ -254,13 +275,13 @@ fn make_place(index: Option<usize>, offset: Option<u32>) -> Option<Place>
 fn read_named(names: &IndexSet<&[u8]>, word: &[u8]) -> Option<Place>
     ensures { result ≡ place_past (texts names.now.keys) word.now }
 {
-    let (name, rest) = split_name(word);
+    let (name, rest) = split_before(b'+', word);
     make_place(find_name(names, name), read_offset(rest))
 }
 
 /// Whether a place begins with one of the names.
 pub fn has_name(names: &IndexSet<&[u8]>, word: &[u8]) -> bool {
-    let (name, _) = split_name(word);
+    let (name, _) = split_before(b'+', word);
     find_name(names, name).is_some()
 }
 

@@ -14,7 +14,7 @@ mod script;
 pub use checking::{read_script, read_script_with_glances, split_line};
 pub use explaining::{behind_request, bytes_fault};
 pub use faults::{Expected, LineFault, Quoted, ScriptFault};
-pub use grammar::{is_line, is_plain, read_number, read_u32, split_words};
+pub use grammar::{is_line, is_plain, read_number, read_span, read_u32, split_words};
 pub use lines::read_action;
 pub use places::{Action, Place};
 pub use reader::Reader;

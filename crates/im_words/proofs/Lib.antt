@@ -1,3 +1,2 @@
 pub mod GivenLemmas
 pub mod RowLemmas
-pub mod SpanLemmas

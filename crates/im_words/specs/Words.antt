@@ -1,11 +1,12 @@
 -- What the words of the command line ask for. (Own.)
-use Rattle.std.specs.Prelude.{ℕ, Bool, true, false, List, [], ◌∷◌, map, length, if◌then◌else◌, nat_lt, nat_le, ◌==◌}
-use Rattle.std.specs.Prelude.{Some, None, codes, bytes_eq, Option, unwrap_or, option_map, option_and_then}
+use Rattle.std.specs.Prelude.{ℕ, Bool, true, false, List, [], ◌∷◌, map, if◌then◌else◌, nat_le, Some, None, codes}
+use Rattle.std.specs.Prelude.{bytes_eq, Option, unwrap_or, option_map, option_and_then}
 use Rattle.clap.specs.declared.builder.action.ArgAction.TheVariants.{SetTrue}
 use Rattle.clap.specs.Words.{App, first_of, new_app, new_rule, Row, Rule, subcommand_of, Text, with_rule}
 use Rattle.clap.specs.Words.{with_subcommand}
-use Rattle.std.specs.{Borrow.Bor, List.after_first, List.before_first, List.position_or_len, Option.option_map_or}
-use Rattle.{im_migration.specs.declared.Asked.Asked, im_script.specs.Grammar.number_up_to}
+use Rattle.std.specs.{Borrow.Bor, Option.option_map_or}
+use Rattle.im_migration.specs.declared.Asked.{Asked}
+use Rattle.im_script.specs.Grammar.{number_up_to, span_in}
 use Rattle.im_text.specs.declared.Style.{Style, TheVariants.Json, TheVariants.Quiet, TheVariants.Text as InText}
 use Rattle.im_report.specs.declared.{Filter.Filter, Span.Span, View.View}
 use Rattle.im_report.specs.declared.View.TheVariants.{DumpJson, Report, ReportJson, Stat, StatJson}
@@ -200,26 +201,9 @@ serve_work rows = Serve (record {
   backups = first_of (codes "backups") rows;
 })
 
--- the addresses from one number to another, if both are in decimal digits below 2^32 and in order
-abbrev pub span_between : Text → Text → Option Span
-span_between first last = option_and_then (λ from. option_and_then
-    (λ to. if nat_le from to then Some (record { from = from; to = to }) else None)
-    (number_up_to 4294967295 last)) (number_up_to 4294967295 first)
-
--- whether a byte is a dash
-abbrev pub is_dash : ℕ → Bool
-is_dash byte = byte == 45
-
--- the addresses of a text FROM-TO
-abbrev pub span_in : Text → Option Span
-span_in text =
-    if nat_lt (position_or_len is_dash text) (length text)
-    then span_between (before_first is_dash text) (after_first is_dash text)
-    else None
-
 -- the addresses that a text gives
 abbrev pub span_given : Text → Option (Option Span)
-span_given text = option_map Some (span_in text)
+span_given text = option_map (λ s. Some (record { from = s.0; to = s.1 })) (span_in text)
 
 -- the addresses that are given for cells, if they are right
 abbrev pub given_cells : List Row → Option (Option Span)

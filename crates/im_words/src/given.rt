@@ -2,13 +2,12 @@
 ghost use Rattle.std.specs.Prelude.{◌≡◌, codes, option_map};
 ghost use Rattle.clap.specs.Words.{first_of, found_of, rows_of};
 ghost use Rattle.im_words.specs.Words.{filter_in, given_cells, given_in, given_number, is_given, path_in, seconds_in};
-ghost use Rattle.im_words.specs.Words.{seconds_of, sizes_given, span_between, span_given, span_in, style_given};
-ghost use Rattle.im_words.specs.Words.{style_with};
+ghost use Rattle.im_words.specs.Words.{seconds_of, sizes_given, span_given, style_given, style_with};
 
 use clap::ArgMatches;
 use im_migration::Asked;
 use im_report::{Filter, Span};
-use im_script::read_u32;
+use im_script::{read_span, read_u32};
 use im_text::Style;
 
 /// The most seconds that the opening of a file waits for its lock: a day.
@@ -95,36 +94,12 @@ pub(crate) fn sizes_given(found: &ArgMatches) -> Option<Asked>
     })
 }
 
-// The addresses from one number to another. Returns `None` if one of them is not the decimal number of a u32, or if
-// they aren't in order.
-fn span_between(first: &[u8], last: &[u8]) -> Option<Span>
-    ensures { result ≡ span_between first.now last.now }
-{
-    let from = read_u32(first)?;
-    let to = read_u32(last)?;
-    if from <= to {
-        Some(Span { from, to })
-    } else {
-        None
-    }
-}
-
-// The addresses of a text FROM-TO. Returns `None` if it isn't such a text.
-fn read_span(text: &str) -> Option<Span>
-    ensures { result ≡ span_in text.now }
-{
-    match text.split_once('-') {
-        Some((first, last)) => span_between(first.as_bytes(), last.as_bytes()),
-        None => None,
-    }
-}
-
 // The addresses that a text gives. Returns `None` if it isn't such a text.
 fn span_given(text: &str) -> Option<Option<Span>>
     ensures { result ≡ span_given text.now }
 {
-    match read_span(text) {
-        Some(span) => Some(Some(span)),
+    match read_span(text.as_bytes()) {
+        Some((from, to)) => Some(Some(Span { from, to })),
         None => None,
     }
 }

@@ -174,7 +174,7 @@ printed 1 = 1.1 stored
 printed 2 = 2.1 value 5
 printed 3 = 2 confirmed 2
 printed 4 = 2.2 value 5
-printed 5 = error 6: 'mend', where E.N, collect, entry, confirm, window, cell, block, stat, room, turn, count, about, backup, help or quit is expected
+printed 5 = error 6: 'mend', where E.N, collect, entry, confirm, window, elements, cell, cells, waiting, block, blocks, stat, room, turn, count, about, backup, help or quit is expected
 count = 5
 
 # A group of one fetch, whose confirmation stands behind it, and so on
@@ -352,6 +352,56 @@ printed 14 = 3.2 stored
 printed 15 = 0.3 released
 printed 16 = stat cells 4096 blocks 1 empty 0 waiting 1 full 1 clashed 0 kept 9 deferred 1
 
+# A list has each cell as `cell` shows it, each block as `block`, each element as `window`
+disk 33792 = 33792 bytes
+format 1 1 16 = formatted
+script cells 0-0 / waiting / blocks / elements / 0.1 alloc i 1 / cells 0-9 / waiting / blocks / elements / cells 1-9 / = 10 lines
+talk = 0, 4 calls
+printed = 10 lines
+printed 0 = cells 1, cell 0 nocell
+printed 1 = waiting 0
+printed 2 = blocks 0
+printed 3 = elements 1, 0 window 1 1
+printed 5 = cells 1, cell 0 i empty
+printed 6 = waiting 0
+printed 7 = blocks 1, block 0 i 1
+printed 8 = elements 1, 0 window 1 2
+printed 9 = cells 0
+
+# A list is of the memory behind all commands ahead of it, and ends at the last cell
+disk 327680 = 327680 bytes
+format 4096 4 256 = formatted
+script 0.1 alloc i 3 / 0.2 alloc m 2 / 1.1 store 0 42 / 1.2 store 1 5 / 1.3 store 1 6 / 2.1 fetch 2 / 1.4 fetch 2 / 3.1 take 4 / = 8 lines
+script cells 0-5 / cells 2-2 / cells 4094-4294967295 / cells 4096-4097 / waiting / blocks / elements / = 15 lines
+script 0.3 release 0 / 0.4 reset 3 / 1.5 store 2 7 / 0.5 release 0 / confirm 1 6 / waiting / blocks / elements / = 23 lines
+talk slowly = 0, 52 calls
+printed = 23 lines
+printed 8 = cells 6, cell 0 i full 42, cell 1 i clashed 5, cell 2 i waiting 2.1 1.4, cell 3 m empty, cell 4 m waiting 3.1, cell 5 nocell
+printed 9 = cells 1, cell 2 i waiting 2.1 1.4
+printed 10 = cells 2, cell 4094 nocell, cell 4095 nocell
+printed 11 = cells 0
+printed 12 = waiting 2, cell 2 i waiting 2.1 1.4, cell 4 m waiting 3.1
+printed 13 = blocks 2, block 0 i 3, block 3 m 2
+printed 14 = elements 4, 0 window 1 3, 1 window 1 5, 2 window 1 2, 3 window 1 2
+printed 15 = 0.3 stillwaiting
+printed 16 = 0.4 stillwaiting
+printed 18 = 0.5 released
+printed 19 = 1 confirmed 6
+printed 20 = waiting 1, cell 4 m waiting 3.1
+printed 21 = blocks 1, block 3 m 2
+printed 22 = elements 4, 0 window 1 6, 1 window 6 6, 2 window 1 2, 3 window 1 2
+
+# A list shows what a group brought that stands ahead of it in the buffer
+disk 450560 = 450560 bytes
+format 4096 16 256 = formatted
+script 0.1 alloc m 2 / 1.1 take 1 / waiting / 2.1 put 1 9 / waiting / cells 0-1 / = 6 lines
+talk = 0, 9 calls
+printed = 6 lines
+printed 2 = waiting 1, cell 1 m waiting 1.1
+printed 3 = 2.1 stored
+printed 4 = waiting 0
+printed 5 = cells 2, cell 0 m empty, cell 1 m empty
+
 # A line that looks shows the memory behind the commands ahead of it
 disk 450560 = 450560 bytes
 format 4096 16 256 = formatted
@@ -414,16 +464,26 @@ printed 5 = cell 9 nocell
 # The lines of a dialogue are told in one line
 disk 450560 = 450560 bytes
 format 4096 16 256 = formatted
-script help / help me / cell / cell x / cell 4294967296 / block 1 2 / stat 1 / cells 1 / = 8 lines
+script help / help me / cell / cell x / cell 4294967296 / block 1 2 / stat 1 / cells 1 / blocks 0 / waiting 1.1 / = 10 lines
+script elements 1 / cells / cells 2-1 / cells 0-4294967296 / cells 1-2-3 / cells -1 / = 16 lines
 talk = 0, 0 calls
-printed = 8 lines
-printed 0 = help E.N alloc i LENGTH, E.N alloc m LENGTH, E.N release A, E.N reset A, E.N fetch A, E.N store A VALUE, E.N take A, E.N put A VALUE, collect E.N, entry E.N, confirm E UPTO, window E, cell A, block A, stat, room, turn, count, about, backup NAME, help, quit
+printed = 16 lines
+printed 0 = help E.N alloc i LENGTH, E.N alloc m LENGTH, E.N release A, E.N reset A, E.N fetch A, E.N store A VALUE, E.N take A, E.N put A VALUE, collect E.N, entry E.N, confirm E UPTO, window E, elements, cell A, cells A-B, waiting, block A, blocks, stat, room, turn, count, about, backup NAME, help, quit
 printed 1 = error 2: 'me', where the end of the line is expected
 printed 2 = error 3: the line ends, where an address from 0 to 4294967295 is expected
 printed 3 = error 4: 'x', where an address from 0 to 4294967295 is expected
 printed 4 = error 5: '4294967296', where an address from 0 to 4294967295 is expected
 printed 5 = error 6: '2', where the end of the line is expected
 printed 6 = error 7: '1', where the end of the line is expected
+printed 7 = error 8: '1', where a span of addresses in order, as 0-99, is expected
+printed 8 = error 9: '0', where the end of the line is expected
+printed 9 = error 10: '1.1', where the end of the line is expected
+printed 10 = error 11: '1', where the end of the line is expected
+printed 11 = error 12: the line ends, where a span of addresses in order, as 0-99, is expected
+printed 12 = error 13: '2-1', where a span of addresses in order, as 0-99, is expected
+printed 13 = error 14: '0-4294967296', where a span of addresses in order, as 0-99, is expected
+printed 14 = error 15: '1-2-3', where a span of addresses in order, as 0-99, is expected
+printed 15 = error 16: '-1', where a span of addresses in order, as 0-99, is expected
 
 # An entry that waits is asked for between the puts of a group, before and behind the one that answers it
 disk 450560 = 450560 bytes
@@ -478,7 +538,7 @@ format 4096 16 256 = formatted
 script 1.1 fetch 0 / 2.1 fetch 0 / mend / 1.2 get 0 / collect 1 / confirm 1 / window / room now / = 8 lines
 talk = 0, 5 calls
 printed = 8 lines
-printed 2 = error 3: 'mend', where E.N, collect, entry, confirm, window, cell, block, stat, room, turn, count, about, backup, help or quit is expected
+printed 2 = error 3: 'mend', where E.N, collect, entry, confirm, window, elements, cell, cells, waiting, block, blocks, stat, room, turn, count, about, backup, help or quit is expected
 printed 3 = error 4: 'get', where alloc, fetch, store, take, put, release or reset is expected
 printed 4 = error 5: '1', where E.N, with an element's number E from 0 to 65535 and a request's number N, is expected
 printed 5 = error 6: the line ends, where a request's number is expected
@@ -504,8 +564,8 @@ printed 8 = error 9: '1.x', where E.N, with an element's number E from 0 to 6553
 printed 9 = error 10: 'x', where an element's number from 0 to 65535 is expected
 printed 10 = error 11: '65536', where an element's number from 0 to 65535 is expected
 printed 11 = error 12: '\xc3\xa9', where ASCII is expected
-printed 12 = error 13: the line ends, where E.N, collect, entry, confirm, window, cell, block, stat, room, turn, count, about, backup, help or quit is expected
-printed 13 = error 14: '#', where E.N, collect, entry, confirm, window, cell, block, stat, room, turn, count, about, backup, help or quit is expected
+printed 12 = error 13: the line ends, where E.N, collect, entry, confirm, window, elements, cell, cells, waiting, block, blocks, stat, room, turn, count, about, backup, help or quit is expected
+printed 13 = error 14: '#', where E.N, collect, entry, confirm, window, elements, cell, cells, waiting, block, blocks, stat, room, turn, count, about, backup, help or quit is expected
 
 # A line may have 4,096 bytes; a longer one is told so, and read on to its line feed
 disk 450560 = 450560 bytes
@@ -519,7 +579,7 @@ script x / 2.1 fetch 0 / = 4 lines
 talk = 0, 8 calls
 printed = 4 lines
 printed 0 = 1.1 nocell
-printed 1 = error 2: 'xxxxxxxxxxxxxxxxxxxxxxxxxxxxxxxx..', where E.N, collect, entry, confirm, window, cell, block, stat, room, turn, count, about, backup, help or quit is expected
+printed 1 = error 2: 'xxxxxxxxxxxxxxxxxxxxxxxxxxxxxxxx..', where E.N, collect, entry, confirm, window, elements, cell, cells, waiting, block, blocks, stat, room, turn, count, about, backup, help or quit is expected
 printed 2 = error 3: the line is too long
 printed 3 = 2.1 nocell
 
