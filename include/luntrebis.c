@@ -64,6 +64,7 @@ size_t lt_held_waiters(struct lt_image image, uint32_t address, struct lt_image 
                        size_t room);
 size_t lt_held_cells(struct lt_image image, uint32_t from, struct lt_image *next, struct lt_presence *cells, size_t room);
 void lt_held_stat(struct lt_image image, struct lt_image *next, struct lt_figures *figures);
+void lt_held_asked(struct lt_image image, size_t index, struct lt_image *next, struct lt_asked *asked);
 void lt_held_window(struct lt_image image, uint16_t element, struct lt_image *next, struct lt_bounds *window);
 uint32_t lt_held_room(struct lt_image image, struct lt_image *next);
 uint64_t lt_held_count(struct lt_image image, struct lt_image *next);
@@ -108,6 +109,13 @@ struct lt_command lt_entry(const struct lt_image *image, uint16_t element, uint6
     struct lt_image same = {0};
     struct lt_command asked = {0, 0, 0, 0, 0};
     lt_held_entry(*image, element, number, &same, &asked);
+    return asked;
+}
+
+struct lt_asked lt_front_asked(const struct lt_image *image, size_t index) {
+    struct lt_image same = {0};
+    struct lt_asked asked = {0, {0, 0, 0, 0, 0}, 0};
+    lt_held_asked(*image, index, &same, &asked);
     return asked;
 }
 

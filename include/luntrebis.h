@@ -99,7 +99,7 @@ enum lt_refusal {
     LT_BAD_LIMITS = 17,   /* of lt_memory_new and lt_format */
     LT_OLD_VERSION = 21,  /* of lt_open: an image of the first layout; `imem migrate` makes one of this layout */
     LT_UNSERVED = 254,    /* of a member of lt_serve_group: it isn't served, and changed nothing; put it again. Of
-                           * lt_advance: no command was ahead there */
+                           * lt_front_submit and lt_front_next: it isn't asked; ask again after lt_front_advance */
     LT_NO_CALL = 255      /* an unknown tag, no such write, or no group */
 };
 
@@ -164,7 +164,7 @@ void lt_memory_free(struct lt_memory memory);
 /* ---- An image
  *
  * The caller reads the file, hands its bytes to lt_open, and does all writing. Each of lt_format, lt_open, lt_serve,
- * lt_serve_group, lt_advance, lt_turn and lt_sweep leaves a list of steps (lt_steps, lt_step_at, lt_step_bytes). The
+ * lt_serve_group, lt_front_advance, lt_turn and lt_sweep leaves a list of steps (lt_steps, lt_step_at, lt_step_bytes). The
  * caller carries out all of these steps on its file, in their order. It does so before it passes on any result of a call here, and
  * before the next such call, which begins a new list. If the caller can't carry out a step, it calls lt_failed, and
  * opens the file again. If there is a crash before all steps are carried out, the file means the memory before the call
@@ -189,11 +189,30 @@ struct lt_bounds {
     uint64_t next;
 };
 
-/* What lt_advance did. If `refusal` isn't 0, nothing is ahead. */
+/* What lt_front_advance did. If `refusal` isn't 0, nothing is ahead. */
 struct lt_advanced {
     uint8_t refusal;
-    uint8_t ahead;    /* how many of the commands are ahead now */
-    uint8_t answered; /* how many were ahead: the first outcomes are theirs */
+    uint8_t ahead;    /* how many of those that are asked are ahead now */
+    uint8_t answered; /* how many are told */
+};
+
+/* A command that was asked, by its ticket, and its outcome. */
+struct lt_told {
+    uint64_t ticket;
+    struct lt_outcome outcome;
+};
+
+/* Where a command stands that is asked, by `state`. */
+enum lt_asked_state {
+    LT_NONE_ASKED = 0, /* there is none */
+    LT_ASKED = 1,
+    LT_AHEAD = 2 /* it acts with the next lt_front_advance */
+};
+
+struct lt_asked {
+    uint64_t ticket;
+    struct lt_command command;
+    uint8_t state;
 };
 
 /* The sizes of an image. */
@@ -283,21 +302,43 @@ uint8_t lt_serve_group(struct lt_image image, const struct lt_command *commands,
  * them. Returns `count` if there is none. */
 size_t lt_first_unknown(const struct lt_command *commands, size_t count);
 
-/* Lets the commands that are ahead of the image act, and puts 0 to 16 next ones ahead of it, by one sync for both. So a
- * chain of n groups needs n + 1 syncs, where n calls of lt_serve_group need two each. What is ahead has no effect until
- * the next such call: until then a crash leaves nothing of it. lt_serve and lt_serve_group forget what is ahead if they
- * put a command on the disk; lt_turn and lt_sweep keep it.
+/* ---- A front: what is asked of an image, in its order
  *
- * The first commands are put ahead: as many as there is room for, up to a confirmation if it isn't known, before those
- * that were ahead act, whether each entry that it would drop is answered. Put the others again. If nothing was ahead
- * and there is room, at least one is put. `done` says how many are ahead, and how many were: the first outcomes are
- * theirs, each as lt_serve would give it after those before it, and each outcome behind them is LT_UNSERVED. If the
- * steps couldn't be listed, each of theirs is LT_DEVICE.
+ * What is asked goes out in groups of at most 16, which are a chain: a group is put ahead while the one before it acts, by
+ * one sync for both. So n groups need n + 1 syncs, where n calls of lt_serve_group need two each. What was asked first is
+ * told first, each with its ticket, of which the library makes nothing.
  *
- * Returns the refusal of `done`: 0, LT_DEVICE, or LT_NO_CALL if a tag is unknown, `count` is more than 16, or `places`
- * isn't 16. After LT_NO_CALL, and after a lost step, the outcomes are as they were. */
-uint8_t lt_advance(struct lt_image image, const struct lt_command *commands, size_t count, struct lt_image *next,
-                   struct lt_advanced *done, struct lt_outcome *outcomes, size_t places);
+ * What is asked has no effect before it is told: until then a crash leaves it undone, or all of its group done. lt_serve
+ * and lt_serve_group act before what is asked; if they put a command on the disk, what is ahead is put ahead again.
+ * lt_turn and lt_sweep keep it. lt_close forgets what is asked. */
+
+/* Asks for a command, behind all that is asked. Returns 0, LT_NO_CALL for an unknown tag, or LT_UNSERVED if 16 are asked
+ * behind those that are ahead: ask again after lt_front_advance. It leaves no step, as the next call. */
+uint8_t lt_front_submit(struct lt_image image, uint64_t ticket, const struct lt_command *command, struct lt_image *next);
+
+/* Asks for a request under its element's next number, behind all that is asked. The number is written at `command`. If 64
+ * entries are kept then, a confirmation is asked before it, with the ticket 0: up to the first entry that isn't answered
+ * yet, and at most up to the number `most`. Returns 0, LT_UNSERVED if it needs more places than lt_front_submit would have, or
+ * the refusal: LT_WINDOW_FULL if there is nothing to confirm, LT_NO_ELEMENT, LT_DEVICE, or LT_NO_CALL. Then nothing is asked.
+ * It is for an element of which all requests come this way. */
+uint8_t lt_front_next(struct lt_image image, uint64_t ticket, struct lt_command *command, uint64_t most,
+                      struct lt_image *next);
+
+/* Lets those that are ahead act, and puts the next ones ahead that are asked. Those that acted are asked no more: they are
+ * told at the first places of `told`, which has 16, in their order, with the outcomes that lt_serve would give to one
+ * after another. The others are as they were.
+ *
+ * The next ones are the first of those behind: as many as there is room for, up to a confirmation if it isn't known,
+ * before those that were ahead act, whether each entry that it would drop is answered. If nothing is ahead, at least one
+ * is put. If nothing is ahead and there is no room, the first that is asked is told LT_JOURNAL_FULL. If the steps
+ * couldn't be listed, each that is told has LT_DEVICE.
+ *
+ * Returns the refusal of `done`: 0, LT_DEVICE, or LT_NO_CALL if `places` isn't 16. */
+uint8_t lt_front_advance(struct lt_image image, struct lt_image *next, struct lt_advanced *done, struct lt_told *told,
+                         size_t places);
+
+/* Returns what is asked, by its place from 0. Those that are ahead come first. This call only reads. */
+struct lt_asked lt_front_asked(const struct lt_image *image, size_t index);
 
 /* Makes one turn of a checkpoint. Returns its refusal, and writes what it did at `outcome`. */
 uint8_t lt_turn(struct lt_image image, struct lt_image *next, struct lt_outcome *outcome);

@@ -25,8 +25,6 @@ struct ltf {
     size_t room;
     struct lt_waiter *woken, *waited; /* whom the last call resumed; who waited at the cells of a group before it */
     size_t woken_count, woken_room;
-    struct lt_command ahead[MEMBERS]; /* their bodies are on the disk, and they haven't acted */
-    size_t ahead_count;
 };
 
 /* ---- Steps */
@@ -335,58 +333,76 @@ int ltf_serve_group(struct ltf *file, const struct lt_command *commands, size_t 
     return LT_DEVICE;
 }
 
-/* Lets what is ahead act, and puts the first of these commands ahead. Returns how many were ahead, whose outcomes it
- * writes at 16 places, or -1 after a lost step. */
-static int advance(struct ltf *file, const struct lt_command *commands, size_t count, struct lt_outcome *outcomes) {
-    size_t waited[MEMBERS] = {0}, were = file->ahead_count;
-    size_t members = lt_first_unknown(commands, count < MEMBERS ? count : MEMBERS);
+int ltf_front_submit(struct ltf *file, uint64_t ticket, const struct lt_command *command) {
+    return lt_front_submit(file->image, ticket, command, &file->image);
+}
+
+int ltf_front_next(struct ltf *file, uint64_t ticket, struct lt_command *command, uint64_t most) {
+    return lt_front_next(file->image, ticket, command, most, &file->image);
+}
+
+/* The commands that act with the next call. Returns how many there are. */
+static size_t find_ahead(const struct ltf *file, struct lt_command *ahead) {
+    struct lt_asked asked;
+    size_t count = 0;
+    while (count < MEMBERS && (asked = lt_front_asked(&file->image, count)).state == LT_AHEAD) ahead[count++] = asked.command;
+    return count;
+}
+
+/* Goes on with the chain. Returns how many are told, or -1 after a lost step. */
+static int advance(struct ltf *file, struct lt_told *told) {
+    struct lt_command ahead[MEMBERS];
+    struct lt_outcome outcomes[MEMBERS] = {{0, 0, 0}};
+    size_t waited[MEMBERS] = {0}, were = find_ahead(file, ahead);
     struct lt_advanced done = {0, 0, 0};
-    file->ahead_count = 0;
-    if (ltf_tidy(file) == LT_DEVICE) return -1;
-    memset(outcomes, 0, MEMBERS * sizeof *outcomes);
-    note_waiters(file, file->ahead, were, waited);
-    if (is_lost(file, lt_advance(file->image, commands, members, &file->image, &done, outcomes, MEMBERS))) return -1;
-    note_all_woken(file, file->ahead, done.answered, outcomes, waited);
-    if (done.answered) file->work.groups++;
-    memcpy(file->ahead, commands, done.ahead * sizeof *commands);
-    file->ahead_count = done.ahead;
+    if (ltf_tidy(file) == LT_DEVICE || (were == 0 && find_room(file) == LT_DEVICE)) return -1;
+    note_waiters(file, ahead, were, waited);
+    if (is_lost(file, lt_front_advance(file->image, &file->image, &done, told, MEMBERS))) return -1;
+    for (size_t at = 0; at < were; at++) outcomes[at] = told[at].outcome;
+    note_all_woken(file, ahead, were, outcomes, waited);
+    if (were) file->work.groups++;
     return done.answered;
 }
 
-int ltf_advance(struct ltf *file, const struct lt_command *commands, size_t count, size_t *ahead,
-                struct lt_outcome *outcomes, size_t *answered) {
-    int were;
+int ltf_front_advance(struct ltf *file, struct lt_told *told, size_t *count) {
+    int answered;
     file->woken_count = 0;
-    were = advance(file, commands, count, outcomes);
-    *ahead = file->ahead_count;
-    *answered = were < 0 ? 0 : (size_t)were;
-    return were < 0 ? LT_DEVICE : 0;
+    answered = advance(file, told);
+    *count = answered < 0 ? 0 : (size_t)answered;
+    return answered < 0 ? LT_DEVICE : 0;
 }
 
-/* Serves these commands as a chain of groups. What can't be put ahead, though nothing is, is served at once: the journal
- * has no room, or a tag is unknown. Returns 0 or LT_DEVICE. */
+/* Asks for these commands from the first one on, until a group is full. Returns how many that are; the outcome of one
+ * with an unknown tag is told at once. */
+static size_t ask_first(struct ltf *file, const struct lt_command *commands, size_t count, uint64_t from,
+                        struct lt_outcome *outcomes, size_t *told) {
+    size_t at = 0;
+    for (; at < count; at++) {
+        int refusal = ltf_front_submit(file, from + at, &commands[at]);
+        if (refusal == LT_UNSERVED) break;
+        if (refusal) outcomes[at] = (struct lt_outcome){(uint8_t)refusal, 0, 0};
+        if (refusal) ++*told;
+    }
+    return at;
+}
+
+/* Serves these commands as a chain of groups. Returns 0 or LT_DEVICE. */
 static int serve_chain(struct ltf *file, const struct lt_command *commands, size_t count, struct lt_outcome *outcomes) {
-    struct lt_outcome told[MEMBERS];
-    size_t put = 0, answered = 0;
-    if (file->ahead_count && advance(file, commands, 0, told) < 0) return LT_DEVICE;
+    struct lt_told told[MEMBERS] = {{0, {0, 0, 0}}};
+    size_t asked = 0, answered = 0;
     while (answered < count) {
-        int were = advance(file, commands + put, count - put, told);
-        if (were < 0) return LT_DEVICE;
-        memcpy(outcomes + answered, told, (size_t)were * sizeof *told);
-        answered += (size_t)were;
-        put += file->ahead_count;
-        if (were == 0 && file->ahead_count == 0) {
-            size_t served = serve_first(file, commands + put, count - put, outcomes + put);
-            if (served == 0) return LT_DEVICE;
-            put += served;
-            answered += served;
-        }
+        int some;
+        asked += ask_first(file, commands + asked, count - asked, asked, outcomes + asked, &answered);
+        some = advance(file, told);
+        if (some < 0) return LT_DEVICE;
+        for (int at = 0; at < some; at++) outcomes[told[at].ticket] = told[at].outcome;
+        answered += (size_t)some;
     }
     return 0;
 }
 
 int ltf_serve_all(struct ltf *file, const struct lt_command *commands, size_t count, struct lt_outcome *outcomes) {
-    int refusal = forget_woken(file, count);
+    int refusal = lt_front_asked(&file->image, 0).state ? LT_NO_CALL : forget_woken(file, count);
     if (refusal == 0) refusal = serve_chain(file, commands, count, outcomes);
     if (refusal) refuse_all(outcomes, count, (uint8_t)refusal);
     return refusal;

@@ -52,20 +52,21 @@ int ltf_serve_all(struct ltf *file, const struct lt_command *commands, size_t co
 int ltf_serve_group(struct ltf *file, const struct lt_command *commands, size_t count, struct lt_outcome *outcomes,
                     size_t *served);
 
-/* Lets the commands that are ahead act, and puts the first of these ahead, as lt_advance does: at most 16, which may be
- * none. How many are ahead now is at `ahead`; the others are untouched, and are put again. If nothing was ahead and
- * nothing can be put there, ltf_serve_group serves them: it makes room, and answers an unknown tag. Writes the outcomes
- * of the commands that were ahead at `outcomes`, which has 16 places, and their number at `answered`. Returns 0, or
- * LT_DEVICE if a step failed: then nobody is answered, and nothing is ahead.
+/* ---- A front: what is asked, in its order, and goes out as a chain of groups
  *
- * What is ahead has no effect before the next ltf_advance or ltf_serve_all, in which it acts first. ltf_serve and
- * ltf_serve_group forget it if they put a command on the disk, and so does ltf_close. */
-int ltf_advance(struct ltf *file, const struct lt_command *commands, size_t count, size_t *ahead,
-                struct lt_outcome *outcomes, size_t *answered);
+ * As lt_front_submit, lt_front_next and lt_front_advance. What is asked acts in its turn; the other calls that serve act
+ * before it, but for ltf_serve_all, which returns LT_NO_CALL while anything is asked. ltf_close forgets it. */
+int ltf_front_submit(struct ltf *file, uint64_t ticket, const struct lt_command *command);
+int ltf_front_next(struct ltf *file, uint64_t ticket, struct lt_command *command, uint64_t most);
 
-/* Returns the requests that the last ltf_serve, ltf_serve_group, ltf_serve_all or ltf_advance resumed: they waited
- * before, and are answered now. Those of one cell are in the order in which they came. Their number is at `count`. They stay there
- * until the next of these calls. */
+/* Writes those that acted at `told`, which has 16 places, and their number at `count`. If anything is asked, then some are
+ * told, or are ahead. It keeps at least half of the journal empty, and makes room if there is none. Returns 0, or
+ * LT_DEVICE if a step failed: then nobody is told. */
+int ltf_front_advance(struct ltf *file, struct lt_told *told, size_t *count);
+
+/* Returns the requests that the last ltf_serve, ltf_serve_group, ltf_serve_all or ltf_front_advance resumed: they
+ * waited before, and are answered now. Those of one cell are in the order in which they came. Their number is at
+ * `count`. They stay there until the next of these calls. */
 const struct lt_waiter *ltf_woken(const struct ltf *file, size_t *count);
 
 /* Makes a sweep, or a turn of a checkpoint, if less than half of the journal is free. Returns 1, or 0 if there is

@@ -106,11 +106,11 @@ struct lt_sizes lts_limits(struct lts *shared);
 /* Copies the image, as ltf_backup does, between two groups. Others may ask meanwhile, and are served after it. */
 int lts_backup(struct lts *shared, const char *path);
 
-/* Called with the file and what it was given, by the thread that holds the file. It only looks, at as much as it likes:
- * nothing acts meanwhile. It must return soon, and make no call here. */
+/* Called with the file and what it was given, by the thread that looks. It only looks, at as much as it likes: nothing
+ * acts meanwhile. It must return soon, and make no call here. */
 typedef void lts_looks(const struct ltf *file, void *given);
 
-/* Lets a function look at the file. Returns 0, or LT_DEVICE or LT_NO_CALL if it wasn't called. */
+/* Lets a function look at the file. Returns 0, or LT_DEVICE if it wasn't called. */
 int lts_look(struct lts *shared, lts_looks *looks, void *given);
 
 struct ltf_counts lts_work(struct lts *shared);

@@ -66,6 +66,17 @@ static void wait_again(void) {
     }
 }
 
+/* What came too late is kept until somebody gets it: 63 requests behind it the window is full. */
+static void keep_late(void) {
+    uint64_t number = take(one, 0), at = 0;
+    put(0, 88);
+    while (at < 200 && lts_call(shared, one, at % 2 ? LT_TAKE : LT_PUT, 2, 3).refusal == 0) at++;
+    expect("the window is full", at == 63);
+    expect("it is kept", await(one, number, LATE).value == 88);
+    for (int times = 0; times < TIMES; times++, at++)
+        expect("it goes on", lts_call(shared, one, at % 2 ? LT_TAKE : LT_PUT, 2, 3).refusal == 0);
+}
+
 /* An element isn't leased while one of its takes waits. */
 static void give_back(void) {
     uint16_t other = 0;
@@ -82,6 +93,7 @@ int main(int count, char **words) {
     if (lts_lease(shared, &maker) || lts_lease(shared, &one) || lts_lease(shared, &two)) return 2;
     expect("a block", lts_call(shared, maker, LT_ALLOC_M, 8, 0).tag == LT_BASE);
     wait_again();
+    keep_late();
     give_back();
     lts_close(shared);
     if (faults == 0) printf("%d time-outs, and nothing lost\n", late);

@@ -17,8 +17,8 @@ fn is_answered_at(memory: &Memory, element: u16, number: u64) -> bool
     }
 }
 
-// Returns the first number within these bounds whose entry isn't answered, or the next number.
-fn first_unanswered(memory: &Memory, element: u16, bounds: (u64, u64)) -> u64
+/// Returns the first number within these bounds whose entry isn't answered, or the next number.
+pub(crate) fn first_unanswered(memory: &Memory, element: u16, bounds: (u64, u64)) -> u64
     requires { bounds.0 ≤ bounds.1 }
     ensures { AreAnsweredUpTo memory.now.contents element bounds result }
 {

@@ -7,6 +7,7 @@ use Rattle.im_checkpoint.specs.contracts.checkpoint.Checkpoint as Checkpoint
 use Rattle.im_engine.specs.contracts.ahead.GroupAhead as GroupAhead
 use Rattle.im_listed.specs.contracts.listed.Listed as Listed
 use Rattle.im_noted.proofs.NoteList.TheLaws.TheKnot as noted
+use Rattle.im_front.specs.contracts.asks.Asks as Asks
 use Rattle.im_listed.specs.contracts.image.Image as Image
 
 Memory-send : IsSend Memory.the_field.row
@@ -24,9 +25,13 @@ GroupAhead-send = search (sendable, crosses) depth 40 fits 30000
 Listed-send : IsSend Listed.the_field.row
 Listed-send = search (sendable, crosses, snapshot_send, noted.crosses) depth 40 fits 30000
 
+Asks-send : IsSend Asks.the_field.row
+Asks-send = search (sendable, crosses) depth 40 fits 30000
+
 Image-send : IsSend Image.the_field.row
 Image-send =
     let m = Memory-send in let k = Checkpoint-send in let a = GroupAhead-send in let d = Listed-send in
+    let q = Asks-send in
     search (sendable, crosses, snapshot_send) depth 40 fits 30000
 
 pub Image-row-send : IsSend Image.the_row

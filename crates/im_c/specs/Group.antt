@@ -59,3 +59,5 @@ pub record ServesGroup (old : ImageState) (commands : List LtCommand) (before : 
   pub known : IsGroup commands (length before) → old.lost ≡ false
       → (answer ≡ 0) × (answers : List Served) × (after ≡ outcomes_of (length before) answers)
       × ServesFirst old (all_meant commands) answers new
+  -- what is asked stays so
+  pub asked : new.asked ≡ old.asked

@@ -30,6 +30,8 @@ pub record ServesOne (old : ImageState) (c : LtCommand) (out : LtOutcome) (new :
       → (answer : Result Outcome Refusal) × (out ≡ outcome_of answer)
       × Answered (begun_in old) command answer new.engine
       × Carries old.engine.disk.now new (MeansEither (begun_in old) (with_command (begun_in old) command))
+  -- what is asked stays so
+  pub asked : new.asked ≡ old.asked
 
 -- what a turn did, by its number, and which page
 abbrev pub turn_code : TurnDone → ℕ
@@ -58,6 +60,8 @@ pub record Turns (old : ImageState) (out : LtOutcome) (new : ImageState) : Type 
   pub alive : old.lost ≡ false
       → (answer : Result TurnDone Refusal) × (out ≡ turn_outcome answer) × TurnAnswered (begun_in old) answer new.engine
       × Carries old.engine.disk.now new (MeansState (begun_in old))
+  -- what is asked stays so
+  pub asked : new.asked ≡ old.asked
 
 -- the outcome for a sweep: how many slots it closed
 abbrev pub sweep_outcome : Result ℕ Refusal → LtOutcome
@@ -72,6 +76,8 @@ pub record SweepsBy (old : ImageState) (most : ℕ) (out : LtOutcome) (new : Ima
   pub alive : old.lost ≡ false
       → (answer : Result ℕ Refusal) × (out ≡ sweep_outcome answer) × SweepAnswered (begun_in old) most answer new.engine
       × Carries old.engine.disk.now new (MeansState (begun_in old))
+  -- what is asked stays so
+  pub asked : new.asked ≡ old.asked
 
 -- the entry that is kept under an element's number
 pub record CollectsFrom (i : ImageState) (element number : ℕ) (out : LtOutcome) : Type 0 where

@@ -4,7 +4,7 @@ pub mod Plain
 pub mod Memory
 pub mod Image
 pub mod Group
-pub mod Chain
+pub mod Asked
 pub mod Telling
 pub mod Waiting
 pub mod Sizes

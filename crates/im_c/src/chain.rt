@@ -1,35 +1,15 @@
-//! A chain of groups on an image, for C.
-ghost use Rattle.std.specs.Prelude.{◌≡◌, ◌≤◌, ◌↔◌, [], IfOk, IsSome, IsTrue};
+//! A chain of groups from what is asked of an image, for C.
+ghost use Rattle.std.specs.Prelude.{◌≡◌, ◌≤◌, [], length, IfOk, IsSome};
 ghost use Rattle.im_types.specs.Types.{MAX_GROUP};
-ghost use Rattle.im_c.specs.Chain.{advanced, advanced_by, AdvancesBy, CanFollow};
-ghost use Rattle.im_c.specs.{Group.all_meant, Handing.Becomes};
+ghost use Rattle.im_c.specs.{Asked.advanced, Asked.advanced_by, Asked.AdvancesBy, Asked.GoesOnBy, Handing.Becomes};
 
-use crate::group::{gather, tell_all};
+use crate::asked::{LtAdvanced, LtTold, tell_first};
 use crate::image::LtImage;
-use crate::plain::{LtAdvanced, LtCommand, LtOutcome, NO_CALL};
+use crate::plain::NO_CALL;
 use arrayvec::ArrayVec;
+use im_front::ToldAnswer;
 use im_listed::Image;
-use im_types::{Command, MAX_GROUP, Refusal};
-
-// Whether these may follow what is ahead, with 16 places for outcomes. Then `members` are their commands.
-fn gathered(
-    commands: &[LtCommand],
-    places: usize,
-    members: &mut ArrayVec<Command, MAX_GROUP>,
-) -> bool
-    requires empty { members.old.items ≡ [] }
-    ensures next { IsTrue result ↔ CanFollow commands.now places }
-    ensures members { IsTrue result → members.new.items ≡ all_meant commands.now }
-{
-    if commands.len() > MAX_GROUP {
-        return false;
-    }
-    if places != MAX_GROUP {
-        return false;
-    }
-    gather(commands, members);
-    members.len() == commands.len()
-}
+use im_types::{MAX_GROUP, Refusal};
 
 // Nothing was done, for this reason.
 fn refused_with(number: u8) -> LtAdvanced
@@ -42,13 +22,13 @@ fn refused_with(number: u8) -> LtAdvanced
     }
 }
 
-// What a call did that answered so many.
-fn advanced_by(told: Result<usize, Refusal>, answered: usize) -> LtAdvanced
+// What a call did that told so many.
+fn advanced_by(ahead: Result<usize, Refusal>, answered: usize) -> LtAdvanced
     requires few { answered ≤ MAX_GROUP }
-    requires within { IfOk told (λ many. many ≤ MAX_GROUP) }
-    ensures { result ≡ advanced_by told answered }
+    requires within { IfOk ahead (λ many. many ≤ MAX_GROUP) }
+    ensures { result ≡ advanced_by ahead answered }
 {
-    match told {
+    match ahead {
         Ok(many) => LtAdvanced {
             refusal: 0,
             ahead: many as u8,
@@ -62,52 +42,68 @@ fn advanced_by(told: Result<usize, Refusal>, answered: usize) -> LtAdvanced
     }
 }
 
-// Puts commands ahead, and writes the outcomes of those that were.
-fn advance(image: &mut Image, commands: &[LtCommand], outcomes: &mut [LtOutcome]) -> LtAdvanced
-    ensures { AdvancesBy image.old commands.now outcomes.old result outcomes.new image.new }
+// Goes on with the chain, or refuses the first that is asked if nothing is ahead and there is no room.
+fn go_on(
+    image: &mut Image,
+    told: &mut ArrayVec<ToldAnswer, MAX_GROUP>,
+) -> Result<usize, Refusal>
+    requires empty { told.old.items ≡ [] }
+    requires works { image.old.lost ≡ false }
+    ensures tells { GoesOnBy image.old result told.new.items image.new }
+    ensures works { image.old.engine.failed ≡ false }
+    ensures within { IfOk result (λ many. many ≤ MAX_GROUP) }
 {
-    let mut members = ArrayVec::new();
-    if !gathered(commands, outcomes.len(), &mut members) {
+    if image.has_no_room() {
+        image.refuse_first(told);
+        return Ok(0);
+    }
+    image.advance(told)
+}
+
+// GoesOnBy those that were ahead, at the first places, and puts the next ones ahead.
+fn advance(image: &mut Image, places: &mut [LtTold]) -> LtAdvanced
+    ensures { AdvancesBy image.old places.old result places.new image.new }
+{
+    if places.len() != MAX_GROUP {
         image.forget_steps();
         return refused_with(NO_CALL);
     }
     if image.is_lost() {
         return refused_with(Refusal::Device.number());
     }
-    let mut served = ArrayVec::new();
-    let told = image.advance(&members, &mut served);
-    tell_all(served.as_slice(), outcomes);
-    advanced_by(told, served.len())
+    let mut told = ArrayVec::new();
+    let ahead = go_on(image, &mut told);
+    tell_first(told.as_slice(), places);
+    advanced_by(ahead, told.len())
 }
 
-/// Lets the commands that are ahead of the image act, and puts up to 16 next ones ahead of it, by one sync for both. So
-/// a chain of n groups needs n + 1 syncs. What is ahead has no effect yet; a call that serves commands forgets it where
-/// it puts some on the disk, a turn and a sweep keep it.
+/// Lets those that are ahead act, tells them at the first of 16 places, and puts up to 16 of those ahead that are asked
+/// behind them, by one sync for both. So a chain of n groups needs n + 1 syncs.
 ///
-/// Returns 0, or the number of the refusal. `done` has it too, and how many of the commands are ahead now: the first
-/// ones, as many as there is room for, up to a confirmation of which it isn't known, before those that were ahead act,
-/// that each entry that it would drop is answered. The others are put again. `done` also says how many commands were
-/// ahead: their outcomes are the first in `outcomes`, which has 16 places, and at each other place stands 254. If the
-/// list of steps can't grow, it is the number of `Device`, and so is each of these outcomes.
+/// What is ahead has no effect yet, and stays asked until it is told. Those that are put are the first ones behind, as
+/// many as there is room for, up to a confirmation of which it isn't known, before those that were ahead act, that each
+/// entry that it would drop is answered. A call that serves commands acts before what is asked; if it puts some on the
+/// disk, those that were ahead have to be put ahead again. A turn and a sweep keep what is ahead.
 ///
-/// Returns the number of `Device` if a step was lost before, and 255 if a tag is unknown, there are more than 16
-/// commands, or `outcomes` hasn't 16 places. Then the memory doesn't change, and `outcomes` are as they were.
+/// If nothing is ahead and there is no room, the first that is asked is told `JournalFull`. If the list of steps can't
+/// grow, the refusal is the number of `Device`, and so is each outcome that is told.
+///
+/// Returns 0, or the number of the refusal; `done` has it too. It is the number of `Device` if a step was lost before,
+/// and 255 if there aren't 16 places. Then nobody is told.
 #[unsafe(no_mangle)]
-pub extern "C" fn lt_advance(
+pub extern "C" fn lt_front_advance(
     image: LtImage,
-    commands: &[LtCommand],
     next: &mut LtImage,
     done: &mut LtAdvanced,
-    outcomes: &mut [LtOutcome],
+    told: &mut [LtTold],
 ) -> u8
     requires some { IsSome image.value }
-    ensures advanced { Becomes image.value next.new.value (λ i n.
-        AdvancesBy i commands.now outcomes.old done.new outcomes.new n) }
+    ensures advanced { Becomes image.value next.new.value (λ i n. AdvancesBy i told.old done.new told.new n) }
     ensures refusal { result ≡ done.new.refusal }
 {
     let mut held = image.into_box();
-    let told = advance(&mut held, commands, outcomes);
+    let did = advance(&mut held, told);
     *next = LtImage::of_box(held);
-    *done = told;
-    told.refusal
+    *done = did;
+    did.refusal
 }

@@ -21,8 +21,8 @@ fn add_command(command: &LtCommand, members: &mut ArrayVec<Command, MAX_GROUP>)
     }
 }
 
-/// The commands that are meant.
-pub(crate) fn gather(commands: &[LtCommand], members: &mut ArrayVec<Command, MAX_GROUP>)
+// The commands that are meant.
+fn gather(commands: &[LtCommand], members: &mut ArrayVec<Command, MAX_GROUP>)
     requires few { length commands.now ≤ MAX_GROUP }
     requires empty { members.old.items ≡ [] }
     ensures { members.new.items ≡ all_meant commands.now }
@@ -73,8 +73,8 @@ fn first_unknown(commands: &[LtCommand]) -> usize
     place
 }
 
-// The outcome for a member's answer.
-fn outcome_served(served: Served) -> LtOutcome
+/// The outcome for a member's answer.
+pub(crate) fn outcome_served(served: Served) -> LtOutcome
     ensures { result ≡ outcome_served served }
 {
     match served {
@@ -105,8 +105,8 @@ fn add_unserved(count: usize, outcomes: &mut ArrayVec<LtOutcome, MAX_GROUP>)
     }
 }
 
-/// Writes the outcomes of the members: of those that are served, and of the others.
-pub(crate) fn tell_all(served: &[Served], places: &mut [LtOutcome])
+// Writes the outcomes of the members: of those that are served, and of the others.
+fn tell_all(served: &[Served], places: &mut [LtOutcome])
     requires few { length served.now ≤ length places.old }
     requires most { length places.old ≤ MAX_GROUP }
     ensures { places.new ≡ outcomes_of (length places.old) served.now }

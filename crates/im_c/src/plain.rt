@@ -55,19 +55,6 @@ pub struct LtOutcome {
     pub value: u64,
 }
 
-/// What [`lt_advance`](crate::lt_advance) did. `refusal` is 0 or the number of the refusal; if it isn't 0, nothing is
-/// ahead.
-#[repr(C)]
-#[derive(Clone, Copy, Default)]
-pub struct LtAdvanced {
-    /// 0, or the number of the refusal.
-    pub refusal: u8,
-    /// How many of the commands are ahead now.
-    pub ahead: u8,
-    /// How many commands were ahead, and have an outcome.
-    pub answered: u8,
-}
-
 /// The window of an element. Its entries are kept from `base` on, and `next` is the number of its next new request.
 /// `refusal` is 0 or the number of the refusal. If it isn't 0, the rest is 0.
 #[repr(C)]

@@ -15,5 +15,5 @@ mod room;
 mod turning;
 
 pub use asked::{AskedCommand, ToldAnswer};
-pub use asks::MOST_ASKED;
+pub use asks::{Asks, MOST_ASKED};
 pub use front::Front;

@@ -1,3 +1,4 @@
 pub mod StepLemmas
 pub mod NumberLemmas
 pub mod ImageLemmas
+pub mod OrderLemmas

@@ -5,12 +5,20 @@ use Rattle.{im_disk.specs.Moment.Moment, im_disk.specs.Since.LeavesNow, im_group
 use Rattle.im_engine.specs.{Answered.is_device, Chain.Advances, Chain.TakesNext}
 use Rattle.im_engine.specs.Commands.{after_commands, commands_put, CommandsAnswered}
 use Rattle.im_engine.specs.State.{EngineState, IsFirstFault, MeansEither, MeansState}
+use Rattle.im_front.specs.{declared.AskedCommand.AskedCommand, Lists.commands_asked}
 use Rattle.im_listed.specs.Listing.{carried, FileStep, LeftOnTheWay, Listing, MayLeave, with_no_steps}
 
--- an engine over a caller's bytes, and whether a call of the disk failed, here or at the caller
+-- an engine over a caller's bytes, whether a call of the disk failed, here or at the caller, and what is asked and not
+-- told yet, the oldest command first
 pub record ImageState : Type 0 where
   pub engine : EngineState Listing
   pub lost : Bool
+  pub asked : List AskedCommand
+
+-- If no step is lost, the engine works. Those that are ahead of the engine are the first of those that are asked.
+pub record AheadComesFirst (engine : EngineState Listing) (lost : Bool) (asked : List AskedCommand) : Type 0 where
+  pub works : lost ≡ false → engine.failed ≡ false
+  pub first : commands_asked (take (length engine.ahead) asked) ≡ engine.ahead
 
 -- the engine as a call finds it, without the list of the call before
 abbrev pub begun_in : ImageState → EngineState Listing

@@ -1,7 +1,6 @@
 //! An image in the hands of a caller that carries out the writes and syncs.
 ghost use Rattle.std.specs.Prelude.{◌≡◌, true, false, [], ◌∷◌, map, replicate, IfOk, IfErr, Err};
-ghost use Rattle.im_types.specs.Types.{waiters_at, kept_for, empty_contents, ask, bounds, layout_in_use, sizes_of};
-ghost use Rattle.im_types.specs.Types.{image_length};
+ghost use Rattle.im_types.specs.Types.{empty_contents, layout_in_use, sizes_of, image_length};
 ghost use Rattle.{im_disk.specs.Since.LeavesNow, im_checkpoint.specs.Step.NoCheckpoint};
 ghost use Rattle.im_engine.specs.Answered.{Answered, SweepAnswered, TurnAnswered};
 ghost use Rattle.im_engine.specs.State.{IsFound, MeansEither, MeansState, with_command};
@@ -15,13 +14,14 @@ use crate::step::Step;
 use arrayvec::ArrayVec;
 use im_checkpoint::TurnDone;
 use im_engine::Engine;
-use im_memory::{Memory, Waiters};
+use im_front::Asks;
 use im_types::layout::image_length;
-use im_types::{Command, Entry, Kept, Limits, MAX_GROUP, Outcome, Refusal, Served};
+use im_types::{Command, Limits, MAX_GROUP, Outcome, Refusal, Served};
 use std::alloc::Global;
 use std::marker::Model;
 
-/// An image in the hands of a caller that carries out the writes and syncs: an engine over [`Listed`].
+/// An image in the hands of a caller that carries out the writes and syncs: an engine over [`Listed`], and the queue of
+/// what is asked of it.
 ///
 /// After each call the caller carries out [`Image::steps`] on its file, in order, and only then tells the answer. The
 /// list begins where the last call's ended. A caller that can't carry out a step calls [`Image::lose`].
@@ -29,17 +29,17 @@ use std::marker::Model;
 pub struct Image {
     pub(crate) engine: Engine<Listed>,
     pub(crate) lost: bool,
+    pub(crate) asks: Asks,
 }
 
 impl Model for Image {
-    ghost use Rattle.std.specs.Prelude.{◌≡◌, false};
-    ghost use Rattle.im_listed.specs.Image.{ImageState};
+    ghost use Rattle.im_listed.specs.Image.{AheadComesFirst, ImageState};
 
     ghost Value = { ImageState };
 
-    ghost view = { λ i. record { engine = i.engine; lost = i.lost } };
+    ghost view = { λ i. record { engine = i.engine; lost = i.lost; asked = i.asks } };
 
-    ghost invariant = { λ i. i.lost ≡ false → i.engine.failed ≡ false };
+    ghost invariant = { λ i. AheadComesFirst i.engine i.lost i.asks };
 }
 
 // Returns whether the answer says that a call of the disk failed.
@@ -70,6 +70,7 @@ impl Image {
             ≡ carried (given (replicate (image_length layout_in_use (sizes_of limits)) 0)) (steps_of i)) }
         ensures means { IfOk result (λ i. LeavesNow i.engine.disk.now (MeansState i.engine)) }
         ensures works { IfOk result (λ i. i.lost ≡ false) }
+        ensures none { IfOk result (λ i. i.asked ≡ []) }
         ensures only { IfErr result IsWant }
     {
         let Ok(bytes) = vec![in alloc; 0; image_length(limits)] else {
@@ -81,6 +82,7 @@ impl Image {
                 Ok(Image {
                     engine,
                     lost: false,
+                    asks: Asks::new(),
                 })
             }
             Err((refusal, _)) => Err(refusal),
@@ -99,7 +101,7 @@ impl Image {
         ensures carried { IfOk result (λ i. i.engine.disk.now ≡ carried (given bytes.items) (steps_of i)) }
         ensures found { IfOk result (λ i. LeavesNow i.engine.disk.now (IsFound i.engine)) }
         ensures means { IfOk result (λ i. LeavesNow i.engine.disk.now (MeansState i.engine)) }
-        ensures idle { IfOk result (λ i. i.engine.step ≡ NoCheckpoint) }
+        ensures idle { IfOk result (λ i. (i.engine.step ≡ NoCheckpoint) × (i.asked ≡ [])) }
         ensures works { IfOk result (λ i. i.lost ≡ false) }
         ensures fault { IfErr result (IsFaultOf bytes.items) }
     {
@@ -116,6 +118,7 @@ impl Image {
                 Ok(Image {
                     engine,
                     lost: false,
+                    asks: Asks::new(),
                 })
             }
             Err((refusal, _)) => Err(refusal), // The bytes' own.
@@ -151,6 +154,7 @@ impl Image {
     /// Serves one command, as [`Engine::serve`] does. Returns `Device` if the list couldn't grow or a step was lost.
     pub fn serve(&mut self, command: &Command) -> Result<Outcome, Refusal>
         ensures lost { self.old.lost ≡ true → (result ≡ Err Refusal.Device) × (self.new ≡ self.old) }
+        ensures asked { self.new.asked ≡ self.old.asked }
         ensures works { self.old.lost ≡ false → self.old.engine.failed ≡ false }
         ensures answered { self.old.lost ≡ false → Answered (begun_in self.old) command.now result self.new.engine }
         // On the way the file means the memory before the command or after it, and at the end what was answered.
@@ -179,6 +183,7 @@ impl Image {
     )
         requires empty { served.old.items ≡ [] }
         ensures lost { self.old.lost ≡ true → (served.new.items ≡ []) × (self.new ≡ self.old) }
+        ensures asked { self.new.asked ≡ self.old.asked }
         ensures works { self.old.lost ≡ false → self.old.engine.failed ≡ false }
         // How many are served, their answers, and what the file means on the way.
         ensures served { self.old.lost ≡ false
@@ -197,6 +202,7 @@ impl Image {
     pub fn turn(&mut self) -> Result<TurnDone, Refusal>
         ensures lost { self.old.lost ≡ true → (result ≡ Err Refusal.Device) × (self.new ≡ self.old) }
         // So the answer isn't `Failed`.
+        ensures asked { self.new.asked ≡ self.old.asked }
         ensures works { self.old.lost ≡ false → self.old.engine.failed ≡ false }
         ensures answered { self.old.lost ≡ false → TurnAnswered (begun_in self.old) result self.new.engine }
         // On the way the file means the same memory.
@@ -216,6 +222,7 @@ impl Image {
     /// Sweeps at most `most` slots, like [`Engine::sweep`]. Returns `Device` if a step couldn't be listed or was lost.
     pub fn sweep(&mut self, most: u32) -> Result<u32, Refusal>
         ensures lost { self.old.lost ≡ true → (result ≡ Err Refusal.Device) × (self.new ≡ self.old) }
+        ensures asked { self.new.asked ≡ self.old.asked }
         ensures works { self.old.lost ≡ false → self.old.engine.failed ≡ false }
         ensures answered { self.old.lost ≡ false → SweepAnswered (begun_in self.old) most result self.new.engine }
         ensures carried { self.old.lost ≡ false
@@ -229,70 +236,5 @@ impl Image {
         let answer = self.engine.sweep(most);
         self.lost = known(&self.engine);
         answer
-    }
-
-    /// Returns the entry under an element's number, like [`Engine::collect`]. Returns `Device` if a step was lost.
-    pub fn collect(&self, element: u16, number: u64) -> Result<Entry, Refusal>
-        ensures lost { self.now.lost ≡ true → result ≡ Err Refusal.Device }
-        ensures answer { self.now.lost ≡ false
-            → result ≡ ask self.now.engine.memory.windows (record { element = element; number = number }) }
-    {
-        match self.lost {
-            true => Err(Refusal::Device),
-            false => self.engine.collect(element, number),
-        }
-    }
-
-    /// Returns what is kept under an element's number, if anything is: the operation and its entry.
-    pub fn kept(&self, element: u16, number: u64) -> Option<Kept>
-        ensures { result ≡ kept_for self.now.engine.memory.windows (record { element = element; number = number }) }
-    {
-        self.engine.memory().kept(element, number)
-    }
-
-    /// Returns the requests that wait at a cell, in order of arrival. There are none if the address is in no block.
-    pub fn waiters(&self, a: u32) -> Waiters<'_>
-        ensures { result ≡ waiters_at self.now.engine.memory.cells a }
-    {
-        self.engine.memory().waiters(a)
-    }
-
-    /// Returns the bounds of an element's window, as [`Engine::window`] does. Returns `Device` if a step was lost.
-    pub fn window(&self, element: u16) -> Result<(u64, u64), Refusal>
-        ensures lost { self.now.lost ≡ true → result ≡ Err Refusal.Device }
-        ensures answer { self.now.lost ≡ false → result ≡ bounds self.now.engine.memory.windows element }
-    {
-        match self.lost {
-            true => Err(Refusal::Device),
-            false => self.engine.window(element),
-        }
-    }
-
-    /// Returns whether a step was lost, here or at the caller.
-    pub fn is_lost(&self) -> bool
-        ensures { result ≡ self.now.lost }
-    {
-        self.lost
-    }
-
-    /// Returns the memory.
-    pub fn memory(&self) -> &Memory
-        ensures { result.now.contents ≡ self.now.engine.memory }
-    {
-        self.engine.memory()
-    }
-
-    /// Returns how many more commands can be accepted.
-    pub fn room(&self) -> u32
-        ensures { result ≡ self.now.engine.room }
-    {
-        self.engine.room()
-    }
-
-    /// Returns how many commands have been accepted since the image was formatted.
-    pub fn count(&self) -> u64
-        ensures { result ≡ self.now.engine.count }
-    {
-        self.engine.count()
     }
 }

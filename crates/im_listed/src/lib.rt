@@ -3,10 +3,12 @@
 #![tactic(auto)]
 
 mod again;
+mod asking;
 mod calls;
 mod chain;
 mod image;
 mod listed;
+mod looking;
 mod settling;
 mod step;
 

@@ -64,8 +64,8 @@ class lt_refusal(enum.IntEnum):
     BAD_RECORD = 16
     BAD_LIMITS = 17  # of lt_memory_new and lt_format
     OLD_VERSION = 21  # of lt_open: an image of the first layout; `imem migrate` makes one of this layout
-    # of a member of lt_serve_group: it isn't served, and changed nothing; put it again. Of lt_advance: no command was
-    # ahead there
+    # of a member of lt_serve_group: it isn't served, and changed nothing; put it again. Of lt_front_submit and
+    # lt_front_next: it isn't asked; ask again after lt_front_advance
     UNSERVED = 254
     NO_CALL = 255  # an unknown tag, no such write, or no group
 
@@ -157,7 +157,7 @@ class lt_bounds(c.Structure):
 
 
 class lt_advanced(c.Structure):
-    """What lt_advance did. If `refusal` isn't 0, nothing is ahead."""
+    """What lt_front_advance did. If `refusal` isn't 0, nothing is ahead."""
 
     _fields_ = [
         ("refusal", c.c_uint8),
@@ -167,6 +167,36 @@ class lt_advanced(c.Structure):
     refusal: Any
     ahead: Any
     answered: Any
+
+
+class lt_told(c.Structure):
+    """A command that was asked, by its ticket, and its outcome."""
+
+    _fields_ = [
+        ("ticket", c.c_uint64),
+        ("outcome", lt_outcome),
+    ]
+    ticket: Any
+    outcome: Any
+
+
+class lt_asked_state(enum.IntEnum):
+    """Where a command stands that is asked, by `state`."""
+
+    NONE_ASKED = 0  # there is none
+    ASKED = 1
+    AHEAD = 2  # it acts with the next lt_front_advance
+
+
+class lt_asked(c.Structure):
+    _fields_ = [
+        ("ticket", c.c_uint64),
+        ("command", lt_command),
+        ("state", c.c_uint8),
+    ]
+    ticket: Any
+    command: Any
+    state: Any
 
 
 class lt_sizes(c.Structure):
@@ -309,16 +339,17 @@ CALLS: dict[str, tuple[Any, ...]] = {
         c.c_size_t,
     ),
     "lt_first_unknown": (c.c_size_t, c.POINTER(lt_command), c.c_size_t),
-    "lt_advance": (
+    "lt_front_submit": (c.c_uint8, lt_image, c.c_uint64, c.POINTER(lt_command), c.POINTER(lt_image)),
+    "lt_front_next": (c.c_uint8, lt_image, c.c_uint64, c.POINTER(lt_command), c.c_uint64, c.POINTER(lt_image)),
+    "lt_front_advance": (
         c.c_uint8,
         lt_image,
-        c.POINTER(lt_command),
-        c.c_size_t,
         c.POINTER(lt_image),
         c.POINTER(lt_advanced),
-        c.POINTER(lt_outcome),
+        c.POINTER(lt_told),
         c.c_size_t,
     ),
+    "lt_front_asked": (lt_asked, c.POINTER(lt_image), c.c_size_t),
     "lt_turn": (c.c_uint8, lt_image, c.POINTER(lt_image), c.POINTER(lt_outcome)),
     "lt_sweep": (c.c_uint8, lt_image, c.c_uint32, c.POINTER(lt_image), c.POINTER(lt_outcome)),
     "lt_failed": (None, lt_image, c.POINTER(lt_image)),
@@ -353,15 +384,9 @@ CALLS: dict[str, tuple[Any, ...]] = {
         c.POINTER(lt_outcome),
         c.POINTER(c.c_size_t),
     ),
-    "ltf_advance": (
-        c.c_int,
-        c.POINTER(ltf),
-        c.POINTER(lt_command),
-        c.c_size_t,
-        c.POINTER(c.c_size_t),
-        c.POINTER(lt_outcome),
-        c.POINTER(c.c_size_t),
-    ),
+    "ltf_front_submit": (c.c_int, c.POINTER(ltf), c.c_uint64, c.POINTER(lt_command)),
+    "ltf_front_next": (c.c_int, c.POINTER(ltf), c.c_uint64, c.POINTER(lt_command), c.c_uint64),
+    "ltf_front_advance": (c.c_int, c.POINTER(ltf), c.POINTER(lt_told), c.POINTER(c.c_size_t)),
     "ltf_woken": (c.POINTER(lt_waiter), c.POINTER(ltf), c.POINTER(c.c_size_t)),
     "ltf_tidy": (c.c_int, c.POINTER(ltf)),
     "ltf_collect": (c.c_int, c.POINTER(ltf), c.c_uint16, c.c_uint64, c.POINTER(lt_outcome)),

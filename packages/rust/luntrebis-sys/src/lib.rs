@@ -138,8 +138,8 @@ pub const LT_BAD_LIMITS: u8 = 17;
 /// Of lt_open: an image of the first layout; `imem migrate` makes one of this layout
 pub const LT_OLD_VERSION: u8 = 21;
 
-/// Of a member of lt_serve_group: it isn't served, and changed nothing; put it again. Of lt_advance: no command was
-/// ahead there
+/// Of a member of lt_serve_group: it isn't served, and changed nothing; put it again. Of lt_front_submit and
+/// lt_front_next: it isn't asked; ask again after lt_front_advance
 pub const LT_UNSERVED: u8 = 254;
 
 /// An unknown tag, no such write, or no group
@@ -218,15 +218,40 @@ pub struct lt_bounds {
     pub next: u64,
 }
 
-/// What lt_advance did. If `refusal` isn't 0, nothing is ahead.
+/// What lt_front_advance did. If `refusal` isn't 0, nothing is ahead.
 #[repr(C)]
 #[derive(Clone, Copy, Debug, Default, PartialEq, Eq)]
 pub struct lt_advanced {
     pub refusal: u8,
-    /// How many of the commands are ahead now
+    /// How many of those that are asked are ahead now
     pub ahead: u8,
-    /// How many were ahead: the first outcomes are theirs
+    /// How many are told
     pub answered: u8,
+}
+
+/// A command that was asked, by its ticket, and its outcome.
+#[repr(C)]
+#[derive(Clone, Copy, Debug, Default, PartialEq, Eq)]
+pub struct lt_told {
+    pub ticket: u64,
+    pub outcome: lt_outcome,
+}
+
+/// There is none
+pub const LT_NONE_ASKED: u8 = 0;
+
+/// Where a command stands that is asked, by `state`.
+pub const LT_ASKED: u8 = 1;
+
+/// It acts with the next lt_front_advance
+pub const LT_AHEAD: u8 = 2;
+
+#[repr(C)]
+#[derive(Clone, Copy, Debug, Default, PartialEq, Eq)]
+pub struct lt_asked {
+    pub ticket: u64,
+    pub command: lt_command,
+    pub state: u8,
 }
 
 /// The sizes of an image.
@@ -423,28 +448,38 @@ extern "C" {
     /// taking them. Returns `count` if there is none.
     pub fn lt_first_unknown(commands: *const lt_command, count: usize) -> usize;
 
-    /// Lets the commands that are ahead of the image act, and puts 0 to 16 next ones ahead of it, by one sync for both.
-    /// So a chain of n groups needs n + 1 syncs, where n calls of lt_serve_group need two each. What is ahead has no
-    /// effect until the next such call: until then a crash leaves nothing of it. lt_serve and lt_serve_group forget
-    /// what is ahead if they put a command on the disk; lt_turn and lt_sweep keep it.
+    /// Asks for a command, behind all that is asked. Returns 0, LT_NO_CALL for an unknown tag, or LT_UNSERVED if 16 are
+    /// asked behind those that are ahead: ask again after lt_front_advance. It leaves no step, as the next call.
+    pub fn lt_front_submit(image: lt_image, ticket: u64, command: *const lt_command, next: *mut lt_image) -> u8;
+
+    /// Asks for a request under its element's next number, behind all that is asked. The number is written at
+    /// `command`. If 64 entries are kept then, a confirmation is asked before it, with the ticket 0: up to the first
+    /// entry that isn't answered yet, and at most up to the number `most`. Returns 0, LT_UNSERVED if it needs more
+    /// places than lt_front_submit would have, or the refusal: LT_WINDOW_FULL if there is nothing to confirm,
+    /// LT_NO_ELEMENT, LT_DEVICE, or LT_NO_CALL. Then nothing is asked. It is for an element of which all requests come
+    /// this way.
+    pub fn lt_front_next(image: lt_image, ticket: u64, command: *mut lt_command, most: u64, next: *mut lt_image) -> u8;
+
+    /// Lets those that are ahead act, and puts the next ones ahead that are asked. Those that acted are asked no more:
+    /// they are told at the first places of `told`, which has 16, in their order, with the outcomes that lt_serve would
+    /// give to one after another. The others are as they were.
     ///
-    /// The first commands are put ahead: as many as there is room for, up to a confirmation if it isn't known, before
-    /// those that were ahead act, whether each entry that it would drop is answered. Put the others again. If nothing
-    /// was ahead and there is room, at least one is put. `done` says how many are ahead, and how many were: the first
-    /// outcomes are theirs, each as lt_serve would give it after those before it, and each outcome behind them is
-    /// LT_UNSERVED. If the steps couldn't be listed, each of theirs is LT_DEVICE.
+    /// The next ones are the first of those behind: as many as there is room for, up to a confirmation if it isn't
+    /// known, before those that were ahead act, whether each entry that it would drop is answered. If nothing is ahead,
+    /// at least one is put. If nothing is ahead and there is no room, the first that is asked is told LT_JOURNAL_FULL.
+    /// If the steps couldn't be listed, each that is told has LT_DEVICE.
     ///
-    /// Returns the refusal of `done`: 0, LT_DEVICE, or LT_NO_CALL if a tag is unknown, `count` is more than 16, or
-    /// `places` isn't 16. After LT_NO_CALL, and after a lost step, the outcomes are as they were.
-    pub fn lt_advance(
+    /// Returns the refusal of `done`: 0, LT_DEVICE, or LT_NO_CALL if `places` isn't 16.
+    pub fn lt_front_advance(
         image: lt_image,
-        commands: *const lt_command,
-        count: usize,
         next: *mut lt_image,
         done: *mut lt_advanced,
-        outcomes: *mut lt_outcome,
+        told: *mut lt_told,
         places: usize,
     ) -> u8;
+
+    /// Returns what is asked, by its place from 0. Those that are ahead come first. This call only reads.
+    pub fn lt_front_asked(image: *const lt_image, index: usize) -> lt_asked;
 
     /// Makes one turn of a checkpoint. Returns its refusal, and writes what it did at `outcome`.
     pub fn lt_turn(image: lt_image, next: *mut lt_image, outcome: *mut lt_outcome) -> u8;
@@ -591,26 +626,23 @@ extern "C" {
         served: *mut usize,
     ) -> core::ffi::c_int;
 
-    /// Lets the commands that are ahead act, and puts the first of these ahead, as lt_advance does: at most 16, which
-    /// may be none. How many are ahead now is at `ahead`; the others are untouched, and are put again. If nothing was
-    /// ahead and nothing can be put there, ltf_serve_group serves them: it makes room, and answers an unknown tag.
-    /// Writes the outcomes of the commands that were ahead at `outcomes`, which has 16 places, and their number at
-    /// `answered`. Returns 0, or LT_DEVICE if a step failed: then nobody is answered, and nothing is ahead.
+    /// ---- A front: what is asked, in its order, and goes out as a chain of groups
     ///
-    /// What is ahead has no effect before the next ltf_advance or ltf_serve_all, in which it acts first. ltf_serve and
-    /// ltf_serve_group forget it if they put a command on the disk, and so does ltf_close.
-    pub fn ltf_advance(
-        file: *mut ltf,
-        commands: *const lt_command,
-        count: usize,
-        ahead: *mut usize,
-        outcomes: *mut lt_outcome,
-        answered: *mut usize,
-    ) -> core::ffi::c_int;
+    /// As lt_front_submit, lt_front_next and lt_front_advance. What is asked acts in its turn; the other calls that
+    /// serve act before it, but for ltf_serve_all, which returns LT_NO_CALL while anything is asked. ltf_close forgets
+    /// it.
+    pub fn ltf_front_submit(file: *mut ltf, ticket: u64, command: *const lt_command) -> core::ffi::c_int;
 
-    /// Returns the requests that the last ltf_serve, ltf_serve_group, ltf_serve_all or ltf_advance resumed: they waited
-    /// before, and are answered now. Those of one cell are in the order in which they came. Their number is at `count`.
-    /// They stay there until the next of these calls.
+    pub fn ltf_front_next(file: *mut ltf, ticket: u64, command: *mut lt_command, most: u64) -> core::ffi::c_int;
+
+    /// Writes those that acted at `told`, which has 16 places, and their number at `count`. If anything is asked, then
+    /// some are told, or are ahead. It keeps at least half of the journal empty, and makes room if there is none.
+    /// Returns 0, or LT_DEVICE if a step failed: then nobody is told.
+    pub fn ltf_front_advance(file: *mut ltf, told: *mut lt_told, count: *mut usize) -> core::ffi::c_int;
+
+    /// Returns the requests that the last ltf_serve, ltf_serve_group, ltf_serve_all or ltf_front_advance resumed: they
+    /// waited before, and are answered now. Those of one cell are in the order in which they came. Their number is at
+    /// `count`. They stay there until the next of these calls.
     pub fn ltf_woken(file: *const ltf, count: *mut usize) -> *const lt_waiter;
 
     /// Makes a sweep, or a turn of a checkpoint, if less than half of the journal is free. Returns 1, or 0 if there is
