@@ -162,7 +162,6 @@ first_of_more ahead asked more first =
 module _ (ahead : List Command) (asked rest : List AskedCommand) (told : List ToldAnswer) (answers : List Served)
     (first : AreFirst ahead asked) (order : asked ≡ asks_told told ++ rest) (are : answers_told told ≡ answers)
     (each : length answers ≡ length ahead) where
-
   as_many : length (asks_told told) ≡ length ahead
   as_many =
       length_map (λ (t : ToldAnswer). t.asked) told ∙ sym (length_map (λ (t : ToldAnswer). t.served) told)

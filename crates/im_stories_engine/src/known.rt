@@ -4,9 +4,9 @@ use crate::engines::StoryScript;
 use arrayvec::ArrayVec;
 use im_disk::{Crash, Mode};
 use im_memory::Memory;
-use im_story_plain::PlainMemory;
 use im_story::Saying;
 use im_story_disk::StoryFile;
+use im_story_plain::PlainMemory;
 use im_types::{Command, Limits, MAX_GROUP, Outcome, Refusal, Served};
 use std::alloc::Global;
 

@@ -5,9 +5,9 @@ use crate::known::{KnownEngine, are_alike, does_work, is_wrong_at};
 use arrayvec::ArrayVec;
 use im_disk::{Crash, Mode};
 use im_memory::Memory;
-use im_story_plain::PlainMemory;
 use im_story::{Dice, Phrase, Saying};
 use im_story_disk::STEADY;
+use im_story_plain::PlainMemory;
 use im_types::{Command, Limits, MAX_GROUP, Request};
 
 // The cells of each memory.

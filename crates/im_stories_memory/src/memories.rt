@@ -1,8 +1,8 @@
 //! The fast memory and the plain one, side by side. Each call is made on both, and both have to answer the same.
 
 use im_memory::Memory;
-use im_story_plain::PlainMemory;
 use im_story::{Phrase, Saying, asked, command};
+use im_story_plain::PlainMemory;
 use im_types::{
     Cell, CellRecord, Command, Entry, Limits, NONE, NodeRecord, Op, Outcome, PresenceTag, Refusal,
 };

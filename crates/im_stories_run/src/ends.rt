@@ -1,7 +1,7 @@
 //! The ends that requests of elements may come to, by the plain memory: in each order that keeps each element's own.
 
-use im_story_plain::PlainMemory;
 use im_story::Saying;
+use im_story_plain::PlainMemory;
 use im_types::{Cell, Command, Limits, Refusal, Request};
 use std::alloc::Global;
 

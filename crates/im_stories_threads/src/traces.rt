@@ -3,8 +3,8 @@
 use crate::acts::{Sizes, limits_of};
 use crate::players::NO_CELL;
 use im_controller::Traced;
-use im_story_plain::PlainMemory;
 use im_story::Saying;
+use im_story_plain::PlainMemory;
 use im_types::{Call, Command, Outcome};
 use std::alloc::Global;
 

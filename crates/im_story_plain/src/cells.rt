@@ -36,7 +36,9 @@ pub fn slot_at(slots: &[Option<PlainSlot>], a: u32) -> Option<PlainSlot> {
 /// Changes the state of the cell at an address, if it is in a block.
 pub fn set(slots: &mut [Option<PlainSlot>], a: u32, state: Content) {
     let at = a as usize;
-    if let Some(slot) = slot_at(slots, a) && at < slots.len() {
+    if let Some(slot) = slot_at(slots, a)
+        && at < slots.len()
+    {
         slots[at] = Some(PlainSlot {
             block: slot.block,
             state,

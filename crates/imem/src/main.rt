@@ -5,24 +5,20 @@ ghost use Rattle.std.specs.Prelude.{◌≡◌, ◌≤◌, ◌⊎◌, map, IfOk, 
 ghost use Rattle.std.specs.Process.{exit_status};
 ghost use Rattle.im_program.specs.Ending.{EndedBy};
 
-mod hearing;
 mod machine;
 mod openings;
+mod working;
 
-use crate::hearing::{listen, prompts, tell_help};
 use crate::machine::Machine;
 use crate::openings::{Clocked, Openings};
+use crate::working::{Surroundings, work_on};
 use im_disk::{Disk, FileDisk, Start};
-use im_listening::Listener;
-use im_program::{
-    AtHand, Console, Descriptors, Prompter, Terminals, WordFault, act, read_words, refuse,
-    status_for,
-};
+use im_program::{Descriptors, Terminals, WordFault, read_words, refuse};
 use im_text::Style;
 use im_types::Refusal;
 use std::alloc::{AllocError, Global};
 use std::env::{self, Env};
-use std::io::{self, BufReader, Eprint, Input, IsTerminal, Read, Write};
+use std::io::{self, Eprint, Input, IsTerminal, Read, Write};
 use std::marker::Brand;
 use std::process::ExitCode;
 
@@ -47,21 +43,11 @@ fn texts(alloc: Global, words: &[String]) -> Result<Vec<&str>, AllocError>
     words.iter().map(|word| word.as_str()).collect(alloc)
 }
 
-// Where the work is done.
-#[derive(Drop)]
-struct Surroundings<'a, R> {
-    rt: &'a R,
-    held: &'a Descriptors,
-    terminals: Terminals,
-}
-
 /// Does what the words of the command line ask for, the program's own name first. Returns how the program ends, the
 /// writer, and the disks of the files that were opened.
 ///
 /// The exit status is that of the work, or 1, 4 or 5 if that was refused: it is 0 only if all that was asked for was
-/// done and told. Each read of standard input takes as much as there is, so that lines of a dialogue that come together
-/// are served together. In a dialogue a thread listens to standard input, and a person at a terminal sees a prompt. If
-/// standard input doesn't block, the program waits for it.
+/// done and told.
 fn start<
     R: Machine,
     S: Start + Send,
@@ -81,38 +67,22 @@ fn start<
         (map string_bytes words.now) (I.remaining input) (W.contents out) (W.contents result.1)
         (exit_status result.0) result.2 result.3 }
 {
-    let (rt, alloc) = (place.rt, place.rt.alloc());
-    let Ok(texts) = texts(alloc, words) else {
-        let status = refuse(alloc, Style::Text, Refusal::NoMemory, &mut out);
+    let Ok(texts) = texts(place.rt.alloc(), words) else {
+        let status = refuse(place.rt.alloc(), Style::Text, Refusal::NoMemory, &mut out);
         return (ExitCode::from(status), out, None, None);
     };
-    match read_words(alloc, texts.as_slice()) {
+    match read_words(place.rt.alloc(), texts.as_slice()) {
         Ok(line) => {
-            tell_help(rt, &line, place.terminals);
-            let heard: Listener<R, I, Brand> = listen(rt, alloc, input, &line);
-            let prompter = Prompter::new(rt, heard, prompts(&line, place.terminals));
-            let Ok(mut input) = BufReader::new(alloc, prompter) else {
-                let status = refuse(alloc, Style::Text, Refusal::NoMemory, &mut out);
-                return (ExitCode::from(status), out, None, None);
-            };
-            let mut console = Console::new(rt, place.held, &line.work, place.terminals);
-            let hand = AtHand {
-                rt,
-                held: place.held,
-                input: &mut input,
-                observer: &mut console,
-            };
             let starts = openings.starts(line.wait);
-            let (status, disk, old) = act(hand, &line, &mut out, starts);
-            let ends = status_for(status, line.statuses, console.reason());
-            (ExitCode::from(ends), out, disk, old)
+            let done = work_on::<R, S, T, I, W, Brand>(place, &line, out, input, starts);
+            (ExitCode::from(done.0), done.1, done.2, done.3)
         }
         Err(WordFault::NoMemory) => {
-            let status = refuse(alloc, Style::Text, Refusal::NoMemory, &mut out);
+            let status = refuse(place.rt.alloc(), Style::Text, Refusal::NoMemory, &mut out);
             (ExitCode::from(status), out, None, None)
         }
         Err(WordFault::Bad(error)) => {
-            let status = status_after(error.use_stderr(), error.print(rt));
+            let status = status_after(error.use_stderr(), error.print(place.rt));
             (ExitCode::from(status), out, None, None)
         }
     }

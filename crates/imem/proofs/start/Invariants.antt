@@ -1,4 +1,4 @@
 -- The bytes that standard input has.
 
-abbrev pub ghosts-listen : Rattle.imem.proofs.start.Given.ghosts-listen
-ghosts-listen g a = record { whole = g.I.Read.remaining a.input }
+abbrev pub ghosts-work_on : Rattle.imem.proofs.start.Given.ghosts-work_on
+ghosts-work_on g a = record { whole = g.I.Read.remaining a.input }
