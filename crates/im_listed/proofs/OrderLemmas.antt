@@ -31,7 +31,8 @@ first_stays old new asked stays first = ⊎_elim
 
 -- the same from before the list was emptied
 pub kept_first : (e s new : EngineState Listing) (asked : List AskedCommand)
-    → s ≡ record e { disk = with_no_steps e.disk } → StaysAhead s new → AreFirst e.ahead asked → AreFirst new.ahead asked
+    → s ≡ record e { disk = with_no_steps e.disk } → StaysAhead s new → AreFirst e.ahead asked
+    → AreFirst new.ahead asked
 kept_first e s new asked is stays first = first_stays s new asked stays
     (subst (λ (l : List Command). AreFirst l asked) (sym (ap (λ (t : EngineState Listing). t.ahead) is)) first)
 
@@ -155,7 +156,8 @@ enough_asked ahead asked first =
 pub first_of_more : (ahead : List Command) (asked more : List AskedCommand) → AreFirst ahead asked
     → AreFirst ahead (asked ++ more)
 first_of_more ahead asked more first =
-    ap (λ (l : List AskedCommand). commands_asked l) (take_more (length ahead) asked more (enough_asked ahead asked first)) ∙ first
+    ap (λ (l : List AskedCommand). commands_asked l)
+    (take_more (length ahead) asked more (enough_asked ahead asked first)) ∙ first
 
 -- ---- the chain
 
@@ -222,8 +224,9 @@ told_all s new next result answers a f = ⊎_elim
 
 -- what is ahead behind the call is the first of what is still asked
 pub chain_first : (e s new : EngineState Listing) (asked rest : List AskedCommand) (told : List ToldAnswer)
-    (answers : List Served) (next : List Command) (result : Result ℕ Refusal) → s ≡ record e { disk = with_no_steps e.disk }
-    → s.failed ≡ false → AreFirst e.ahead asked → asked ≡ asks_told told ++ rest → answers_told told ≡ answers
+    (answers : List Served) (next : List Command) (result : Result ℕ Refusal)
+    → s ≡ record e { disk = with_no_steps e.disk } → s.failed ≡ false → AreFirst e.ahead asked
+    → asked ≡ asks_told told ++ rest → answers_told told ≡ answers
     → next ≡ take MAX_GROUP (drop (length e.ahead) (commands_asked asked)) → Advances s next result answers new
     → AreFirst new.ahead rest
 chain_first e s new asked rest told answers next result emptied f first order are is a =
