@@ -1,6 +1,6 @@
 -- What is asked of an image, and what is told, for C.
-use Rattle.std.specs.Prelude.{◌≡◌, ℕ, ◌<◌, ◌≤◌, true, false, List, [], ◌∷◌, ◌++◌, map, length, drop}
-use Rattle.std.specs.Prelude.{if◌then◌else◌, nat_lt, slice_get, Some, None, Ok, Err, Option, Result}
+use Rattle.std.specs.Prelude.{◌≡◌, ℕ, ◌<◌, ◌≤◌, true, false, List, [], ◌∷◌, ◌++◌, map, length, drop, if◌then◌else◌}
+use Rattle.std.specs.Prelude.{nat_lt, slice_get, Some, None, Ok, Err, Option, Result}
 use Rattle.im_types.specs.Types.{Op, Command, Asks, Confirm, Refusal, Device, number_of, MAX_GROUP, address_of, op_code}
 use Rattle.im_types.specs.Types.{op_value, op_of}
 use Rattle.im_front.specs.{declared.AskedCommand.AskedCommand, declared.ToldAnswer.ToldAnswer, Lists.with_ticket}

@@ -43,10 +43,7 @@ fn advanced_by(ahead: Result<usize, Refusal>, answered: usize) -> LtAdvanced
 }
 
 // Goes on with the chain, or refuses the first that is asked if nothing is ahead and there is no room.
-fn go_on(
-    image: &mut Image,
-    told: &mut ArrayVec<ToldAnswer, MAX_GROUP>,
-) -> Result<usize, Refusal>
+fn go_on(image: &mut Image, told: &mut ArrayVec<ToldAnswer, MAX_GROUP>) -> Result<usize, Refusal>
     requires empty { told.old.items ≡ [] }
     requires works { image.old.lost ≡ false }
     ensures tells { GoesOnBy image.old result told.new.items image.new }

@@ -37,10 +37,7 @@ impl Image {
     ///
     /// Returns `Device` if a step couldn't be listed, and then each that is told is refused so. If a step was lost,
     /// nobody is told.
-    pub fn advance(
-        &mut self,
-        told: &mut ArrayVec<ToldAnswer, MAX_GROUP>,
-    ) -> Result<usize, Refusal>
+    pub fn advance(&mut self, told: &mut ArrayVec<ToldAnswer, MAX_GROUP>) -> Result<usize, Refusal>
         requires empty { told.old.items ≡ [] }
         ensures lost { self.old.lost ≡ true
             → (result ≡ Err Refusal.Device) × (told.new.items ≡ []) × (self.new ≡ self.old) }
