@@ -1,5 +1,5 @@
 //! A chain of groups from what is asked of an image, for C.
-ghost use Rattle.std.specs.Prelude.{◌≡◌, ◌≤◌, [], length, IfOk, IsSome};
+ghost use Rattle.std.specs.Prelude.{◌≡◌, ◌≤◌, false, [], IfOk, IsSome};
 ghost use Rattle.im_types.specs.Types.{MAX_GROUP};
 ghost use Rattle.im_c.specs.{Asked.advanced, Asked.advanced_by, Asked.AdvancesBy, Asked.GoesOnBy, Handing.Becomes};
 
