@@ -170,7 +170,8 @@ module _ (ahead : List Command) (asked rest : List AskedCommand) (told : List To
       let whole : take (length xs) xs ≡ xs =
       let e : length xs ≡ length xs - 0 = omega arith in ap (λ k. take k xs) e ∙ take_rest 0 xs in
       ap (λ (l : List AskedCommand). commands_asked l)
-      (sym (take_more (length xs) xs rest (omega arith) ∙ whole) ∙ ap (λ (n : ℕ). take n (asks_told told ++ rest)) as_many
+      (sym (take_more (length xs) xs rest (omega arith) ∙ whole)
+      ∙ ap (λ (n : ℕ). take n (asks_told told ++ rest)) as_many
       ∙ ap (λ (l : List AskedCommand). take (length ahead) l) (sym order)) ∙ first
 
   rest_is : rest ≡ drop (length ahead) asked

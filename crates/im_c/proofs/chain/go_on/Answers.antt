@@ -11,4 +11,5 @@ pub returns-clause-within : Rattle.im_c.proofs.chain.go_on.Goals.returns-clause-
 returns-clause-within c =
     let old = c.args.image.now in
     let most = length_take MAX_GROUP (drop (length old.engine.ahead) (commands_asked old.asked)) in
-    within_by c.advance.result _ (λ n it. omega (arith, it.within, most)) (c.advance.ensures.told c.requires.works).puts.takes
+    within_by c.advance.result _ (λ n it. omega (arith, it.within, most))
+    (c.advance.ensures.told c.requires.works).puts.takes
