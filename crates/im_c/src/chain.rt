@@ -57,7 +57,7 @@ fn go_on(image: &mut Image, told: &mut ArrayVec<ToldAnswer, MAX_GROUP>) -> Resul
     image.advance(told)
 }
 
-// GoesOnBy those that were ahead, at the first places, and puts the next ones ahead.
+// Tells those that were ahead, at the first places, and puts the next ones ahead.
 fn advance(image: &mut Image, places: &mut [LtTold]) -> LtAdvanced
     ensures { AdvancesBy image.old places.old result places.new image.new }
 {

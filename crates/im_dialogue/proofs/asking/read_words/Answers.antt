@@ -1,5 +1,6 @@
-use Rattle.std.proofs.Common.{◌≡◌, ℕ, ◌<◌, List, [], ◌∷◌, length, None, Bor, refl, arith}
-use Rattle.{im_script.specs.Grammar.texts, im_dialogue.specs.Asking.asked_in}
+use Rattle.std.proofs.Common.{◌≡◌, ℕ, ◌<◌, List, [], ◌∷◌, length, None, refl, arith, Bor}
+use Rattle.im_script.specs.Grammar.{texts}
+use Rattle.im_dialogue.specs.Asking.{asked_in}
 
 -- no line of the grammar has more than four words
 asked_by_many : (words : List (Bor (List ℕ))) → 4 < length words → None ≡ asked_in (texts words)
