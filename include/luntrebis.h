@@ -318,8 +318,8 @@ uint8_t lt_front_submit(struct lt_image image, uint64_t ticket, const struct lt_
 
 /* Asks for a request under its element's next number, behind all that is asked. The number is written at `command`. If 64
  * entries are kept then, a confirmation is asked before it, with the ticket 0: up to the first entry that isn't answered
- * yet, and at most up to the number `most`. Returns 0, LT_UNSERVED if it needs more places than lt_front_submit would have, or
- * the refusal: LT_WINDOW_FULL if there is nothing to confirm, LT_NO_ELEMENT, LT_DEVICE, or LT_NO_CALL. Then nothing is asked.
+ * yet, and at most up to the number `most`. Returns 0, LT_UNSERVED as lt_front_submit, or the refusal: LT_WINDOW_FULL if
+ * there is nothing to confirm, LT_NO_ELEMENT, LT_DEVICE, or LT_NO_CALL. Then nothing is asked.
  * It is for an element of which all requests come this way. */
 uint8_t lt_front_next(struct lt_image image, uint64_t ticket, struct lt_command *command, uint64_t most,
                       struct lt_image *next);

@@ -1,6 +1,6 @@
 -- What is asked of an image, and what is told, for C.
-use Rattle.std.specs.Prelude.{◌≡◌, ℕ, ◌+◌, ◌<◌, ◌≤◌, true, false, List, [], ◌∷◌, ◌++◌, map, length, drop}
-use Rattle.std.specs.Prelude.{if◌then◌else◌, nat_lt, slice_get, Some, None, Ok, Err, Option, Result}
+use Rattle.std.specs.Prelude.{◌≡◌, ℕ, ◌<◌, ◌≤◌, true, false, List, [], ◌∷◌, ◌++◌, map, length, drop, if◌then◌else◌}
+use Rattle.std.specs.Prelude.{nat_lt, slice_get, Some, None, Ok, Err, Option, Result}
 use Rattle.im_types.specs.Types.{Op, Command, Asks, Confirm, Refusal, Device, number_of, MAX_GROUP, address_of, op_code}
 use Rattle.im_types.specs.Types.{op_value, op_of}
 use Rattle.im_front.specs.{declared.AskedCommand.AskedCommand, declared.ToldAnswer.ToldAnswer, Lists.with_ticket}
@@ -60,13 +60,13 @@ NextAsked old ticket c op most (Ok number) answer after new =
 NextAsked old ticket c op most (Err refusal) answer after new =
     (answer ≡ number_of refusal) × (after ≡ c) × (new ≡ old) × IsNotNext old c.element most refusal
 
--- the same, unless it isn't a request, or as many are asked behind those that are ahead that two more are too many
+-- the same, unless it isn't a request, or as many are asked as a group has behind those that are ahead
 pub record SubmitsNext (old : ImageState) (ticket : ℕ) (c : LtCommand) (most answer : ℕ) (after : LtCommand)
     (new : ImageState) : Type 0 where
   pub unknown : op_of c.tag c.address c.value ≡ None → (answer ≡ 255) × (after ≡ c) × (new ≡ old)
-  pub full : (op : Op) → op_of c.tag c.address c.value ≡ Some op → MAX_GROUP < many_behind old + 2
+  pub full : (op : Op) → op_of c.tag c.address c.value ≡ Some op → MAX_GROUP ≤ many_behind old
       → (answer ≡ 254) × (after ≡ c) × (new ≡ old)
-  pub known : (op : Op) → op_of c.tag c.address c.value ≡ Some op → many_behind old + 2 ≤ MAX_GROUP
+  pub known : (op : Op) → op_of c.tag c.address c.value ≡ Some op → many_behind old < MAX_GROUP
       → (result : Result ℕ Refusal) × NextAsked old ticket c op most result answer after new
 
 -- a refusal, how many are ahead now, and how many are told

@@ -1,5 +1,5 @@
 //! What is asked of an image, and what is told, in C's form.
-ghost use Rattle.std.specs.Prelude.{◌≡◌, ◌≤◌, ◌++◌, map, length, drop};
+ghost use Rattle.std.specs.Prelude.{◌≡◌, ◌≤◌, length};
 ghost use Rattle.im_c.specs.Asked.{command_told, first_told, told_for_c};
 
 use crate::group::outcome_served;

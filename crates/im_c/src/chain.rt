@@ -1,5 +1,5 @@
 //! A chain of groups from what is asked of an image, for C.
-ghost use Rattle.std.specs.Prelude.{◌≡◌, ◌≤◌, [], length, IfOk, IsSome};
+ghost use Rattle.std.specs.Prelude.{◌≡◌, ◌≤◌, false, [], IfOk, IsSome};
 ghost use Rattle.im_types.specs.Types.{MAX_GROUP};
 ghost use Rattle.im_c.specs.{Asked.advanced, Asked.advanced_by, Asked.AdvancesBy, Asked.GoesOnBy, Handing.Becomes};
 
@@ -57,7 +57,7 @@ fn go_on(image: &mut Image, told: &mut ArrayVec<ToldAnswer, MAX_GROUP>) -> Resul
     image.advance(told)
 }
 
-// GoesOnBy those that were ahead, at the first places, and puts the next ones ahead.
+// Tells those that were ahead, at the first places, and puts the next ones ahead.
 fn advance(image: &mut Image, places: &mut [LtTold]) -> LtAdvanced
     ensures { AdvancesBy image.old places.old result places.new image.new }
 {

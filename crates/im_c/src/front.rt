@@ -34,7 +34,7 @@ fn submit_next(image: &mut Image, ticket: u64, command: &mut LtCommand, most: u6
         Some(op) => op,
         None => return NO_CALL,
     };
-    if image.behind() + 2 > MAX_GROUP {
+    if image.behind() >= MAX_GROUP {
         return UNSERVED;
     }
     match image.submit_next(ticket, command.element, op, most) {
@@ -70,8 +70,8 @@ pub extern "C" fn lt_front_submit(
 /// 64 entries are kept then, a confirmation is asked before it, with the ticket 0: up to the first entry that isn't
 /// answered yet, and at most up to the number `most`.
 ///
-/// Returns 0, 255 for an unknown tag, 254 if 15 or more are asked behind those that are ahead, or the number of the
-/// refusal: `WindowFull` if nothing can be confirmed, `NoElement`, `Device`. It leaves no step.
+/// Returns 0, 255 for an unknown tag, 254 as [`lt_front_submit`], or the number of the refusal: `WindowFull` if nothing
+/// can be confirmed, `NoElement`, `Device`. It leaves no step.
 #[unsafe(no_mangle)]
 pub extern "C" fn lt_front_next(
     image: LtImage,

@@ -31,7 +31,8 @@ first_stays old new asked stays first = ⊎_elim
 
 -- the same from before the list was emptied
 pub kept_first : (e s new : EngineState Listing) (asked : List AskedCommand)
-    → s ≡ record e { disk = with_no_steps e.disk } → StaysAhead s new → AreFirst e.ahead asked → AreFirst new.ahead asked
+    → s ≡ record e { disk = with_no_steps e.disk } → StaysAhead s new → AreFirst e.ahead asked
+    → AreFirst new.ahead asked
 kept_first e s new asked is stays first = first_stays s new asked stays
     (subst (λ (l : List Command). AreFirst l asked) (sym (ap (λ (t : EngineState Listing). t.ahead) is)) first)
 
@@ -96,21 +97,16 @@ take_again (suc m) zero xs = refl
 take_again (suc m) (suc n) [] = refl
 take_again (suc m) (suc n) (x ∷ xs) = ap (λ l. x ∷ l) (take_again m n xs)
 
-pub take_all : {A : Type 0} (xs ys : List A) → take (length xs) (xs ++ ys) ≡ xs
-take_all [] ys = refl
-take_all (x ∷ xs) ys = ap (λ l. x ∷ l) (take_all xs ys)
-
 pub drop_all : {A : Type 0} (xs ys : List A) → drop (length xs) (xs ++ ys) ≡ ys
 drop_all [] ys = refl
 drop_all (x ∷ xs) ys = drop_all xs ys
 
-take_length : {A : Type 0} (xs : List A) → take (length xs) xs ≡ xs
-take_length [] = refl
-take_length (x ∷ xs) = ap (λ l. x ∷ l) (take_length xs)
-
 -- a slice from an index on is all that is behind it
 pub take_rest : {A : Type 0} (n : ℕ) (xs : List A) → take (length xs - n) (drop n xs) ≡ drop n xs
-take_rest zero xs = let e : length xs - 0 ≡ length xs = omega arith in ap (λ k. take k xs) e ∙ take_length xs
+take_rest zero [] = let e : 0 - 0 ≡ 0 = omega arith in ap (λ k. take k []) e
+take_rest zero (x ∷ xs) =
+    let e : suc (length xs) - 0 ≡ suc (length xs - 0) = omega arith in
+    ap (λ k. take k (x ∷ xs)) e ∙ ap (λ l. x ∷ l) (take_rest zero xs)
 take_rest (suc n) [] = let e : 0 - suc n ≡ 0 = omega arith in ap (λ k. take k []) e
 take_rest (suc n) (x ∷ xs) =
     let e : suc (length xs) - suc n ≡ length xs - n = omega arith in
@@ -155,7 +151,8 @@ enough_asked ahead asked first =
 pub first_of_more : (ahead : List Command) (asked more : List AskedCommand) → AreFirst ahead asked
     → AreFirst ahead (asked ++ more)
 first_of_more ahead asked more first =
-    ap (λ (l : List AskedCommand). commands_asked l) (take_more (length ahead) asked more (enough_asked ahead asked first)) ∙ first
+    ap (λ (l : List AskedCommand). commands_asked l)
+    (take_more (length ahead) asked more (enough_asked ahead asked first)) ∙ first
 
 -- ---- the chain
 
@@ -169,8 +166,12 @@ module _ (ahead : List Command) (asked rest : List AskedCommand) (told : List To
 
   pub told_first : commands_asked (asks_told told) ≡ ahead
   told_first =
+      let xs = asks_told told in
+      let whole : take (length xs) xs ≡ xs =
+      let e : length xs ≡ length xs - 0 = omega arith in ap (λ k. take k xs) e ∙ take_rest 0 xs in
       ap (λ (l : List AskedCommand). commands_asked l)
-      (sym (take_all (asks_told told) rest) ∙ ap (λ (n : ℕ). take n (asks_told told ++ rest)) as_many
+      (sym (take_more (length xs) xs rest (omega arith) ∙ whole)
+      ∙ ap (λ (n : ℕ). take n (asks_told told ++ rest)) as_many
       ∙ ap (λ (l : List AskedCommand). take (length ahead) l) (sym order)) ∙ first
 
   rest_is : rest ≡ drop (length ahead) asked
@@ -221,8 +222,9 @@ told_all s new next result answers a f = ⊎_elim
 
 -- what is ahead behind the call is the first of what is still asked
 pub chain_first : (e s new : EngineState Listing) (asked rest : List AskedCommand) (told : List ToldAnswer)
-    (answers : List Served) (next : List Command) (result : Result ℕ Refusal) → s ≡ record e { disk = with_no_steps e.disk }
-    → s.failed ≡ false → AreFirst e.ahead asked → asked ≡ asks_told told ++ rest → answers_told told ≡ answers
+    (answers : List Served) (next : List Command) (result : Result ℕ Refusal)
+    → s ≡ record e { disk = with_no_steps e.disk } → s.failed ≡ false → AreFirst e.ahead asked
+    → asked ≡ asks_told told ++ rest → answers_told told ≡ answers
     → next ≡ take MAX_GROUP (drop (length e.ahead) (commands_asked asked)) → Advances s next result answers new
     → AreFirst new.ahead rest
 chain_first e s new asked rest told answers next result emptied f first order are is a =
@@ -233,8 +235,3 @@ chain_first e s new asked rest told answers next result emptied f first order ar
     (ap (λ (t : EngineState Listing). t.ahead) l.3 ∙ ap (λ (x : List Command). take l.0 x) is))
     (λ r. subst (λ (x : List Command). AreFirst x rest) (sym (ap (λ (t : EngineState Listing). t.ahead) r.2)) refl)
     (a.alive f)
-
--- nothing is ahead, so any are in order
-pub none_first : (ahead : List Command) (asked : List AskedCommand) → length ahead ≡ 0 → AreFirst ahead asked
-none_first [] asked is = refl
-none_first (c ∷ cs) asked is = absurd (omega (arith, is))

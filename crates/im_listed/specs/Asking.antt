@@ -21,11 +21,12 @@ many_behind s = length s.asked - length s.engine.ahead
 abbrev pub next_group : ImageState → List Command
 next_group s = take MAX_GROUP (drop (length s.engine.ahead) (commands_asked s.asked))
 
--- the bounds of an element's window behind what is asked, or the refusal
+-- these bounds of an element's window as they are behind what is asked, or the refusal
 abbrev pub moved_behind : ImageState → ℕ → Result (ℕ × ℕ) Refusal → Result (ℕ × ℕ) Refusal
 moved_behind s element (Ok b) = Ok (bounds_asked_all element (commands_asked s.asked) b)
 moved_behind s element (Err refusal) = Err refusal
 
+-- the bounds that an element's window has behind what is asked
 abbrev pub window_behind : ImageState → ℕ → Result (ℕ × ℕ) Refusal
 window_behind s element = moved_behind s element (bounds s.engine.memory.windows element)
 

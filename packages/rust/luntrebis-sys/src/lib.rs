@@ -454,10 +454,9 @@ extern "C" {
 
     /// Asks for a request under its element's next number, behind all that is asked. The number is written at
     /// `command`. If 64 entries are kept then, a confirmation is asked before it, with the ticket 0: up to the first
-    /// entry that isn't answered yet, and at most up to the number `most`. Returns 0, LT_UNSERVED if it needs more
-    /// places than lt_front_submit would have, or the refusal: LT_WINDOW_FULL if there is nothing to confirm,
-    /// LT_NO_ELEMENT, LT_DEVICE, or LT_NO_CALL. Then nothing is asked. It is for an element of which all requests come
-    /// this way.
+    /// entry that isn't answered yet, and at most up to the number `most`. Returns 0, LT_UNSERVED as lt_front_submit,
+    /// or the refusal: LT_WINDOW_FULL if there is nothing to confirm, LT_NO_ELEMENT, LT_DEVICE, or LT_NO_CALL. Then
+    /// nothing is asked. It is for an element of which all requests come this way.
     pub fn lt_front_next(image: lt_image, ticket: u64, command: *mut lt_command, most: u64, next: *mut lt_image) -> u8;
 
     /// Lets those that are ahead act, and puts the next ones ahead that are asked. Those that acted are asked no more:

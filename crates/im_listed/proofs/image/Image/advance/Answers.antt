@@ -30,8 +30,8 @@ invariant_of-self c =
     record {
       works = λ is. sym c.known-self-inside-2.ensures.failed ∙ is;
       first = chain_first c.self.inside.engine s c.advance-answer.new.self c.self.inside.asks c.tell.new.self
-          c.tell.new.told.items c.advance-answer.new.served.items c.next_group-next.result.items c.advance-answer.result emptied
-          here c.self.invariant.first c.tell.ensures.order (c.tell.ensures.answers ∙ c.as_slice.ensures.value)
+          c.tell.new.told.items c.advance-answer.new.served.items c.next_group-next.result.items c.advance-answer.result
+          emptied here c.self.invariant.first c.tell.ensures.order (c.tell.ensures.answers ∙ c.as_slice.ensures.value)
           (c.next_group-next.ensures ∙ sym (ap (λ (i : ImageState). next_group i) c.self.view_is))
           c.advance-answer.ensures.answered;
     }
@@ -79,8 +79,9 @@ returns-clause-told c = λ alive.
     } in
     record {
       order = sym (ap (λ (i : ImageState). i.asked) c.self.view_is) ∙ c.tell.ensures.order;
-      acted = told_first e.ahead c.self.inside.asks new.asked told answers c.self.invariant.first c.tell.ensures.order are
-          each ∙ ap (λ (i : ImageState). i.engine.ahead) c.self.view_is;
+      acted = told_first e.ahead c.self.inside.asks new.asked told answers c.self.invariant.first c.tell.ensures.order
+          are each ∙ ap (λ (i : ImageState). i.engine.ahead) c.self.view_is;
       puts = subst (λ (l : List Command). PutsAhead now l c.advance-answer.result (answers_told told) new)
-          c.next_group-next.ensures (subst (λ (l : List Served). PutsAhead now next c.advance-answer.result l new) (sym are) puts);
+          c.next_group-next.ensures
+          (subst (λ (l : List Served). PutsAhead now next c.advance-answer.result l new) (sym are) puts);
     }

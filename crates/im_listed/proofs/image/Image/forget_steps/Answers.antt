@@ -1,7 +1,6 @@
 use Rattle.std.proofs.Common.{refl, ap, ◌∙◌, inl}
 use Rattle.im_engine.specs.State.{EngineState}
-use Rattle.im_listed.proofs.OrderLemmas.{kept_first}
-use Rattle.im_listed.specs.Listing.{Listing}
+use Rattle.im_listed.{proofs.OrderLemmas.kept_first, specs.Listing.Listing}
 
 pub invariant_of-self : Rattle.im_listed.proofs.image.Image.forget_steps.Goals.invariant_of-self
 invariant_of-self c =

@@ -26,7 +26,11 @@ returns-clause-carried c = λ alive.
     let e = c.self.inside.engine in
     let on : e.failed ≡ false = c.self.invariant.works c.if-self.false in
     let here : s.failed ≡ false = ap (λ (t : EngineState Listing). t.failed) c.empty_list.ensures.emptied ∙ on in
-    let new : ImageState = record { engine = c.serve-answer.new.self; lost = c.tells_device-self-inside.result; asked = c.self.inside.asks } in
+    let new : ImageState = record {
+      engine = c.serve-answer.new.self;
+      lost = c.tells_device-self-inside.result;
+      asked = c.self.inside.asks;
+    } in
     let calm : new.lost ≡ false → tells_device c.serve-answer.result
     ≡ false = λ is. sym c.tells_device-self-inside.ensures ∙ is in
     carries_on c.args.self.now new

@@ -9,13 +9,16 @@ pub invariant_of-self : Rattle.im_listed.proofs.image.Image.serve_commands.Goals
 invariant_of-self c =
     let s = c.empty_list.new.self in
     let new = c.serve_commands.new.self in
+    let answers = c.serve_commands.new.served.items in
     let emptied = c.empty_list.ensures.emptied in
     let on : c.self.inside.engine.failed ≡ false = c.self.invariant.works c.if-self.false in
     let here : s.failed ≡ false = ap (λ (t : EngineState Listing). t.failed) emptied ∙ on in
     record {
       works = λ is. sym c.known-self-inside-2.ensures.failed ∙ is;
       first = kept_first c.self.inside.engine s new c.self.inside.asks emptied
-          (group_ahead s new (take (length c.serve_commands.new.served.items) c.args.members.now.items) c.serve_commands.new.served.items c.serve_commands.ensures.answered here) c.self.invariant.first;
+          (group_ahead s new (take (length answers) c.args.members.now.items) answers
+          c.serve_commands.ensures.answered here)
+          c.self.invariant.first;
     }
 
 pub returns-clause-served : Rattle.im_listed.proofs.image.Image.serve_commands.Goals.returns-clause-served
@@ -26,7 +29,11 @@ returns-clause-served c = λ alive.
     let here : s.failed ≡ false = ap (λ (t : EngineState Listing). t.failed) c.empty_list.ensures.emptied ∙ on in
     let emptied = c.empty_list.ensures.emptied in
     let same : s ≡ begun_in c.args.self.now = emptied ∙ ap (λ (i : ImageState). begun_in i) c.self.view_is in
-    let new : ImageState = record { engine = c.serve_commands.new.self; lost = c.known-self-inside-2.result; asked = c.self.inside.asks } in
+    let new : ImageState = record {
+      engine = c.serve_commands.new.self;
+      lost = c.known-self-inside-2.result;
+      asked = c.self.inside.asks;
+    } in
     let calm : new.lost ≡ false → new.engine.failed ≡ false = λ is. sym c.known-self-inside-2.ensures.failed ∙ is in
     let all = c.args.members.now.items in
     let answers = c.serve_commands.new.served.items in

@@ -1,5 +1,5 @@
 use Rattle.std.proofs.Common.{List, sym, subst}
-use Rattle.im_front.specs.declared.asked.AskedCommand.{AskedCommand}
+use Rattle.im_front.specs.declared.AskedCommand.{AskedCommand}
 use Rattle.im_listed.proofs.OrderLemmas.{AreFirst, first_of_more}
 
 pub invariant_of-self : Rattle.im_listed.proofs.image.Image.submit.Goals.invariant_of-self

@@ -1,6 +1,5 @@
 use Rattle.std.proofs.Common.{◌≡◌, List, [], ◌∷◌, ◌++◌, sym, ap, ◌∙◌, subst, rules}
-use Rattle.im_types.specs.Types.{Asks, Contents}
-use Rattle.im_asks.specs.Behind.{IsPlaceUpTo}
+use Rattle.{im_types.specs.Types.Asks, im_types.specs.Types.Contents, im_asks.specs.Behind.IsPlaceUpTo}
 use Rattle.im_front.specs.{declared.AskedCommand.AskedCommand, Lists.with_ticket}
 use Rattle.im_listed.proofs.OrderLemmas.{append_again, AreFirst, first_of_more, with_asked}
 use Rattle.im_listed.specs.{Asking.asked_too, Asking.confirmed_before, Image.ImageState}

@@ -14,7 +14,8 @@ invariant_of-self c =
     record {
       works = λ is. sym c.known-self-inside-2.ensures.failed ∙ is;
       first = kept_first c.self.inside.engine s new c.self.inside.asks emptied
-          (sweep_ahead s new c.args.most c.sweep-answer.result c.sweep-answer.ensures.answered here) c.self.invariant.first;
+          (sweep_ahead s new c.args.most c.sweep-answer.result c.sweep-answer.ensures.answered here)
+          c.self.invariant.first;
     }
 
 pub returns-clause-carried : Rattle.im_listed.proofs.image.Image.sweep.Goals.returns-clause-carried
@@ -23,7 +24,11 @@ returns-clause-carried c = λ alive.
     let e = c.self.inside.engine in
     let on : e.failed ≡ false = c.self.invariant.works c.if-self.false in
     let here : s.failed ≡ false = ap (λ (t : EngineState Listing). t.failed) c.empty_list.ensures.emptied ∙ on in
-    let new : ImageState = record { engine = c.sweep-answer.new.self; lost = c.known-self-inside-2.result; asked = c.self.inside.asks } in
+    let new : ImageState = record {
+      engine = c.sweep-answer.new.self;
+      lost = c.known-self-inside-2.result;
+      asked = c.self.inside.asks;
+    } in
     let calm : new.lost ≡ false → new.engine.failed ≡ false = λ is. sym c.known-self-inside-2.ensures.failed ∙ is in
     carries_on c.args.self.now new (λ (t : EngineState Listing) (file : List ℕ). MeansState t file) s
     (c.empty_list.ensures.emptied ∙ ap (λ (i : ImageState). begun_in i) c.self.view_is) (record {

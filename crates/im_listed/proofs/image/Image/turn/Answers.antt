@@ -23,7 +23,11 @@ returns-clause-carried c = λ alive.
     let e = c.self.inside.engine in
     let on : e.failed ≡ false = c.self.invariant.works c.if-self.false in
     let here : s.failed ≡ false = ap (λ (t : EngineState Listing). t.failed) c.empty_list.ensures.emptied ∙ on in
-    let new : ImageState = record { engine = c.turn-answer.new.self; lost = c.known-self-inside-2.result; asked = c.self.inside.asks } in
+    let new : ImageState = record {
+      engine = c.turn-answer.new.self;
+      lost = c.known-self-inside-2.result;
+      asked = c.self.inside.asks;
+    } in
     let calm : new.lost ≡ false → new.engine.failed ≡ false = λ is. sym c.known-self-inside-2.ensures.failed ∙ is in
     carries_on c.args.self.now new (λ (t : EngineState Listing) (file : List ℕ). MeansState t file) s
     (c.empty_list.ensures.emptied ∙ ap (λ (i : ImageState). begun_in i) c.self.view_is) (record {
