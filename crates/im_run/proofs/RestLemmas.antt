@@ -28,7 +28,7 @@ module _ {D : Type 0} (disk : Ghosts D) (script : List Wanted) (old mid : Script
       → FitsScript old.session.engine.memory script ⊎ (mid ≡ old) → (new : D) (is : Written)
       (calls : TraceState) (status : ℕ) → status ≡ 1 → new ≡ mid.session.engine.disk
       → ((start : Output) (text : List OutputLine) → Prints start mid.held mid.lines text
-      → (last : List OutputLine) × (IsLast last × SaysSome start is (text ++ last)))
+      → (last : List OutputLine) × IsLast last × SaysSome start is (text ++ last))
       → calls ≡ record { setup = []; served = []; recorded = true }
       → IsUnrun disk script old.session.start new (output_of old) is calls status
   unrun_by same kept breaks fit new is calls status one at_disk last none = ⊎_elim by_fit by_same fit
@@ -50,8 +50,8 @@ module _ {D : Type 0} (disk : Ghosts D) (script : List Wanted) (old mid : Script
         had_is = had_is;
         fit = fits;
         last = end.0;
-        last_is = end.1.0;
-        begins = end.1.1;
+        last_is = end.1;
+        begins = end.2;
         unserved = none;
       }
 

@@ -1,5 +1,5 @@
 use Rattle.std.proofs.Common.{Bool, List, sym, subst}
-use Rattle.{im_types.specs.Types.Contents, im_text.proofs.PrintingLemmas.on_ok_by}
+use Rattle.{im_types.specs.Types.Contents, im_text.proofs.PrintingLemmas.on_ok_by, im_text.specs.Said.Written}
 use Rattle.im_run.{proofs.RunningLemmas.closed_by, specs.declared.served.Did.Did, specs.Running.Closes}
 
 pub returns-clause-printed : Rattle.im_run.proofs.closing.close.Goals.returns-clause-printed
@@ -8,7 +8,7 @@ returns-clause-printed g c =
     let f = c.finish-status in
     let m = c.memory.result.now.contents in
     let was = g.W.Write.contents c.args.out.now in
-    let is = (g.W.Write.contents f.new.out, c.faulted.result) in
+    let is : Written = (g.W.Write.contents f.new.out, c.faulted.result) in
     let before = c.args.lines in
     let status = c.status_of.result in
     let did = c.as_slice.result.now in

@@ -9,7 +9,7 @@ returns-clause-last g c = λ start text it.
     let end = f.ensures.last start text (subst (λ (l : Lines). Prints start (g.W.Write.contents c.args.out.now) l text)
     (sym c.leave-session.ensures.lines) it) in
     let begins = prints_begins start (g.W.Write.contents f.new.out) f.new.lines (text ++ end.0) end.1.1 in
-    (end.0, (end.1.0, (begins.0, c.faulted.ensures ∙ begins.1)))
+    (end.0, end.1.0, (begins.0, c.faulted.ensures ∙ begins.1))
 
 pub returns-clause-kept : goal.returns-clause-kept
 returns-clause-kept g c = subst (λ (s : SessionState g.row.D.Denot). Kept g.D.Disk s) c.leave-session.ensures.session

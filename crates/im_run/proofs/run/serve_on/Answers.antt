@@ -1,5 +1,5 @@
 use Rattle.std.proofs.Common.{◌≡◌, map, IsOk, sym, ◌∙◌, subst, inr}
-use Rattle.{im_types.specs.Types.IsLegal, im_text.specs.declared.Lines.Lines}
+use Rattle.{im_types.specs.Types.IsLegal, im_text.specs.declared.Lines.Lines, im_text.specs.Said.Written}
 use Rattle.im_session.specs.Kept.{Kept, SessionState}
 use Rattle.im_run.proofs.{DoingLemmas.none_of_all, RunningLemmas.ended_weaker, RunningLemmas.kept_as}
 use Rattle.im_run.specs.{Orders.ask_of, Orders.asks_in, Running.Closes, Running.EndedOn, Running.ServersEnded}
@@ -52,7 +52,7 @@ returns-in-Err-clause-ended g c =
     let k = c.close-status-in-Err in
     let t = n.result.session in
     let was = g.W.Write.contents c.args.out.now in
-    let is = (g.W.Write.contents k.new.out, k.result.2) in
+    let is : Written = (g.W.Write.contents k.new.out, k.result.2) in
     let orders = map ask_of c.args.work.orders.items in
     let whole = asks_in c.args.work.whole in
     let trace = c.new.result.items in

@@ -1,5 +1,5 @@
 use Rattle.std.proofs.Common.{subst, inl, inr}
-use Rattle.im_text.specs.Said.{Output, output_by}
+use Rattle.im_text.specs.Said.{Output, output_by, Written}
 use Rattle.im_run.{proofs.RestLemmas.ends_honest, specs.Once.EndsWhen}
 use Rattle.im_run.proofs.script.run_script.Goals as goal
 
@@ -7,7 +7,7 @@ pub returns-in-Ok-clause-run : goal.returns-in-Ok-clause-run
 returns-in-Ok-clause-run g c =
     let r = c.run_opened in
     let start = c.in-Ok.server.session.start in
-    let is = (g.W.Write.contents r.new.out, r.result.3) in
+    let is : Written = (g.W.Write.contents r.new.out, r.result.3) in
     let was = output_by c.in-Ok.server.lines (g.W.Write.contents c.open_server.new.out) in
     let asked = c.args.asked in record {
       honest = λ honest. subst g.D.Disk.honest c.in-Ok.ensures.opened (ends_honest g.D.Disk asked.once asked.planned
