@@ -130,11 +130,7 @@ pub fn run_file<
         planned: running.planned,
     };
     let (status, disk, trace, faulted) = run_task(&context, disk, task, out, observer);
-    Ok((
-        strict_status(running.strict, faulted, status),
-        disk,
-        trace,
-    ))
+    Ok((strict_status(running.strict, faulted, status), disk, trace))
 }
 
 /// Runs a script with threads for its elements, and writes its trace if one is asked for: as objects of JSON if its

@@ -79,12 +79,7 @@ impl Earlier {
     }
 
     // Names the entry under a number, if there is one and it is of an earlier script.
-    fn name_kept<N: Observer<News>>(
-        &mut self,
-        memory: &Memory,
-        who: (u16, u64),
-        observer: &mut N,
-    )
+    fn name_kept<N: Observer<News>>(&mut self, memory: &Memory, who: (u16, u64), observer: &mut N)
         ensures named { AreNamed memory.now.contents (left_of self.old.last.items who.0) who.0 who.1 (who.1 + 1)
             self.new.named }
         ensures kept { (w : Waited) → IsNamed self.old.named w → IsNamed self.new.named w }

@@ -116,11 +116,7 @@ fn serve_on<D: Disk, W: Write, N: Observer<News>>(
     let status = finish(both(served, told), &mut lines, out, observer);
     // If the disk failed, a refusal was printed: the status is 1 already.
     let failed = session.engine().failed();
-    (
-        status_at(failed, status),
-        session.close(),
-        lines.faulted(),
-    )
+    (status_at(failed, status), session.close(), lines.faulted())
 }
 
 /// Serves what the image of a disk doesn't have of a script, and gives the disk back: the n-th request of an element in
@@ -220,11 +216,7 @@ fn serve_once_on<D: Disk, W: Write, N: Observer<News>>(
     let status = finish(both(served, told), &mut lines, out, observer);
     // If the disk failed, a refusal was printed: the status is 1 already.
     let failed = session.engine().failed();
-    (
-        status_at(failed, status),
-        session.close(),
-        lines.faulted(),
-    )
+    (status_at(failed, status), session.close(), lines.faulted())
 }
 
 /// Returns the first refusal, if there is one: that of what was served, or that of telling it.

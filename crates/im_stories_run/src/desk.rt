@@ -12,7 +12,7 @@ use im_serial::StyledScript;
 use im_serving::{EarlierAnswer, Gate, Host, Open};
 use im_story::{Printout, Saying};
 use im_story_disk::StoryFile;
-use im_text::{News, Reason, Style, Waited, strict_status};
+use im_text::{News, Reason, Style, strict_status};
 use im_types::{Entry, Limits, Observer, Refusal};
 use std::alloc::Global;
 use std::sync::Mutex;
@@ -67,14 +67,7 @@ impl Observer<News> for Noted {
     fn tell(&mut self, news: News) {
         match news {
             News::Refused(reason) => self.refused = Some(reason),
-            News::Answered(waited) => {
-                let Waited {
-                    element,
-                    number,
-                    entry,
-                } = waited;
-                self.note("at the end", (element, number), entry)
-            }
+            News::Answered(it) => self.note("at the end", (it.element, it.number), it.entry),
             News::Confirmed(it) => {
                 self.note("before it is confirmed", (it.element, it.number), it.entry)
             }
@@ -191,7 +184,13 @@ impl<'a> RunDesk<'a> {
         let (out, noted) = (&mut self.out, &mut self.noted);
         let context = RunContext::new(rt, alloc, gate, hearing, how.recorded);
         let script = &script;
-        let (status, disk, trace, faulted) = run_as(&context, disk, Task { script, how }, out, noted);
+        let (status, disk, trace, faulted) = run_as(
+            &context,
+            disk,
+            Task { script, how },
+            out,
+            noted,
+        );
         self.noted.note_told(heard.lock(rt).as_slice());
         self.place.lay_down(disk);
         self.print_trace(how.recorded, &trace);
@@ -277,7 +276,11 @@ impl<'a> RunDesk<'a> {
         match call {
             "#" => writeln!(self.said, "{line}"),
             "new" | "old" => self.lay(call == "old"),
-            "run" | "strict" | "plan" | "trace" | "once" | "once-plan" => self.run(rt, How::of(call), words),
+            "run" | "strict" | "plan" | "trace" | "once" | "once-plan" => self.run(
+                rt,
+                How::of(call),
+                words,
+            ),
             "fault" => self.run_failing(rt, words),
             "owed" | "once-owed" | "owed-plan" => self.run_owed(rt, How::of(call), words),
             "again" | "again-plan" => run_again(rt, self, How::of(call), words),
