@@ -13,10 +13,9 @@ use Rattle.im_session.specs.Kept.{IsFresh, Kept as SessionKept, session_of, Sess
 use Rattle.im_script.specs.{declared.Said.Said, Script.Draft, Script.lines_of}
 use Rattle.im_text.proofs.{PrintingLemmas.true_false, WindowLemmas.bounds_found}
 use Rattle.im_text.proofs.SaidLemmas.{prints_after, prints_all, prints_begins, prints_none}
-use Rattle.im_text.specs.declared.{Lines.Lines, OutputLine.OutputLine, Waited.Waited}
+use Rattle.im_text.specs.declared.{Lines.Lines, OutputLine.OutputLine, Style.Style, Waited.Waited}
 use Rattle.im_text.specs.Said.{IsLast, nows, Output, output_from, Prints, PrintsMore, PrintsNows, PrintsOn, replies}
 use Rattle.im_text.specs.Said.{SaysSome, SaysWhole, waits, waits_if, who_of, Written}
-use Rattle.im_text.specs.declared.Style.{Style}
 use Rattle.im_serial.proofs.{AskedLemmas.wanted_line, KeepsLemmas.went_on, LeftLemmas.had_at, LeftLemmas.has_some}
 use Rattle.im_serial.proofs.{LeftLemmas.met_here, LeftLemmas.met_less, NotedLemmas.apart, NotedLemmas.last_or_before}
 use Rattle.im_serial.proofs.{ScriptedLemmas.going_from, ScriptedLemmas.leads_here, ScriptedLemmas.over_here}

@@ -12,7 +12,7 @@ use im_serial::StyledScript;
 use im_serving::{EarlierAnswer, Gate, Host, Open};
 use im_story::{Printout, Saying};
 use im_story_disk::StoryFile;
-use im_text::{News, Reason, Style, Waited, strict_status};
+use im_text::{News, Reason, Style, strict_status};
 use im_types::{Entry, Limits, Observer, Refusal};
 use std::alloc::Global;
 use std::sync::Mutex;
@@ -67,14 +67,7 @@ impl Observer<News> for Noted {
     fn tell(&mut self, news: News) {
         match news {
             News::Refused(reason) => self.refused = Some(reason),
-            News::Answered(waited) => {
-                let Waited {
-                    element,
-                    number,
-                    entry,
-                } = waited;
-                self.note("at the end", (element, number), entry)
-            }
+            News::Answered(it) => self.note("at the end", (it.element, it.number), it.entry),
             News::Confirmed(it) => {
                 self.note("before it is confirmed", (it.element, it.number), it.entry)
             }

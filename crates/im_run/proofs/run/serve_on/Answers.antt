@@ -1,6 +1,6 @@
 use Rattle.std.proofs.Common.{◌≡◌, map, IsOk, sym, ◌∙◌, subst, inr}
-use Rattle.{im_types.specs.Types.IsLegal, im_text.specs.declared.Lines.Lines, im_text.specs.Said.Written}
-use Rattle.im_session.specs.Kept.{Kept, SessionState}
+use Rattle.{im_types.specs.Types.IsLegal, im_session.specs.Kept.Kept, im_session.specs.Kept.SessionState}
+use Rattle.im_text.specs.{declared.Lines.Lines, Said.Written}
 use Rattle.im_run.proofs.{DoingLemmas.none_of_all, RunningLemmas.ended_weaker, RunningLemmas.kept_as}
 use Rattle.im_run.specs.{Orders.ask_of, Orders.asks_in, Running.Closes, Running.EndedOn, Running.ServersEnded}
 use Rattle.im_run.specs.Planned.{FitsIfNew, plan_of, planned_orders}

@@ -1,8 +1,7 @@
 use Rattle.std.proofs.Common.{ℕ, Bool, ◌||◌, List, ◌++◌, refl, ap, ◌∙◌}
 use Rattle.im_text.{proofs.SaidLemmas.prints_more, specs.Said.said_in}
-use Rattle.im_text.proofs.lines.Lines.push.Goals as goal
 
-pub returns-in-Ok-push : goal.returns-in-Ok-push
+pub returns-in-Ok-push : Rattle.im_text.proofs.lines.Lines.push.Goals.returns-in-Ok-push
 returns-in-Ok-push g c =
     let said = said_in c.args.self.now.style c.args.line in record {
       more = prints_more _ _ _ _ c.args.line c.as_str.result.now refl
