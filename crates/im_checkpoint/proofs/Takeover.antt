@@ -27,9 +27,6 @@ module _ (h : Header) (x : Paged) (m : Contents) (j : JournalState) (file : List
   next = next_header h count
 
   -- where the other header stands
-  abbrev place : ℕ
-  place = 4096 * other h
-
   place_low : 4096 * other h + 64 ≤ 8192
   place_low = place_to h.area
 

@@ -102,9 +102,6 @@ pub left_settled : (m : Moment) (c : List ℕ) → m.ranges ≡ [] → Left m c 
 left_settled m c none left = ext_get_or 0 c m.bytes left.size
     (λ i lt. left.same i (subst (λ (r : List (ℕ × ℕ)). Outside r i) (sym none) tt))
 
-pub leaves_now_settled : (m : Moment) (P : List ℕ → Type 0) → m.ranges ≡ [] → P m.bytes → LeavesNow m P
-leaves_now_settled m P none has c left = subst P (sym (left_settled m c none left)) has
-
 -- a sync, failed or not, leaves no file that couldn't be left before it
 pub left_shaken : (m m' : Moment) → Shaken m m' → (c : List ℕ) → Left m' c → Left m c
 left_shaken m m' shaken c left = ⊎_elim
@@ -122,20 +119,6 @@ pub left_sync : (m m' : Moment) (past past' : List Moment) → MayTick Shaken m 
     → Left m' c → Left m c
 left_sync m m' past past' (inl same) c left = subst (λ (x : Moment). Left x c) same.0 left
 left_sync m m' past past' (inr tick) c left = left_shaken m m' tick.now c left
-
-pub reads_start : (m : Moment) (past : List Moment) → ReadsOnly m m past past
-reads_start m past = record { now = refl; leaves = leaves_start m past (Left m) }
-
-pub reads_step : (old mid new : Moment) (past past_mid past_new : List Moment) → ReadsOnly old mid past past_mid
-    → MayTick (λ m n. n ≡ m) mid new past_mid past_new → ReadsOnly old new past past_new
-reads_step old mid new past past_mid past_new so_far tick =
-    let stays : new ≡ mid = ⊎_elim (λ same. same.0) (λ ticked. ticked.now) tick in
-    let is : new ≡ old = stays ∙ so_far.now in
-    record {
-      now = is;
-      leaves = leaves_step old mid new past past_mid past_new (Left old)
-          (λ m n. n ≡ m) so_far.leaves tick (λ c left. subst (λ (x : Moment). Left x c) is left);
-    }
 
 pub reads_then : (old mid new : Moment) (past past_mid past_new : List Moment) → ReadsOnly old mid past past_mid
     → ReadsOnly mid new past_mid past_new → ReadsOnly old new past past_new
@@ -187,10 +170,3 @@ leaves_now old new past past_new P leaves c left = ⊎_elim (λ earlier. inl (on
 -- after a sync that succeeded, what its one file has
 pub leaves_now_synced : (m m' : Moment) (P : List ℕ → Type 0) → m' ≡ synced m → P m.bytes → LeavesNow m' P
 leaves_now_synced m m' P is has c left = subst P (sym (left_synced m c (subst (λ (x : Moment). Left x c) is left))) has
-
--- files that agree but for a range agree in front of it
-pub same_before : (at n k : ℕ) (c d : List ℕ) → SameBut at n c d → k ≤ at → take k d ≡ take k c
-same_before at n k c d but le = ext_get_or 0 (take k d) (take k c)
-    (omega (arith, length-take k d, length-take k c, but.size))
-    (λ i lt. let low : i < k = omega (arith, length-take k d) in get_or-take k d i 0 low
-    ∙ but.same i (inl (omega arith)) ∙ sym (get_or-take k c i 0 low))

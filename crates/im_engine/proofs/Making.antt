@@ -1,15 +1,14 @@
 -- A new image means the empty memory.
-use Rattle.std.proofs.Common.{◌≡◌, ℕ, ◌+◌, ◌-◌, ◌*◌, ◌<◌, ◌≤◌, Bool, true, false, List, [], ◌∷◌, ◌++◌, length, drop}
-use Rattle.std.proofs.Common.{replicate, Some, None, Option, sym, refl, ap, ◌∙◌, subst, append-nil, arith}
-use Rattle.std.proofs.Common.{length-append}
-use Rattle.std.proofs.lemmas.List.{drop_all, get_or-append_right, get_or-replicate, length-replicate, nil_from_length}
+use Rattle.std.proofs.Common.{◌≡◌, ℕ, ◌+◌, ◌-◌, ◌*◌, ◌<◌, ◌≤◌, Bool, true, false, List, [], ◌∷◌, ◌++◌, length}
+use Rattle.std.proofs.Common.{replicate, Some, None, Option, sym, refl, ap, ◌∙◌, subst, arith, length-append}
+use Rattle.std.proofs.lemmas.List.{get_or-append_right, get_or-replicate, length-replicate, nil_from_length}
 use Rattle.im_types.specs.Types.{Command, Limits, AreLimits, Contents, new_window, empty_contents, layout_in_use, Sizes}
 use Rattle.im_types.specs.Types.{sizes_of, page_bytes, area_pages, area_bytes, image_length, ring_of, area_of}
 use Rattle.im_types.specs.Types.{record_at, zeros, Header, header_body, header_fault, Tail, tail, Records, Shows}
 use Rattle.im_types.specs.Types.{IsShown}
 use Rattle.im_laws.proofs.{MemoryLemmas.empty-memory, Tests.or_left, Tests.or_right, Tests.true_false}
-use Rattle.{im_pages.specs.PageSets.has, im_journal.proofs.Laws.closed_zeros, im_image.proofs.AreaPages.page_of_area}
-use Rattle.im_disk.specs.Moment.{Moment, overlaid, synced, written}
+use Rattle.{im_pages.specs.PageSets.has, im_disk.specs.Moment.Moment, im_image.proofs.AreaPages.page_of_area}
+use Rattle.im_journal.proofs.Laws.{closed_zeros}
 use Rattle.im_journal.specs.Holding.{AreClosed, Holds, JournalState, ring_under}
 use Rattle.im_meaning.{proofs.Headers.in_force, specs.Images.InForce}
 use Rattle.im_memory.specs.State.{empty_records, MemoryState}
@@ -20,15 +19,6 @@ use Rattle.im_checkpoint.{proofs.Moments.kept_calm, specs.Turns.IsIdle}
 use Rattle.im_checkpoint.specs.Keeping.{Fits, IsKept, IsResting, Keeps, own_page, Paged, paged}
 use Rattle.im_checkpoint.specs.Step.{changed_in, CheckpointState, NoCheckpoint, PagedCheckpoint}
 use Rattle.im_engine.specs.State.{journal_of, pages_at_first}
-
--- the bytes once the gate of a whole image was opened
-pub gate_opened : (image : List ℕ) (m0 m1 m2 m3 : Moment) → length image ≡ length m0.bytes → m1 ≡ written 0 image m0
-    → m2 ≡ synced m1 → m3 ≡ written 0 (0xA5 ∷ []) m2 → m3.bytes ≡ 0xA5 ∷ drop 1 image
-gate_opened image m0 m1 m2 m3 size e1 e2 e3 =
-    let whole : overlaid m0.bytes 0 image ≡ image =
-    ap (λ (l : List ℕ). image ++ l) (drop_all (0 + length image) m0.bytes (omega arith)) ∙ append-nil image in
-    let bytes : m2.bytes ≡ image = ap (λ (m : Moment). m.bytes) e2 ∙ ap (λ (m : Moment). m.bytes) e1 ∙ whole in
-    ap (λ (m : Moment). m.bytes) e3 ∙ ap (λ (l : List ℕ). 0xA5 ∷ drop 1 l) bytes
 
 -- the pages of a checkpoint as it is made
 pub first_pages : (c : PagedCheckpoint) (h : Header) (formatted : Bool) → IsIdle h formatted c

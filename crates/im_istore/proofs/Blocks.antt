@@ -140,12 +140,3 @@ pub Agree-release : (answer : Bool) (slots new : List (Option Slot)) (arena : Sh
 Agree-release true slots new arena base done released same agree = subst (λ s. Agree s arena) (sym (released refl))
     (Agree-released slots arena base (sym done) agree)
 Agree-release false slots new arena base done released same agree = subst (λ s. Agree s arena) (sym (same refl)) agree
-
--- a call that resets a block, or doesn't
-pub Agree-reset : (answer : Bool) (slots new : List (Option Slot)) (arena : Shown) (base : ℕ) → answer
-    ≡ is_releasable slots base
-    → (IsTrue answer → new ≡ change_each (with_cell Empty) slots base (length_at slots base))
-    → (answer ≡ false → new ≡ slots) → Agree slots arena → Agree new arena
-Agree-reset true slots new arena base done emptied same agree = subst (λ s. Agree s arena) (sym (emptied refl))
-    (Agree-emptied slots arena base (sym done) agree)
-Agree-reset false slots new arena base done emptied same agree = subst (λ s. Agree s arena) (sym (same refl)) agree

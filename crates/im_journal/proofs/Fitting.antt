@@ -9,14 +9,6 @@ use Rattle.im_journal.proofs.{Groups.none_there, Rings.other_number}
 use Rattle.im_journal.specs.Holding.{FitAhead, Holds, IsFullBy, IsFullFor, IsJournal, JournalState, longer, room_after}
 use Rattle.im_journal.specs.Holding.{slots_ahead, to_sweep, with_ahead, with_room}
 
--- nothing is ahead
-pub fit_none : (count room : ℕ) (commands : List Command) → commands ≡ [] → count ≤ LAST → FitAhead count room commands
-fit_none count room commands none low = record {
-  few = omega (arith, ap length none);
-  room = omega (arith, ap length none);
-  last = omega (arith, ap length none, low);
-}
-
 -- what is ahead fits where there is more room
 pub fit_more : (count room more : ℕ) (commands : List Command) → room ≤ more → FitAhead count room commands
     → FitAhead count more commands

@@ -1,7 +1,6 @@
 pub mod Tests
 pub mod OpLemmas
 pub mod PlaceLemmas
-pub mod FillLemmas
 pub mod WindowLemmas
 pub mod AgreementLemmas
 pub mod BlockLemmas
@@ -22,7 +21,6 @@ pub mod ResumeLemmas
 pub mod AllocateLemmas
 pub mod CellLemmas
 pub mod RefusalLemmas
-pub mod RefusedSteps
 pub mod WaitingCounts
 pub mod Instances
 mod Counterexamples

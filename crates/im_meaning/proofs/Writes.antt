@@ -3,9 +3,9 @@ use Rattle.std.proofs.Common.{◌≡◌, ℕ, zero, suc, ◌+◌, ◌-◌, ◌*�
 use Rattle.std.proofs.Common.{drop, ◌==◌, slice_index, slice_range, Some, sym, refl, ap, ◌∙◌, subst, inl, inr, ⊎_elim}
 use Rattle.std.proofs.Common.{arith, length-drop, length-take, get_or-drop, take_all, get_or-take, ext_get_or}
 use Rattle.byteorder.specs.Endian.{little_number}
-use Rattle.im_types.specs.Types.{Command, Contents, Layout, Sizes, area_bytes, area_at, journal_at, image_length}
-use Rattle.im_types.specs.Types.{ring_of, area_of, open_gate, Header, header_body, header_in, spells_header}
-use Rattle.im_types.specs.Types.{header_place, is_open_header, generation_in, tail, Shows}
+use Rattle.im_types.specs.Types.{Command, Contents, Layout, Sizes, area_bytes, area_at, image_length, ring_of, area_of}
+use Rattle.im_types.specs.Types.{open_gate, Header, header_body, header_in, spells_header, header_place, is_open_header}
+use Rattle.im_types.specs.Types.{generation_in, tail, Shows}
 use Rattle.im_formats.proofs.Headers.{header_in-spelled, spells_header-spelled}
 use Rattle.{im_disk.specs.Since.SameBut, im_journal.proofs.Tails.tail_elsewhere}
 use Rattle.im_meaning.specs.Images.{Follows, InForce, IsBelow, IsImage, IsPrepared, other}
@@ -65,11 +65,6 @@ inside_areas bytes zero le at n to = omega (arith, to)
 inside_areas bytes (suc zero) le at n to = omega (arith, to)
 inside_areas bytes (suc (suc k)) le at n to = absurd (omega (arith, le))
 
-before_journal : (bytes area : ℕ) → area ≤ 1 → (at : ℕ) → 8192 + bytes * 2 ≤ at → 8192 + bytes * area + bytes ≤ at
-before_journal bytes zero le at far = omega (arith, far)
-before_journal bytes (suc zero) le at far = omega (arith, far)
-before_journal bytes (suc (suc k)) le at far = absurd (omega (arith, le))
-
 high : (k n : ℕ) → 4096 * k + 64 ≤ 8192 → 8192 ≤ n → 4096 * k + 64 ≤ n
 high k n le from = omega (arith, le, from)
 
@@ -101,21 +96,6 @@ module _ (l : Layout) (h : Header) (shown : Contents) (commands : List Command) 
       (apart_areas (area_bytes l h.sizes) h.area it.in_force.number at n from to))
       (tail_elsewhere (ring_of l h.sizes) h.count at n c d some
       (inl (inside_areas (area_bytes l h.sizes) h.area it.in_force.number at n to)) but)
-
-  -- what is written in the journal changes the journal alone
-  pub write_in_journal : journal_at l h.sizes ≤ at → (later : List Command) (there : ℕ)
-      → tail (ring_of l h.sizes) h.count d ≡ Some (record { commands = later; room = there })
-      → IsImage l h shown later there d
-  write_in_journal far later there journal =
-      let same : area_of l h.sizes h.area d
-      ≡ area_of l h.sizes h.area c = slice_outside at n (area_at l h.sizes h.area)
-      (area_at l h.sizes h.area + area_bytes l h.sizes) c d but
-      (inl (before_journal (area_bytes l h.sizes) h.area it.in_force.number at far)) in
-      record {
-        in_force = headers_stay (omega (arith, far));
-        shows = subst (λ (bytes : List ℕ). Shows l h.sizes bytes shown) (sym same) it.shows;
-        journal = journal;
-      }
 
 -- the bytes of a header place, by those of the file
 inside_place : (p a b : ℕ) (c d : List ℕ) → length d ≡ length c → b ≤ 64

@@ -21,7 +21,7 @@ use Rattle.im_session.specs.declared.events.Answer.TheVariants.{Turned as TookTu
 use Rattle.im_session.specs.declared.events.Event.TheVariants.{Ahead, Command as Serve, Group as Together, Sweep, Turn}
 use Rattle.im_session.specs.Events.{acknowledged, acknowledged_by, after_event, after_events, AnsweredInTurn}
 use Rattle.im_session.specs.Events.{EventAnswered, has_fault, in_doubt, in_doubt_by, is_fault, MeansEvents}
-use Rattle.im_session.specs.{Keeping.LeavesWhole, Put.doubted_of, Put.sure_of, Serving.Rests, Serving.served_together}
+use Rattle.im_session.specs.{Keeping.LeavesWhole, Put.doubted_of, Put.sure_of, Serving.served_together}
 use Rattle.im_session.specs.Kept.{Kept, MeansPut, session_of, SessionState}
 
 -- what holds of each event that can be answered so
@@ -158,11 +158,6 @@ in_turn_fails old new (e ∷ events) (a ∷ answers) (mid, one, rest) =
     (in_turn_fails mid new events answers rest)
 
 -- ---- what a session comes to by one event
-
-pub rests_event : {D : Type 0} (old new : SessionState D) → Rests old new
-    → new ≡ session_of old.start (old.put ++ []) (old.doubt ++ []) new.engine
-rests_event old new it = it.same ∙ ap₂ (λ (put doubt : List Command). session_of old.start put doubt new.engine)
-    (sym (append-nil old.put)) (sym (append-nil old.doubt))
 
 module _ {D : Type 0} (old new : SessionState D) (rs : List Request) (cs : List Command) (served : ArrayVec Served)
     (room : ℕ) (is : cs ≡ map Asks rs) (counted : IsCounted (reached_in old.engine)) (same : room ≡ old.engine.room)
