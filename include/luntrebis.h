@@ -319,8 +319,9 @@ uint8_t lt_front_submit(struct lt_image image, uint64_t ticket, const struct lt_
 /* Asks for a request under its element's next number, behind all that is asked. The number is written at `command`. If 64
  * entries are kept then, a confirmation is asked before it, with the ticket 0: up to the first entry that isn't answered
  * yet, and at most up to the number `most`. Returns 0, LT_UNSERVED as lt_front_submit, or the refusal: LT_WINDOW_FULL if
- * there is nothing to confirm, LT_NO_ELEMENT, LT_DEVICE, or LT_NO_CALL. Then nothing is asked.
- * It is for an element of which all requests come this way. */
+ * there is nothing to confirm, LT_NO_ELEMENT, LT_DEVICE, or LT_NO_CALL. Then nothing is asked. It is for an element of
+ * which all requests come this way. The number is the next one then, unless a command asked before is told
+ * LT_NOT_ANSWERED or LT_JOURNAL_FULL: behind such a one the request may be refused. */
 uint8_t lt_front_next(struct lt_image image, uint64_t ticket, struct lt_command *command, uint64_t most,
                       struct lt_image *next);
 
@@ -330,8 +331,8 @@ uint8_t lt_front_next(struct lt_image image, uint64_t ticket, struct lt_command 
  *
  * The next ones are the first of those behind: as many as there is room for, up to a confirmation if it isn't known,
  * before those that were ahead act, whether each entry that it would drop is answered. If nothing is ahead, at least one
- * is put. If nothing is ahead and there is no room, the first that is asked is told LT_JOURNAL_FULL. If the steps
- * couldn't be listed, each that is told has LT_DEVICE.
+ * is put. If nothing is ahead and there is no room, the first that is asked is told alone: LT_JOURNAL_FULL if it
+ * would change the memory, and else as before. If the steps couldn't be listed, each that is told has LT_DEVICE.
  *
  * Returns the refusal of `done`: 0, LT_DEVICE, or LT_NO_CALL if `places` isn't 16. */
 uint8_t lt_front_advance(struct lt_image image, struct lt_image *next, struct lt_advanced *done, struct lt_told *told,

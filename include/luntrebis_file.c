@@ -23,6 +23,8 @@ struct ltf {
     char *note; /* the path of the note of a failed sync */
     uint8_t *bytes; /* of writes that touch */
     size_t room;
+    void (*tell)(void *given, int begins); /* called before and after each sync */
+    void *given;
     struct lt_waiter *woken, *waited; /* whom the last call resumed; who waited at the cells of a group before it */
     size_t woken_count, woken_room;
 };
@@ -127,6 +129,24 @@ static int has_length(const struct ltf *file) {
     return seen.st_size == file->length;
 }
 
+/* For luntrebis_shared.c alone. What the function asks of the file's front leaves the steps as they are. */
+void ltf_tell_of_syncs(struct ltf *file, void (*tell)(void *given, int begins), void *given);
+void ltf_tell_of_syncs(struct ltf *file, void (*tell)(void *given, int begins), void *given) {
+    file->tell = tell;
+    file->given = given;
+}
+
+static void sync_file(struct ltf *file) {
+    int answer, error;
+    if (file->tell) file->tell(file->given, 1);
+    answer = fdatasync(file->file);
+    error = errno;
+    if (file->tell) file->tell(file->given, 0);
+    errno = error;
+    file->work.syncs++;
+    if (answer < 0) lose(file, 1);
+}
+
 /* Carries out all steps of the last call, in their order. One look at the length is for all its writes. Returns 0 or
  * LT_DEVICE. */
 static int carry_out(struct ltf *file) {
@@ -134,8 +154,7 @@ static int carry_out(struct ltf *file) {
     if (count > 0 && !lost(file) && !has_length(file)) lose(file, 0);
     for (size_t index = 0; index < count && !lost(file);) {
         if (lt_step_at(&file->image, index).kind == LT_SYNC) {
-            file->work.syncs++;
-            if (fdatasync(file->file) < 0) lose(file, 1);
+            sync_file(file);
             index++;
         } else {
             index = carry_out_writes(file, index);

@@ -1,7 +1,9 @@
 -- Where an element's next request stands behind commands that are asked and haven't acted yet. (Own.)
-use Rattle.std.specs.Prelude.{◌≡◌, ℕ, ◌+◌, ◌-◌, ◌<◌, ◌≤◌, min, max, Bool, ◌&&◌, List, [], ◌∷◌, if◌then◌else◌, nat_lt}
-use Rattle.std.specs.Prelude.{◌==◌}
-use Rattle.im_types.specs.Types.{Request, Command, Asks, Confirm as Confirms, WINDOW, LAST, Contents}
+use Rattle.std.specs.Prelude.{◌≡◌, ℕ, ◌+◌, ◌-◌, ◌<◌, ◌≤◌, min, max, Bool, ◌&&◌, ◌≢◌, List, [], ◌∷◌, if◌then◌else◌}
+use Rattle.std.specs.Prelude.{nat_lt, ◌==◌, Ok, Err, Result}
+use Rattle.im_types.specs.Types.{Request, Command, Outcome, Asks, Confirm as Confirms, Refusal, NotAnswered}
+use Rattle.im_types.specs.Types.{JournalFull, WINDOW, LAST, Contents, bounds}
+use Rattle.im_groups.specs.Commands.{contents_after_all}
 use Rattle.im_asks.specs.declared.window_place.WindowPlace.TheVariants.{Confirm, Full, Next}
 use Rattle.im_asks.specs.{declared.window_place.WindowPlace.WindowPlace, Windows.AreAnsweredUpTo}
 
@@ -20,6 +22,24 @@ bounds_asked element (Confirms other upto) b =
 abbrev pub bounds_asked_all : ℕ → List Command → ℕ × ℕ → ℕ × ℕ
 bounds_asked_all element [] b = b
 bounds_asked_all element (command ∷ commands) b = bounds_asked_all element commands (bounds_asked element command b)
+
+-- the same for a window that may not exist
+abbrev pub bounds_reckoned : ℕ → List Command → Result (ℕ × ℕ) Refusal → Result (ℕ × ℕ) Refusal
+bounds_reckoned element commands (Ok b) = Ok (bounds_asked_all element commands b)
+bounds_reckoned element commands (Err refusal) = Err refusal
+
+-- None of these answers refuses what is reckoned with: the confirmation of an entry that waits, or a command for which
+-- there is no place in the journal.
+abbrev pub NoneIsMissed : List (Result Outcome Refusal) → Type 0
+NoneIsMissed [] = Unit {0}
+NoneIsMissed (answer ∷ answers) =
+    ((answer ≢ Err NotAnswered) × (answer ≢ Err JournalFull)) × NoneIsMissed answers
+
+-- once these commands have acted with so many places, the window stands where it was reckoned to stand
+abbrev pub StandsAsReckoned : Contents → ℕ → ℕ → List Command → Type 0
+StandsAsReckoned m left element commands =
+    bounds (contents_after_all m left commands).windows element
+    ≡ bounds_reckoned element commands (bounds m.windows element)
 
 -- the entries of a window that may be confirmed, if those from a number on are kept
 abbrev pub up_to : ℕ → ℕ × ℕ → ℕ × ℕ

@@ -1,6 +1,7 @@
 //! Where an element's next request stands behind commands that are asked and haven't acted yet.
-ghost use Rattle.std.specs.Prelude.{◌≡◌};
-ghost use Rattle.im_asks.specs.Behind.{bounds_asked, IsPlaceUpTo, takes_next};
+ghost use Rattle.std.specs.Prelude.{◌≡◌, ℕ, List};
+ghost use Rattle.{im_types.specs.Types.Command, im_types.specs.Types.Contents, im_groups.specs.Commands.answers_with};
+ghost use Rattle.im_asks.specs.Behind.{bounds_asked, IsPlaceUpTo, NoneIsMissed, StandsAsReckoned, takes_next};
 
 use crate::places::first_unanswered;
 use crate::window_place::WindowPlace;
@@ -62,3 +63,13 @@ pub fn place_up_to(memory: &Memory, element: u16, bounds: (u64, u64), most: u64)
         upto,
     }
 }
+
+/// An element's window stands, once what is asked has acted, where it was reckoned to stand: its bounds are those of
+/// [`bounds_asked`], one command after another.
+///
+/// Two answers are the exceptions: `NotAnswered` to a confirmation, and `JournalFull`. It holds if no command is
+/// answered so, with any number of places in the journal.
+pub fn windows_stand_as_reckoned()
+    ensures range { (m : Contents) (left element : ℕ) (commands : List Command)
+        → NoneIsMissed (answers_with m left commands) → StandsAsReckoned m left element commands }
+{}

@@ -5,6 +5,6 @@ mod behind;
 mod places;
 mod window_place;
 
-pub use behind::{bounds_asked, place_up_to};
+pub use behind::{bounds_asked, place_up_to, windows_stand_as_reckoned};
 pub use places::next_place;
 pub use window_place::WindowPlace;

@@ -4,7 +4,7 @@ use Rattle.std.specs.Prelude.{nat_lt, slice_get, Some, None, Ok, Err, Option, Re
 use Rattle.im_types.specs.Types.{Op, Command, Asks, Confirm, Refusal, Device, number_of, MAX_GROUP, address_of, op_code}
 use Rattle.im_types.specs.Types.{op_value, op_of}
 use Rattle.im_front.specs.{declared.AskedCommand.AskedCommand, declared.ToldAnswer.ToldAnswer, Lists.with_ticket}
-use Rattle.im_listed.specs.Asking.{asked_too, AsksNext, GoesOn, has_no_room, IsNotNext, many_behind, RefusesFirst}
+use Rattle.im_listed.specs.Asking.{AnswersFirst, asked_too, AsksNext, GoesOn, has_no_room, IsNotNext, many_behind}
 use Rattle.im_listed.specs.Image.{ImageState}
 use Rattle.im_c.specs.declared.asked.{LtAdvanced.LtAdvanced, LtAsked.LtAsked, LtTold.LtTold}
 use Rattle.im_c.specs.{declared.plain.LtCommand.LtCommand, Group.outcome_served, Image.idle_after, Plain.meant}
@@ -78,10 +78,10 @@ abbrev pub advanced_by : Result ℕ Refusal → ℕ → LtAdvanced
 advanced_by (Ok many) answered = advanced 0 many answered
 advanced_by (Err refusal) answered = advanced (number_of refusal) 0 answered
 
--- the chain goes on, or if there is no room and nothing is ahead, the first that is asked is refused
+-- the chain goes on, or if nothing is ahead and there is no place, the first that is asked is answered alone
 pub record GoesOnBy (old : ImageState) (result : Result ℕ Refusal) (told : List ToldAnswer)
     (new : ImageState) : Type 0 where
-  pub full : has_no_room old ≡ true → (result ≡ Ok 0) × RefusesFirst old told new
+  pub full : has_no_room old ≡ true → (result ≡ Ok 0) × AnswersFirst old told new
   pub going : has_no_room old ≡ false → GoesOn old result told new
 
 -- what was done, who is told, and what the caller's file holds on the way

@@ -42,7 +42,7 @@ fn advanced_by(ahead: Result<usize, Refusal>, answered: usize) -> LtAdvanced
     }
 }
 
-// Goes on with the chain, or refuses the first that is asked if nothing is ahead and there is no room.
+// Goes on with the chain, or answers the first that is asked alone if nothing is ahead and there is no place.
 fn go_on(image: &mut Image, told: &mut ArrayVec<ToldAnswer, MAX_GROUP>) -> Result<usize, Refusal>
     requires empty { told.old.items ≡ [] }
     requires works { image.old.lost ≡ false }
@@ -51,7 +51,7 @@ fn go_on(image: &mut Image, told: &mut ArrayVec<ToldAnswer, MAX_GROUP>) -> Resul
     ensures within { IfOk result (λ many. many ≤ MAX_GROUP) }
 {
     if image.has_no_room() {
-        image.refuse_first(told);
+        image.answer_first(told);
         return Ok(0);
     }
     image.advance(told)
@@ -82,8 +82,9 @@ fn advance(image: &mut Image, places: &mut [LtTold]) -> LtAdvanced
 /// entry that it would drop is answered. A call that serves commands acts before what is asked; if it puts some on the
 /// disk, those that were ahead have to be put ahead again. A turn and a sweep keep what is ahead.
 ///
-/// If nothing is ahead and there is no room, the first that is asked is told `JournalFull`. If the list of steps can't
-/// grow, the refusal is the number of `Device`, and so is each outcome that is told.
+/// If nothing is ahead and there is no room, the first that is asked is told alone: a repeat as before, and
+/// `JournalFull` if it would change the memory. If the list of steps can't grow, the refusal is the number of `Device`,
+/// and so is each outcome that is told.
 ///
 /// Returns 0, or the number of the refusal; `done` has it too. It is the number of `Device` if a step was lost before,
 /// and 255 if there aren't 16 places. Then nobody is told.

@@ -1,12 +1,15 @@
 -- Those that are ahead are the first of those that are asked, whatever is called.
-use Rattle.std.proofs.Common.{◌≡◌, ℕ, zero, suc, ◌-◌, ◌<◌, ◌≤◌, min, Bool, true, false, ◌⊎◌, List, [], ◌∷◌, ◌++◌, map}
-use Rattle.std.proofs.Common.{length, take, drop, Result, sym, refl, ap, ◌∙◌, subst, inl, inr, ⊎_elim, arith}
-use Rattle.im_types.specs.Types.{Command, Outcome, Served, Refused, Refusal, Device, MAX_GROUP, Contents, is_accepted}
-use Rattle.im_types.specs.Types.{as_served}
-use Rattle.im_groups.specs.Commands.{answers_with, contents_with, places, places_behind}
-use Rattle.im_checkpoint.specs.declared.TurnDone.{TurnDone}
+use Rattle.std.proofs.Common.{◌≡◌, ℕ, zero, suc, ◌-◌, ◌<◌, ◌≤◌, min, Bool, true, false, ◌&&◌, ◌⊎◌, List, [], ◌∷◌, ◌++◌}
+use Rattle.std.proofs.Common.{map, length, take, drop, if◌then◌else◌, nat_lt, ◌==◌, Result, sym, refl, ap, ◌∙◌, subst}
+use Rattle.std.proofs.Common.{inl, inr, ⊎_elim, arith, take_all}
+use Rattle.im_types.specs.Types.{Command, Outcome, Served, Refused, Refusal, Device, MAX_GROUP, Contents, step}
+use Rattle.im_types.specs.Types.{is_accepted, as_served}
+use Rattle.im_laws.proofs.Tests.{and_false, eq_by_test, true_false}
+use Rattle.{im_groups.specs.Ahead.ServesPrefix, im_checkpoint.specs.declared.TurnDone.TurnDone}
+use Rattle.im_groups.specs.Commands.{answers_with, commands_at, contents_with, places, places_behind}
 use Rattle.im_engine.specs.Answered.{Answered, SweepAnswered, TurnAnswered}
-use Rattle.im_engine.specs.{Chain.Advances, Commands.commands_put, Commands.CommandsAnswered, State.EngineState}
+use Rattle.im_engine.specs.{Chain.Advances, State.EngineState}
+use Rattle.im_engine.specs.Commands.{answers_in_turn, commands_put, CommandsAnswered}
 use Rattle.im_front.specs.declared.{AskedCommand.AskedCommand, ToldAnswer.ToldAnswer}
 use Rattle.im_front.specs.Lists.{answers_told, asks_told, commands_asked}
 use Rattle.im_listed.specs.{Image.ImageState, Listing.Listing, Listing.with_no_steps}
@@ -235,3 +238,54 @@ chain_first e s new asked rest told answers next result emptied f first order ar
     (ap (λ (t : EngineState Listing). t.ahead) l.3 ∙ ap (λ (x : List Command). take l.0 x) is))
     (λ r. subst (λ (x : List Command). AreFirst x rest) (sym (ap (λ (t : EngineState Listing). t.ahead) r.2)) refl)
     (a.alive f)
+
+-- ---- where there is no place
+
+none_at : (m : Contents) (cs : List Command) → commands_at m 0 cs ≡ []
+none_at m [] = refl
+none_at m (c ∷ cs) = by_test (is_accepted m c && nat_lt 0 0) (and_false (is_accepted m c)) (none_at m cs)
+  where
+    by_test : (t : Bool) → t ≡ false → commands_at m 0 cs ≡ []
+        → (if t then c ∷ [] else [])
+        ++ commands_at (if t then (step m c).contents else m) (if t then 0 - 1 else 0) cs ≡ []
+    by_test true e none = absurd (true_false e)
+    by_test false e none = none
+
+-- commands are answered one after another, and the engine stays
+pub answered_stays : (s new : EngineState Listing) (members : List Command) (answers : List Served)
+    → places s.count s.room ≡ 0 → s.failed ≡ false → CommandsAnswered s members answers new
+    → (answers ≡ answers_in_turn s members) × (new ≡ s)
+answered_stays s new members answers none f a = a.none f
+    (ap (λ (n : ℕ). commands_at s.memory n members) none ∙ none_at s.memory members)
+
+pub none_ahead : (ahead : List Command) → (length ahead == 0) ≡ true → ahead ≡ []
+none_ahead [] e = refl
+none_ahead (c ∷ cs) e = let some = eq_by_test (length (c ∷ cs)) 0 e in absurd (omega (arith, some))
+
+-- what is known of the first that is asked, if it is answered alone
+pub record IsAlone (asked : List AskedCommand) (first : List Command) (told : List ToldAnswer)
+    (answers : List Served) : Type 0 where
+  pub served : take (length answers) first ≡ first
+  pub commands : commands_asked (asks_told told) ≡ first
+  pub one : length told ≡ min 1 (length asked)
+
+pub alone : (m : Contents) (put first : List Command) (asked rest : List AskedCommand) (told : List ToldAnswer)
+    (answers : List Served) → first ≡ take (length first) (commands_asked asked)
+    → length first ≡ min 1 (min MAX_GROUP (length asked)) → ServesPrefix m put first (length answers)
+    → asked ≡ asks_told told ++ rest → answers_told told ≡ answers → IsAlone asked first told answers
+alone m put first asked rest told answers are count begins order is =
+    let as_many : length answers ≡ length first = one (length answers) (length first) (length asked) count begins.within
+    begins.some in
+    record {
+      served = take_all (length answers) first (omega (arith, as_many));
+      commands = told_first first asked rest told answers
+          (map_take (λ (x : AskedCommand). x.command) (length first) asked ∙ sym are) order is as_many;
+      one = sym (length_map (λ (t : ToldAnswer). t.served) told) ∙ ap (λ (l : List Served). length l) is
+          ∙ omega (arith, as_many, count);
+    }
+  where
+    one : (many most asked : ℕ) → most ≡ min 1 (min MAX_GROUP asked) → many ≤ most → (0 < most → 0 < many)
+        → many ≡ most
+    one many zero asked count within some = omega (arith, within)
+    one many (suc most) asked count within some =
+        let more = some (omega arith) in omega (arith, count, within, more)

@@ -1,9 +1,9 @@
 -- What is asked of an image: its numbers, and a chain of groups from the front.
-use Rattle.std.specs.Prelude.{◌≡◌, ℕ, ◌+◌, ◌-◌, min, Bool, true, ◌&&◌, ◌⊎◌, List, [], ◌∷◌, ◌++◌, length, take, drop}
-use Rattle.std.specs.Prelude.{◌==◌, Ok, Err, Result}
-use Rattle.im_types.specs.Types.{Op, Command, Asks, Confirm as Confirms, Served, Refused, Refusal, WindowFull}
-use Rattle.im_types.specs.Types.{JournalFull, Device, MAX_GROUP, bounds}
-use Rattle.{im_groups.specs.Commands.places, im_asks.specs.Behind.bounds_asked_all, im_asks.specs.Behind.IsPlaceUpTo}
+use Rattle.std.specs.Prelude.{◌≡◌, ℕ, ◌-◌, min, Bool, true, ◌&&◌, ◌⊎◌, List, [], ◌∷◌, ◌++◌, length, take, drop, ◌==◌}
+use Rattle.std.specs.Prelude.{Ok, Err, Result}
+use Rattle.im_types.specs.Types.{Op, Command, Asks, Confirm as Confirms, Refusal, WindowFull, Device, MAX_GROUP, bounds}
+use Rattle.{im_groups.specs.Commands.places, im_engine.specs.Commands.answers_in_turn}
+use Rattle.im_asks.specs.Behind.{bounds_reckoned, IsPlaceUpTo}
 use Rattle.im_asks.specs.declared.WindowPlace.{TheVariants.Confirm, TheVariants.Full, TheVariants.Next, WindowPlace}
 use Rattle.im_front.specs.declared.{AskedCommand.AskedCommand, ToldAnswer.ToldAnswer}
 use Rattle.im_front.specs.Lists.{answers_told, asks_told, commands_asked, with_ticket}
@@ -21,14 +21,9 @@ many_behind s = length s.asked - length s.engine.ahead
 abbrev pub next_group : ImageState → List Command
 next_group s = take MAX_GROUP (drop (length s.engine.ahead) (commands_asked s.asked))
 
--- these bounds of an element's window as they are behind what is asked, or the refusal
-abbrev pub moved_behind : ImageState → ℕ → Result (ℕ × ℕ) Refusal → Result (ℕ × ℕ) Refusal
-moved_behind s element (Ok b) = Ok (bounds_asked_all element (commands_asked s.asked) b)
-moved_behind s element (Err refusal) = Err refusal
-
--- the bounds that an element's window has behind what is asked
+-- the bounds that an element's window has behind what is asked, or the refusal
 abbrev pub window_behind : ImageState → ℕ → Result (ℕ × ℕ) Refusal
-window_behind s element = moved_behind s element (bounds s.engine.memory.windows element)
+window_behind s element = bounds_reckoned element (commands_asked s.asked) (bounds s.engine.memory.windows element)
 
 -- the confirmation that comes before a request: its ticket is 0
 abbrev pub confirmed_before : ℕ → WindowPlace → List AskedCommand
@@ -65,12 +60,14 @@ pub record GoesOn (old : ImageState) (result : Result ℕ Refusal) (told : List 
   -- their answers, how many are ahead now, and what the file means on the way
   pub puts : PutsAhead old (next_group old) result (answers_told told) new
 
--- nothing is ahead, and there is no room for more
+-- nothing is ahead, and there is no place for more
 abbrev pub has_no_room : ImageState → Bool
 has_no_room s = (length s.engine.ahead == 0) && (places s.engine.count s.engine.room == 0)
 
--- the first that is asked is refused, since there is no room for it; nothing else changes, and no step is left
-pub record RefusesFirst (old : ImageState) (told : List ToldAnswer) (new : ImageState) : Type 0 where
+-- The first that is asked is answered alone, where it finds no place: a repeat as before, and `JournalFull` if it would
+-- change the memory. Nothing else changes, and no step is left.
+pub record AnswersFirst (old : ImageState) (told : List ToldAnswer) (new : ImageState) : Type 0 where
   pub order : old.asked ≡ asks_told told ++ new.asked
-  pub answers : answers_told told ≡ take (min 1 (length old.asked)) (Refused JournalFull ∷ [])
+  pub some : length told ≡ min 1 (length old.asked)
+  pub answers : answers_told told ≡ answers_in_turn (begun_in old) (commands_asked (asks_told told))
   pub same : new ≡ record old { engine = begun_in old; asked = new.asked }

@@ -1,12 +1,12 @@
 //! A chain of groups from what is asked, on an image in the hands of a caller.
 ghost use Rattle.std.specs.Prelude.{◌≡◌, min, true, false, [], length, take, Err};
 ghost use Rattle.{im_types.specs.Types.MAX_GROUP, im_front.specs.Lists.commands_asked};
-ghost use Rattle.im_listed.specs.Asking.{GoesOn, has_no_room, next_group, RefusesFirst};
+ghost use Rattle.im_listed.specs.Asking.{AnswersFirst, GoesOn, has_no_room, next_group};
 
 use crate::image::{Image, known};
 use arrayvec::ArrayVec;
 use im_front::{AskedCommand, ToldAnswer};
-use im_types::{Command, MAX_GROUP, Refusal, Served};
+use im_types::{Command, MAX_GROUP, Refusal};
 use std::cmp::min;
 
 // Returns the first commands of these, as many as a group has.
@@ -57,7 +57,7 @@ impl Image {
         answer
     }
 
-    /// Returns whether nothing is ahead, and there is no room for more.
+    /// Returns whether nothing is ahead, and there is no place for more.
     pub fn has_no_room(&self) -> bool
         ensures room { result ≡ has_no_room self.now }
         ensures works { self.now.lost ≡ false → self.now.engine.failed ≡ false }
@@ -65,15 +65,18 @@ impl Image {
         self.engine.ahead().as_slice().is_empty() && self.engine.places() == 0
     }
 
-    /// Refuses the first that is asked with `JournalFull`, if there is any. It leaves no step.
-    pub fn refuse_first(&mut self, told: &mut ArrayVec<ToldAnswer, MAX_GROUP>)
+    /// Answers the first that is asked alone, if there is any, where there is no place for it. A repeat is answered as
+    /// before, and a command that would change the memory is refused with `JournalFull`. It leaves no step.
+    pub fn answer_first(&mut self, told: &mut ArrayVec<ToldAnswer, MAX_GROUP>)
         requires empty { told.old.items ≡ [] }
         requires full { has_no_room self.old ≡ true }
-        ensures { RefusesFirst self.old told.new.items self.new }
+        requires works { self.old.engine.failed ≡ false }
+        ensures answered { AnswersFirst self.old told.new.items self.new }
     {
-        let full = [Served::Refused(Refusal::JournalFull)];
-        let many = min(1, self.asks.asked().len());
+        let first = self.asks.group(1);
         self.engine.empty_list();
-        self.asks.tell(&full[..many], told);
+        let mut served = ArrayVec::new();
+        self.engine.serve_commands(&first, &mut served);
+        self.asks.tell(served.as_slice(), told);
     }
 }

@@ -1,7 +1,8 @@
 //! Stories of an image over a caller's bytes. The caller opens it from the bytes of its file, carries out the steps
-//! that each call lists, and may be stopped on the way. `images.story` begins with their words.
+//! that each call lists, and may be stopped on the way. Each file of stories begins with their words.
 #![tactic(auto)]
 
+mod asking;
 mod callers;
 
 use crate::callers::Caller;
@@ -51,7 +52,11 @@ impl Subject for Caller {
             "carry out _" => said.number(self.carry_out(call.place(0))),
             "crash" => said.so(self.crash(), "crashed"),
             _ => match &mut self.image {
-                Some(image) => ask(image, call, said),
+                Some(image) => {
+                    if !asking::ask(image, call, said) {
+                        ask(image, call, said)
+                    }
+                }
                 None => said.fail("no image"),
             },
         }

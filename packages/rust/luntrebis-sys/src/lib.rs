@@ -456,7 +456,9 @@ extern "C" {
     /// `command`. If 64 entries are kept then, a confirmation is asked before it, with the ticket 0: up to the first
     /// entry that isn't answered yet, and at most up to the number `most`. Returns 0, LT_UNSERVED as lt_front_submit,
     /// or the refusal: LT_WINDOW_FULL if there is nothing to confirm, LT_NO_ELEMENT, LT_DEVICE, or LT_NO_CALL. Then
-    /// nothing is asked. It is for an element of which all requests come this way.
+    /// nothing is asked. It is for an element of which all requests come this way. The number is the next one then,
+    /// unless a command asked before is told LT_NOT_ANSWERED or LT_JOURNAL_FULL: behind such a one the request may be
+    /// refused.
     pub fn lt_front_next(image: lt_image, ticket: u64, command: *mut lt_command, most: u64, next: *mut lt_image) -> u8;
 
     /// Lets those that are ahead act, and puts the next ones ahead that are asked. Those that acted are asked no more:
@@ -465,8 +467,9 @@ extern "C" {
     ///
     /// The next ones are the first of those behind: as many as there is room for, up to a confirmation if it isn't
     /// known, before those that were ahead act, whether each entry that it would drop is answered. If nothing is ahead,
-    /// at least one is put. If nothing is ahead and there is no room, the first that is asked is told LT_JOURNAL_FULL.
-    /// If the steps couldn't be listed, each that is told has LT_DEVICE.
+    /// at least one is put. If nothing is ahead and there is no room, the first that is asked is told alone:
+    /// LT_JOURNAL_FULL if it would change the memory, and else as before. If the steps couldn't be listed, each that is
+    /// told has LT_DEVICE.
     ///
     /// Returns the refusal of `done`: 0, LT_DEVICE, or LT_NO_CALL if `places` isn't 16.
     pub fn lt_front_advance(

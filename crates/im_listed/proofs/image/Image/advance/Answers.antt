@@ -1,8 +1,7 @@
-use Rattle.std.proofs.Common.{◌≡◌, ℕ, ◌≤◌, false, ◌⊎◌, List, length, take, IfOk, Ok, Err, Result, sym, ap, ◌∙◌, subst}
-use Rattle.std.proofs.Common.{inl, arith}
-use Rattle.im_types.specs.Types.{Command, Served, Refusal}
+use Rattle.std.proofs.Common.{◌≡◌, ℕ, false, List, length, IfOk, sym, ap, ◌∙◌, subst, inl, arith}
+use Rattle.{im_types.specs.Types.Command, im_types.specs.Types.Served, im_front.specs.Lists.answers_told}
 use Rattle.im_engine.specs.{Chain.Advances, Chain.TakesNext, Commands.after_commands}
-use Rattle.{im_engine.specs.State.EngineState, im_engine.specs.State.MeansEither, im_front.specs.Lists.answers_told}
+use Rattle.im_engine.specs.State.{EngineState, MeansEither}
 use Rattle.im_listed.proofs.ImageLemmas.{carries_on, start_of, steady_advance}
 use Rattle.im_listed.proofs.OrderLemmas.{chain_first, enough_asked, told_all, told_first}
 use Rattle.im_listed.specs.{Asking.next_group, Listing.Listing, Numbers.told_number}
