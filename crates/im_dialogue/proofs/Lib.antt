@@ -10,5 +10,5 @@ pub mod ToldLemmas
 pub mod ServeLemmas
 pub mod DialogueLemmas
 pub mod LineLemmas
-pub mod CountLemmas
+pub mod ListLemmas
 pub mod AlikeLemmas

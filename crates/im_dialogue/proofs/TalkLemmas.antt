@@ -14,8 +14,8 @@ use Rattle.im_dialogue.proofs.HearingLemmas.{heard_some, hears_as, hears_none, h
 use Rattle.im_dialogue.specs.{Answers.answer_text, Asking.asked_of, Backups.Backup, declared.asking.Question.Question}
 use Rattle.im_dialogue.specs.{Hearing.Hears, Hearing.HearsSome, Hearing.is_quit, Watching.watch_text}
 use Rattle.im_dialogue.specs.declared.answers.LineAnswer.{LineAnswer, TheVariants.Turned}
-use Rattle.im_dialogue.specs.Talk.{AnswersQuestion, AreAnswered, AreKept, backup_by, backups_of, Exchange, exchange_at}
-use Rattle.im_dialogue.specs.Talk.{Halts, HasEnded, HasSaid, OnlyTurned, Outputs, outputs, point_behind, put_by, put_of}
+use Rattle.im_dialogue.specs.Talk.{AnswersQuestion, AreAnswered, backup_by, backups_of, Exchange, exchange_at, Halts}
+use Rattle.im_dialogue.specs.Talk.{HasEnded, HasSaid, OnlyTurned, Outputs, outputs, point_behind, put_by, put_of}
 use Rattle.im_dialogue.specs.Talk.{questions_of, SaysLine, SaysNow, stands_behind, TalkEnds, Talking, TalksOn, texts_of}
 use Rattle.im_dialogue.specs.Talk.{with_left}
 use Rattle.im_dialogue.specs.declared.asking.Question.TheVariants as asks
@@ -355,7 +355,8 @@ module _ {D : Type 0} (watch : Bool) where
       all_texts = ap (λ (k : Contents). texts_of watch old.engine.memory a.said ++ texts_of watch k ys) a.done.memory
           ∙ sym (texts_append watch old.engine.memory ys a.said)
 
-      all_kept : (is : Outputs) → AreKept mid.engine.memory been is ys → AreKept old.engine.memory was is (ys ++ a.said)
+      all_kept : (is : Outputs) → is.backups ≡ backups_of mid.engine.memory ys ++ been.backups
+          → is.backups ≡ backups_of old.engine.memory (ys ++ a.said) ++ was.backups
       all_kept is kept = kept
           ∙ ap₂ (λ (k : Contents) (l : List Backup). backups_of k ys ++ l) a.done.memory a.backups
           ∙ sym (append_assoc (backups_of (after old.engine.memory (put_of old.engine.memory a.said)) ys)
@@ -460,7 +461,8 @@ module _ {D : Type 0} (watch : Bool) where
     abbrev many : ℕ
     many = old.engine.count + length (put_of old.engine.memory [])
 
-    one_kept : (p : Point) → AreKept old.engine.memory was is (exchange_at line answer name p ∷ [])
+    one_kept : (p : Point)
+        → is.backups ≡ backups_of old.engine.memory (exchange_at line answer name p ∷ []) ++ was.backups
     one_kept p = kept
         ∙ ap (λ (l : List Backup). l ++ was.backups) (sym (append-nil (backup_by old.engine.memory answer)))
 

@@ -1,19 +1,21 @@
 -- The line of each answer of a dialogue. (Own.)
-use Rattle.std.specs.Prelude.{ℕ, List, [], ◌++◌, Ok, Err, codes, decimal, Result}
+use Rattle.std.specs.Prelude.{ℕ, ◌+◌, ◌-◌, min, List, [], ◌++◌, length, Ok, Err, codes, decimal, Result}
+use Rattle.std.specs.List.{range_with_len}
 use Rattle.im_types.specs.Types.{Entry, Kept as KeptEntry, Command, Outcome, Asks, Confirm, Tells, Confirmed, Refusal}
-use Rattle.im_types.specs.Types.{Contents, held_at, block_at, ask}
+use Rattle.im_types.specs.Types.{Contents, block_at, ask, bounds}
 use Rattle.im_checkpoint.specs.declared.TurnDone.TheVariants.{Began, Idle, InForce, Page, Swept, Synced}
 use Rattle.im_checkpoint.specs.declared.TurnDone.{TurnDone}
-use Rattle.im_text.specs.{Printing.refused_line, Printing.told_line, Texts.entry_text, Texts.line_feed, Texts.op_text}
-use Rattle.im_dialogue.specs.{Backups.bytes_of, declared.backup_name.BackupName.BackupName}
+use Rattle.im_text.specs.declared.{OutputLine.TheVariants.Reply, Style.TheVariants.Text}
+use Rattle.im_text.specs.{Printing.refused_line, Said.said_in, Texts.entry_text, Texts.line_feed, Texts.op_text}
+use Rattle.im_dialogue.specs.{Backups.bytes_of, Counting.addresses_of, declared.backup_name.BackupName.BackupName}
+use Rattle.im_dialogue.specs.{declared.backups.BackupFault.BackupFault}
 use Rattle.im_dialogue.specs.declared.{about.About.About, answers.LineAnswer.LineAnswer, look.Look.Look}
 use Rattle.im_dialogue.specs.declared.answers.LineAnswer.TheVariants.{About as Facts, Backup, Count, Looked, Room}
 use Rattle.im_dialogue.specs.declared.answers.LineAnswer.TheVariants.{Served, Turned, Window, Wrong}
-use Rattle.im_dialogue.specs.declared.backups.BackupFault.{BackupFault}
 use Rattle.im_dialogue.specs.declared.look.Look.TheVariants.{Block, Blocks, Cell, Cells, Collect, Elements}
 use Rattle.im_dialogue.specs.declared.look.Look.TheVariants.{Entry as Recalls, Help, Stat, Waiting}
-use Rattle.im_dialogue.specs.Showing.{block_said, cell_said, cells_list, elements_list, help_line, recall, sort_list}
-use Rattle.im_dialogue.specs.Showing.{stat_line, window_said}
+use Rattle.im_dialogue.specs.Showing.{block_said, cell_said, help_line, list_line, recall, shown_at, stat_line}
+use Rattle.im_dialogue.specs.Showing.{window_said}
 use Rattle.im_dialogue.specs.declared.sort.Sort.TheVariants as sort
 
 -- E.N refused NUMBER NAME
@@ -27,7 +29,8 @@ element_refused element refusal name = decimal element ++ codes " " ++ refused_l
 
 -- E.N REPLY, or E.N refused NUMBER NAME
 abbrev pub kept_line : ℕ → ℕ → List ℕ → Result Entry Refusal → List ℕ
-kept_line element number name (Ok entry) = told_line element number entry
+kept_line element number name (Ok entry) =
+    said_in Text (Reply (record { element = element; number = number; entry = entry }))
 kept_line element number name (Err refusal) = request_refused element number refusal name
 
 -- E.N entry OPERATION -> REPLY
@@ -40,16 +43,14 @@ abbrev pub recalled_line : ℕ → ℕ → List ℕ → Result KeptEntry Refusal
 recalled_line element number name (Ok kept) = operation_line element number kept
 recalled_line element number name (Err refusal) = request_refused element number refusal name
 
--- E confirmed UPTO
-abbrev pub confirmed_line : ℕ → ℕ → List ℕ
-confirmed_line element upto = decimal element ++ codes " confirmed " ++ decimal upto ++ line_feed
-
--- the line of a command; no request is answered as a confirmation is, and no confirmation as a request is
+-- the line of a command: as `collect` says it, or E confirmed UPTO; no request is answered as a confirmation is, and no
+-- confirmation as a request is
 abbrev pub served_line : List ℕ → Command → Result Outcome Refusal → List ℕ
 served_line name (Asks r) (Ok (Tells entry)) = kept_line r.element r.number name (Ok entry)
 served_line name (Asks r) (Ok Confirmed) = []
 served_line name (Asks r) (Err refusal) = kept_line r.element r.number name (Err refusal)
-served_line name (Confirm element upto) (Ok outcome) = confirmed_line element upto
+served_line name (Confirm element upto) (Ok outcome) =
+    decimal element ++ codes " confirmed " ++ decimal upto ++ line_feed
 served_line name (Confirm element upto) (Err refusal) = element_refused element refusal name
 
 -- E window BASE NEXT
@@ -57,13 +58,9 @@ abbrev pub window_line : ℕ → List ℕ → Result (ℕ × ℕ) Refusal → Li
 window_line element name (Ok w) = window_said element (Ok w) ++ line_feed
 window_line element name (Err refusal) = element_refused element refusal name
 
--- version V cells C
-abbrev pub cells_said : About → List ℕ
-cells_said a = codes "version " ++ decimal a.version ++ codes " cells " ++ decimal a.cells
-
 -- about version V cells C elements E slots S count N room R: what an image is, and how far it has come
 abbrev pub about_line : About → List ℕ
-about_line a = codes "about " ++ cells_said a
+about_line a = codes "about " ++ (codes "version " ++ decimal a.version ++ codes " cells " ++ decimal a.cells)
     ++ (codes " elements " ++ decimal a.elements ++ codes " slots " ++ decimal a.slots)
     ++ (codes " count " ++ decimal a.count ++ codes " room " ++ decimal a.room ++ line_feed)
 
@@ -82,20 +79,18 @@ backup_line name words (Ok count) =
     codes "backup " ++ bytes_of name ++ codes " count " ++ decimal count ++ line_feed
 backup_line name words (Err fault) = codes "backup " ++ bytes_of name ++ codes " refused: " ++ words ++ line_feed
 
--- error LINE: WORDS
-abbrev pub wrong_line : ℕ → List ℕ → List ℕ
-wrong_line number words = codes "error " ++ decimal number ++ codes ": " ++ words ++ line_feed
-
 -- what a line shows of this memory that only looks
 abbrev pub look_text : List ℕ → Contents → Look → List ℕ
 look_text name m (Collect who) = kept_line who.element who.number name (ask m.windows who)
 look_text name m (Recalls who) = recalled_line who.element who.number name (recall m.windows who)
-look_text name m (Cell a) = cell_said a (held_at m.cells a) ++ line_feed
-look_text name m (Cells a b) = cells_list a b m
-look_text name m Waiting = sort_list (codes "waiting") sort.Waiting m
+look_text name m (Cell a) = cell_said m a ++ line_feed
+look_text name m (Cells a b) =
+    list_line (codes "cells") (cell_said m) (range_with_len a (min (b + 1) (length m.cells) - a))
+look_text name m Waiting = list_line (codes "waiting") (shown_at sort.Waiting m) (addresses_of sort.Waiting m)
 look_text name m (Block a) = block_said a (block_at m.cells a) ++ line_feed
-look_text name m Blocks = sort_list (codes "blocks") sort.Base m
-look_text name m Elements = elements_list m
+look_text name m Blocks = list_line (codes "blocks") (shown_at sort.Base m) (addresses_of sort.Base m)
+look_text name m Elements =
+    list_line (codes "elements") (λ e. window_said e (bounds m.windows e)) (range_with_len 0 (length m.windows))
 look_text name m Stat = stat_line m
 look_text name m Help = help_line
 
@@ -110,4 +105,4 @@ answer_text name m (Turned done) = turn_text done ++ line_feed
 answer_text name m (Count count) = codes "count " ++ decimal count ++ line_feed
 answer_text name m (Facts about) = about_line about
 answer_text name m (Backup backup kept) = backup_line backup name kept
-answer_text name m (Wrong number fault) = wrong_line number name
+answer_text name m (Wrong number fault) = codes "error " ++ decimal number ++ codes ": " ++ name ++ line_feed

@@ -7,14 +7,11 @@ use Rattle.im_dialogue.specs.declared.backup_name.BackupName.{BackupName}
 
 -- ---- names
 
--- a to z, 0 to 9, - or .
-abbrev pub is_backup_byte : ℕ → Bool
-is_backup_byte byte = is_ascii_lowercase byte || (is_ascii_digit byte || (byte == 45 || byte == 46))
-
--- 1 to 64 of them, the first one a letter
+-- 1 to 64 characters a to z, 0 to 9, - or ., the first one a letter
 abbrev pub is_backup_name : List ℕ → Bool
 is_backup_name word = is_ascii_lowercase (slice_index_or word 0 0)
-    && (nat_le (length word) 64 && list_all is_backup_byte word)
+    && (nat_le (length word) 64
+    && list_all (λ c. is_ascii_lowercase c || (is_ascii_digit c || (c == 45 || c == 46))) word)
 
 -- the name that these characters are, with zeros behind them
 abbrev pub backup_named : List ℕ → BackupName

@@ -1,13 +1,13 @@
 -- What a dialogue on the image of a disk comes to. (Own.)
-use Rattle.std.specs.Prelude.{◌≡◌, ℕ, ◌≤◌, Bool, false, ◌⊎◌, List, [], length, Option}
+use Rattle.std.specs.Prelude.{◌≡◌, ℕ, ◌≤◌, Bool, false, ◌⊎◌, List, [], ◌++◌, length, Option}
 use Rattle.std.specs.Io.KnownBytes.{Appends}
 use Rattle.im_types.specs.Types.{MAX_GROUP, AreLimits, Contents, layout_in_use, image_length}
 use Rattle.im_disk.specs.{declared.Disk.Ghosts, Moment.Left, Moment.Moment, Since.Leaves, Since.LeavesWithin}
 use Rattle.{im_engine.specs.State.EngineState, im_engine.specs.State.MeansState, im_turning.specs.Turning.point_of}
 use Rattle.im_session.specs.Kept.{Kept, session_of, SessionState, start_at}
 use Rattle.im_text.specs.{declared.Style.TheVariants.Text, Printing.Begins, Said.output, Said.SaysLast}
-use Rattle.im_dialogue.specs.Hearing.{HearsAll}
-use Rattle.im_dialogue.specs.Talk.{AreAnswered, AreKept, Exchange, Outputs, put_of, questions_of, texts_of, with_input}
+use Rattle.im_dialogue.specs.{Hearing.HearsAll, Talk.AreAnswered, Talk.backups_of, Talk.Exchange, Talk.Outputs}
+use Rattle.im_dialogue.specs.{Talk.put_of, Talk.questions_of, Talk.texts_of, Talk.with_input}
 
 -- An image was opened with this engine, and what could be left of the disk before is what could be left then: one of
 -- those files means what the engine is, with at least its room.
@@ -45,7 +45,7 @@ pub record TalkClosed {D : Type 0} (disk : Ghosts D) (watch : Bool) (first : Eng
   pub printed : (mid : Option (List ℕ)) × Begins was.text mid (texts_of watch first.memory said)
       × SaysLast (output Text mid) is.text
   pub whole : status ≡ 0 → (session.doubt ≡ []) × Appends was.text is.text (texts_of watch first.memory said)
-  pub backups : AreKept first.memory was is said
+  pub backups : is.backups ≡ backups_of first.memory said ++ was.backups
   pub heard : HearsAll was.left (questions_of said) status
 
 -- The image was opened, and lines were answered by a session that began with its engine.

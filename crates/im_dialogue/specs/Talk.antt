@@ -210,17 +210,13 @@ with_left left o = record o { left = left }
 abbrev pub with_input : Option (List ℕ) → Outputs → Outputs
 with_input known o = record o { left = questions_left known }
 
--- Exactly the backups that were answered are kept besides those that were.
-abbrev pub AreKept : Contents → Outputs → Outputs → List Exchange → Type 0
-AreKept m was is said = is.backups ≡ backups_of m said ++ was.backups
-
 module _ {D : Type 0} (watch : Bool) (old : SessionState D) (was : Outputs) (new : SessionState D) (is : Outputs) where
   -- this was said, it was printed line by line, its backups are kept, and it is what the input asked for
   pub record Talking : Type 0 where
     pub said : List Exchange
     pub done : HasSaid old new said
     pub printed : Appends was.text is.text (texts_of watch old.engine.memory said)
-    pub backups : AreKept old.engine.memory was is said
+    pub backups : is.backups ≡ backups_of old.engine.memory said ++ was.backups
     pub heard : Hears was.left is.left (questions_of said)
 
   -- This was said, and it was ended. A prefix of it was printed, the backups that were answered are kept, and the input
@@ -229,7 +225,7 @@ module _ {D : Type 0} (watch : Bool) (old : SessionState D) (was : Outputs) (new
     pub said : List Exchange
     pub ended : HasEnded old new said
     pub printed : Begins was.text is.text (texts_of watch old.engine.memory said)
-    pub backups : AreKept old.engine.memory was is said
+    pub backups : is.backups ≡ backups_of old.engine.memory said ++ was.backups
     pub heard : HearsSome was.left (questions_of said)
 
   -- if the engine worked, lines were asked and answered, their answers printed, and their backups kept

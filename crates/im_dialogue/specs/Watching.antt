@@ -2,18 +2,14 @@
 use Rattle.std.specs.Prelude.{ℕ, Bool, true, false, List, [], ◌∷◌, ◌++◌, if◌then◌else◌, Some, None, Ok, Option}
 use Rattle.im_types.specs.Types.{Kind, Op, Reply, Waiter, Answered, Store, Put, Command, Asks, Confirm, Held, Contents}
 use Rattle.im_types.specs.Types.{same_kind, act, asker, is_accepted}
-use Rattle.im_text.specs.Printing.{now_line}
+use Rattle.im_text.specs.{declared.OutputLine.TheVariants.Now, declared.Style.TheVariants.Text, Said.said_in}
 use Rattle.im_dialogue.specs.declared.answers.LineAnswer.{LineAnswer, TheVariants.Served}
 
--- E.N now REPLY: the answer to a request that waited
-abbrev pub told_now : Waiter × Reply → List ℕ
-told_now resumed =
-    now_line (Some (record { element = resumed.0.element; number = resumed.0.number; entry = Answered resumed.1 }))
-
--- the lines of the requests that were resumed, in order
+-- the lines of the requests that were resumed, in order: E.N now REPLY, the answer to a request that waited
 abbrev pub nows_text : List (Waiter × Reply) → List ℕ
 nows_text [] = []
-nows_text (resumed ∷ others) = told_now resumed ++ nows_text others
+nows_text (r ∷ others) =
+    said_in Text (Now (record { element = r.0.element; number = r.0.number; entry = Answered r.1 })) ++ nows_text others
 
 -- the waiting requests that a command resumes, with their answers; none if it isn't accepted
 abbrev pub resumed_by : Contents → Command → List (Waiter × Reply)

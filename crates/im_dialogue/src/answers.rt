@@ -1,9 +1,8 @@
 //! The answers to lines.
-ghost use Rattle.std.specs.Prelude.{◌≡◌, ◌++◌, OnOk, string_bytes, codes};
-ghost use Rattle.im_text.specs.Printing.{refused_line, told_line};
-ghost use Rattle.im_dialogue.specs.Answers.{about_line, answer_text, backup_line, cells_said, confirmed_line};
-ghost use Rattle.im_dialogue.specs.Answers.{element_refused, kept_line, operation_line, request_refused, served_line};
-ghost use Rattle.im_dialogue.specs.Answers.{turn_text, window_line, wrong_line};
+ghost use Rattle.std.specs.Prelude.{◌≡◌, ◌++◌, OnOk, string_bytes, codes, decimal};
+ghost use Rattle.im_text.specs.{Printing.refused_line, Printing.told_line, Texts.line_feed};
+ghost use Rattle.im_dialogue.specs.Answers.{about_line, answer_text, backup_line, element_refused, kept_line};
+ghost use Rattle.im_dialogue.specs.Answers.{operation_line, request_refused, served_line, turn_text, window_line};
 ghost use Rattle.im_dialogue.specs.Backups.{bytes_of};
 
 use crate::about::About;
@@ -133,7 +132,8 @@ pub(crate) fn add_operation(out: &mut String, who: Waiter, kept: Kept) -> Result
 
 // Adds `E confirmed UPTO`.
 fn add_confirmed(out: &mut String, element: u16, upto: u64) -> Result<(), AllocError>
-    ensures { OnOk result (string_bytes out.new ≡ string_bytes out.old ++ confirmed_line element upto) }
+    ensures { OnOk result (string_bytes out.new
+        ≡ string_bytes out.old ++ (decimal element ++ codes " confirmed " ++ decimal upto ++ line_feed)) }
 {
     write!(out, "{element} confirmed {upto}\n")
 }
@@ -185,8 +185,9 @@ fn add_window(
 }
 
 // Adds `version V cells C`.
-fn add_cells(out: &mut String, about: About) -> Result<(), AllocError>
-    ensures { OnOk result (string_bytes out.new ≡ string_bytes out.old ++ cells_said about) }
+fn add_version(out: &mut String, about: About) -> Result<(), AllocError>
+    ensures { OnOk result (string_bytes out.new ≡ string_bytes out.old
+        ++ (codes "version " ++ decimal about.version ++ codes " cells " ++ decimal about.cells)) }
 {
     let version = about.version;
     let cells = about.cells;
@@ -202,7 +203,7 @@ fn add_about(out: &mut String, about: About) -> Result<(), AllocError>
     let count = about.count;
     let room = about.room;
     out.push_str("about ")?;
-    add_cells(out, about)?;
+    add_version(out, about)?;
     write!(out, " elements {elements} slots {slots}")?;
     write!(out, " count {count} room {room}\n")
 }
@@ -250,7 +251,8 @@ fn add_backup(
 
 // Adds `error LINE: ` and the words for where the line goes wrong.
 fn add_wrong(out: &mut String, number: u64, words: &str) -> Result<(), AllocError>
-    ensures { OnOk result (string_bytes out.new ≡ string_bytes out.old ++ wrong_line number words.now) }
+    ensures { OnOk result (string_bytes out.new
+        ≡ string_bytes out.old ++ (codes "error " ++ decimal number ++ codes ": " ++ words.now ++ line_feed)) }
 {
     write!(out, "error {number}: {words}\n")
 }

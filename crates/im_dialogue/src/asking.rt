@@ -2,13 +2,12 @@
 ghost use Rattle.std.specs.Prelude.{◌≡◌, [], ◌∷◌, IfOk, ◌==◌, option_map, option_and_then};
 ghost use Rattle.std.specs.{List.slice_split, Option.option_or};
 ghost use Rattle.im_types.specs.Types.{Asks};
-ghost use Rattle.im_script.specs.Grammar.{span_in, texts, words_of};
-ghost use Rattle.im_dialogue.specs.Asking.{asked_at, asked_by_one, asked_by_request, asked_by_three, asked_by_two};
-ghost use Rattle.im_dialogue.specs.Asking.{asked_in, asked_of, element_of, op_in, request_number_of, waiter_by};
-ghost use Rattle.im_dialogue.specs.Asking.{waiter_from, waiter_named};
+ghost use Rattle.im_script.specs.{Grammar.span_in, Grammar.texts, Grammar.words_of, Lines.action_of, Places.action_op};
+ghost use Rattle.im_dialogue.specs.Asking.{asked_by_one, asked_by_request, asked_by_three, asked_by_two, asked_in};
+ghost use Rattle.im_dialogue.specs.Asking.{asked_of, element_of, request_number_of, waiter_by, waiter_named};
 ghost use Rattle.im_dialogue.specs.Backups.{backup_name_of};
 ghost use Rattle.im_dialogue.specs.declared.asking.Question.TheVariants.{Backup, Look as Looks, Serve, Window};
-ghost use Rattle.im_dialogue.specs.declared.look.Look.TheVariants.{Cells, Collect, Entry};
+ghost use Rattle.im_dialogue.specs.declared.look.Look.TheVariants.{Block, Cell, Cells, Collect, Entry};
 
 use crate::backup_name::BackupName;
 use crate::look::Look;
@@ -52,7 +51,7 @@ pub(crate) fn read_element(word: &[u8]) -> Option<u16>
 
 // Reads an element and a number, given their words.
 fn read_pair(element: &[u8], number: &[u8]) -> Option<Waiter>
-    ensures { result ≡ waiter_from element.now number.now }
+    ensures { result ≡ waiter_by (element.now ∷ number.now ∷ []) }
 {
     Some(Waiter {
         element: read_element(element)?,
@@ -87,7 +86,7 @@ pub(crate) fn read_waiter(alloc: Global, word: &[u8]) -> Result<Option<Waiter>, 
 
 // Reads a request as it stands after E.N.
 fn read_op(alloc: Global, words: &[&[u8]]) -> Option<Op>
-    ensures { result ≡ op_in (texts words.now) }
+    ensures { result ≡ option_and_then (action_op []) (action_of [] (texts words.now)) }
 {
     let names = IndexSet::new(alloc);
     read_action(&names, words)?.op(&[])
@@ -172,17 +171,23 @@ fn read_cells(span: &[u8]) -> Option<Question>
     }
 }
 
-// Asks for what is at an address.
-fn ask_at(word: &[u8], a: Option<u32>) -> Option<Question>
-    ensures { result ≡ option_and_then (asked_at word.now) a }
+// Asks for the cell at an address.
+fn ask_cell(a: Option<u32>) -> Option<Question>
+    ensures { result ≡ option_map (λ a. Looks (Cell a)) a }
 {
-    let a = a?;
-    if word == b"cell".as_slice() {
-        Some(Question::Look(Look::Cell(a)))
-    } else if word == b"block".as_slice() {
-        Some(Question::Look(Look::Block(a)))
-    } else {
-        None
+    match a {
+        Some(a) => Some(Question::Look(Look::Cell(a))),
+        None => None,
+    }
+}
+
+// Asks for the block that an address lies in.
+fn ask_block(a: Option<u32>) -> Option<Question>
+    ensures { result ≡ option_map (λ a. Looks (Block a)) a }
+{
+    match a {
+        Some(a) => Some(Question::Look(Look::Block(a))),
+        None => None,
     }
 }
 
@@ -202,8 +207,12 @@ fn read_two(alloc: Global, word: &[u8], what: &[u8]) -> Result<Option<Question>,
         Ok(read_backup(what))
     } else if word == b"cells".as_slice() {
         Ok(read_cells(what))
+    } else if word == b"cell".as_slice() {
+        Ok(ask_cell(read_u32(what)))
+    } else if word == b"block".as_slice() {
+        Ok(ask_block(read_u32(what)))
     } else {
-        Ok(ask_at(word, read_u32(what)))
+        Ok(None)
     }
 }
 

@@ -1,6 +1,7 @@
 //! The name of a backup.
-ghost use Rattle.std.specs.{Prelude.◌≡◌, Prelude.◌≤◌, Prelude.length, Prelude.IfSome, List.list_all};
-ghost use Rattle.im_dialogue.specs.Backups.{backup_name_of, backup_named, bytes_of, is_backup_byte, is_backup_name};
+ghost use Rattle.std.specs.Prelude.{◌≡◌, ◌≤◌, ◌||◌, length, IfSome, ◌==◌};
+ghost use Rattle.std.specs.{Char.is_ascii_digit, Char.is_ascii_lowercase, List.list_all};
+ghost use Rattle.im_dialogue.specs.Backups.{backup_name_of, backup_named, bytes_of, is_backup_name};
 
 use std::str;
 
@@ -19,14 +20,14 @@ pub struct BackupName {
 
 // Returns whether a name may contain a byte.
 fn may_contain(byte: u8) -> bool
-    ensures { result ≡ is_backup_byte byte }
+    ensures { result ≡ (is_ascii_lowercase byte || (is_ascii_digit byte || (byte == 45 || byte == 46))) }
 {
     byte.is_ascii_lowercase() || byte.is_ascii_digit() || byte == b'-' || byte == b'.'
 }
 
 // Returns whether a name may contain each byte of a word.
 fn may_contain_all(word: &[u8]) -> bool
-    ensures { result ≡ list_all is_backup_byte word.now }
+    ensures { result ≡ list_all (λ c. is_ascii_lowercase c || (is_ascii_digit c || (c == 45 || c == 46))) word.now }
 {
     word.iter().all(|byte| may_contain(*byte))
 }

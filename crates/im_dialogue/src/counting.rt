@@ -1,6 +1,7 @@
 //! Counts the cells of a memory.
-ghost use Rattle.std.specs.Prelude.{◌≡◌, ◌≤◌};
-ghost use Rattle.im_dialogue.specs.Counting.{is_counted, many_cells, one_that, stands_at};
+ghost use Rattle.std.specs.Prelude.{◌≡◌, ◌≤◌, false, length, if◌then◌else◌, ◌==◌};
+ghost use Rattle.std.specs.Option.{option_map_or};
+ghost use Rattle.im_dialogue.specs.Counting.{addresses_of, is_counted};
 
 use crate::sort::Sort;
 use im_memory::Memory;
@@ -8,7 +9,7 @@ use im_types::{Block, Cell};
 
 // Returns 1 for what passes a test.
 fn one_that(passes: bool) -> u32
-    ensures value { result ≡ one_that passes }
+    ensures value { result ≡ (if passes then 1 else 0) }
     ensures few { result ≤ 1 }
 {
     if passes { 1 } else { 0 }
@@ -16,7 +17,7 @@ fn one_that(passes: bool) -> u32
 
 // Returns whether an address is the base of its block.
 fn stands_at(a: u32, block: Option<Block>) -> bool
-    ensures { result ≡ stands_at a block }
+    ensures { result ≡ option_map_or (λ b. b.base == a) block false }
 {
     match block {
         Some(block) => block.base == a,
@@ -39,7 +40,7 @@ pub(crate) fn is_counted(sort: Sort, a: u32, block: Option<Block>, cell: Option<
 
 /// Returns how many addresses of a memory are of this sort.
 pub(crate) fn count_cells(memory: &Memory, sort: Sort) -> u32
-    ensures { result ≡ many_cells sort memory.now.contents }
+    ensures { result ≡ length (addresses_of sort memory.now.contents) }
 {
     let mut count: u32 = 0;
     for a in 0..memory.cells() {

@@ -1,8 +1,10 @@
 //! Adds lists of what a memory has: a word, how many parts there are, and each behind a comma.
-ghost use Rattle.std.specs.Prelude.{◌≡◌, ◌+◌, ◌≤◌, ◌++◌, length, OnOk, string_bytes};
-ghost use Rattle.{im_types.specs.Types.held_at, im_text.specs.Texts.texts_below, im_report.specs.Look.text_if};
-ghost use Rattle.im_dialogue.specs.Showing.{behind_comma, cell_parts, cell_said, cells_list, elements_list, many_from};
-ghost use Rattle.im_dialogue.specs.Showing.{part_at, shown_at, sort_list, window_part};
+ghost use Rattle.std.specs.Prelude.{◌≡◌, ◌+◌, ◌-◌, ◌≤◌, min, [], ◌++◌, length, if◌then◌else◌, OnOk, string_bytes};
+ghost use Rattle.std.specs.Prelude.{codes, flat_map};
+ghost use Rattle.std.specs.List.{range_with_len};
+ghost use Rattle.im_types.specs.Types.{bounds};
+ghost use Rattle.im_dialogue.specs.Counting.{addresses_of};
+ghost use Rattle.im_dialogue.specs.Showing.{cell_said, list_line, list_said, shown_at, window_said};
 
 use crate::counting::{count_cells, is_counted};
 use crate::showing::{add_block, add_bounds, add_cell};
@@ -13,7 +15,7 @@ use std::alloc::AllocError;
 // Adds a cell as a part of a list.
 fn add_cell_part(out: &mut String, memory: &Memory, a: u32) -> Result<(), AllocError>
     ensures { OnOk result (string_bytes out.new ≡ string_bytes out.old
-        ++ behind_comma (cell_said a (held_at memory.now.contents.cells a))) }
+        ++ (codes ", " ++ cell_said memory.now.contents a)) }
 {
     out.push_str(", ")?;
     add_cell(out, memory, a)
@@ -21,7 +23,7 @@ fn add_cell_part(out: &mut String, memory: &Memory, a: u32) -> Result<(), AllocE
 
 // Returns how many cells there are from one address to another.
 fn many_from(from: u32, to: u32, memory: &Memory) -> u32
-    ensures is { result ≡ many_from from to memory.now.contents }
+    ensures is { result ≡ min (to + 1) (length memory.now.contents.cells) - from }
     ensures within { from + result ≤ u32.MAX }
 {
     let cells = memory.cells();
@@ -35,13 +37,30 @@ fn many_from(from: u32, to: u32, memory: &Memory) -> u32
 // Adds so many cells as parts of a list, one after another, from an address on.
 fn add_cells_from(out: &mut String, memory: &Memory, from: u32, many: u32) -> Result<(), AllocError>
     requires within { from + many ≤ u32.MAX }
-    ensures { OnOk result (string_bytes out.new
-        ≡ string_bytes out.old ++ cell_parts from memory.now.contents many) }
+    ensures { OnOk result (string_bytes out.new ≡ string_bytes out.old
+        ++ flat_map (λ a. codes ", " ++ cell_said memory.now.contents a) (range_with_len from many)) }
 {
     for i in 0..many {
         add_cell_part(out, memory, from + i)?;
     }
     Ok(())
+}
+
+// Adds a word, a number, and so many cells from an address on.
+fn add_cell_list(
+    out: &mut String,
+    memory: &Memory,
+    word: &str,
+    from: u32,
+    many: u32,
+) -> Result<(), AllocError>
+    requires within { from + many ≤ u32.MAX }
+    ensures { OnOk result (string_bytes out.new ≡ string_bytes out.old
+        ++ list_said word.now many (cell_said memory.now.contents) (range_with_len from many)) }
+{
+    write!(out, "{word} {many}")?;
+    add_cells_from(out, memory, from, many)?;
+    out.push_str("\n")
 }
 
 /// Adds the list of the cells from one address to another.
@@ -51,12 +70,11 @@ pub(crate) fn add_cells(
     from: u32,
     to: u32,
 ) -> Result<(), AllocError>
-    ensures { OnOk result (string_bytes out.new ≡ string_bytes out.old ++ cells_list from to memory.now.contents) }
+    ensures { let m = memory.now.contents in OnOk result (string_bytes out.new ≡ string_bytes out.old
+        ++ list_line (codes "cells") (cell_said m) (range_with_len from (min (to + 1) (length m.cells) - from))) }
 {
     let many = many_from(from, to, memory);
-    write!(out, "cells {many}")?;
-    add_cells_from(out, memory, from, many)?;
-    out.push_str("\n")
+    add_cell_list(out, memory, "cells", from, many)
 }
 
 // Adds what is said of an address of this sort: of a base its block, else its cell.
@@ -78,7 +96,7 @@ fn add_part_if(
     wanted: bool,
 ) -> Result<(), AllocError>
     ensures { OnOk result (string_bytes out.new ≡ string_bytes out.old
-        ++ text_if wanted (behind_comma (shown_at sort memory.now.contents a))) }
+        ++ (if wanted then codes ", " ++ shown_at sort memory.now.contents a else [])) }
 {
     if !wanted {
         return Ok(());
@@ -90,7 +108,7 @@ fn add_part_if(
 // Adds the parts of all addresses of a sort.
 fn add_parts(out: &mut String, memory: &Memory, sort: Sort) -> Result<(), AllocError>
     ensures { let m = memory.now.contents in OnOk result (string_bytes out.new
-        ≡ string_bytes out.old ++ texts_below (part_at sort m) (length m.cells)) }
+        ≡ string_bytes out.old ++ flat_map (λ a. codes ", " ++ shown_at sort m a) (addresses_of sort m)) }
 {
     for a in 0..memory.cells() {
         let wanted = is_counted(sort, a, memory.block(a), memory.cell(a));
@@ -106,8 +124,8 @@ pub(crate) fn add_list(
     word: &str,
     sort: Sort,
 ) -> Result<(), AllocError>
-    ensures { OnOk result (string_bytes out.new
-        ≡ string_bytes out.old ++ sort_list word.now sort memory.now.contents) }
+    ensures { let m = memory.now.contents in OnOk result (string_bytes out.new
+        ≡ string_bytes out.old ++ list_line word.now (shown_at sort m) (addresses_of sort m)) }
 {
     let many = count_cells(memory, sort);
     write!(out, "{word} {many}")?;
@@ -117,7 +135,8 @@ pub(crate) fn add_list(
 
 // Adds the window of an element as a part of a list.
 fn add_window_part(out: &mut String, memory: &Memory, element: u16) -> Result<(), AllocError>
-    ensures { OnOk result (string_bytes out.new ≡ string_bytes out.old ++ window_part memory.now.contents element) }
+    ensures { OnOk result (string_bytes out.new ≡ string_bytes out.old
+        ++ (codes ", " ++ window_said element (bounds memory.now.contents.windows element))) }
 {
     out.push_str(", ")?;
     match memory.window(element) {
@@ -129,7 +148,8 @@ fn add_window_part(out: &mut String, memory: &Memory, element: u16) -> Result<()
 // Adds the windows of all elements as parts of a list.
 fn add_windows(out: &mut String, memory: &Memory) -> Result<(), AllocError>
     ensures { let m = memory.now.contents in OnOk result (string_bytes out.new
-        ≡ string_bytes out.old ++ texts_below (window_part m) (length m.windows)) }
+        ≡ string_bytes out.old ++ flat_map (λ e. codes ", " ++ window_said e (bounds m.windows e))
+        (range_with_len 0 (length m.windows))) }
 {
     for element in 0..memory.elements() {
         add_window_part(out, memory, element)?;
@@ -137,12 +157,26 @@ fn add_windows(out: &mut String, memory: &Memory) -> Result<(), AllocError>
     Ok(())
 }
 
-/// Adds the list of all elements.
-pub(crate) fn add_elements(out: &mut String, memory: &Memory) -> Result<(), AllocError>
-    ensures { OnOk result (string_bytes out.new ≡ string_bytes out.old ++ elements_list memory.now.contents) }
+// Adds a word, a number, and the windows of all elements.
+fn add_window_list(
+    out: &mut String,
+    memory: &Memory,
+    word: &str,
+    many: u16,
+) -> Result<(), AllocError>
+    ensures { let m = memory.now.contents in OnOk result (string_bytes out.new ≡ string_bytes out.old
+        ++ list_said word.now many (λ e. window_said e (bounds m.windows e)) (range_with_len 0 (length m.windows))) }
 {
-    let many = memory.elements();
-    write!(out, "elements {many}")?;
+    write!(out, "{word} {many}")?;
     add_windows(out, memory)?;
     out.push_str("\n")
+}
+
+/// Adds the list of all elements.
+pub(crate) fn add_elements(out: &mut String, memory: &Memory) -> Result<(), AllocError>
+    ensures { let m = memory.now.contents in OnOk result (string_bytes out.new ≡ string_bytes out.old
+        ++ list_line (codes "elements") (λ e. window_said e (bounds m.windows e))
+        (range_with_len 0 (length m.windows))) }
+{
+    add_window_list(out, memory, "elements", memory.elements())
 }

@@ -1,9 +1,12 @@
 //! Adds what lines show that only look at the memory.
-ghost use Rattle.std.specs.Prelude.{◌≡◌, ◌++◌, OnOk, Ok, string_bytes};
+ghost use Rattle.std.specs.Prelude.{◌≡◌, ◌++◌, length, OnOk, slice_get, Ok, string_bytes, codes, decimal};
 ghost use Rattle.im_types.specs.Types.{held_at, waiters_at, block_at, presence_in};
+ghost use Rattle.im_text.specs.Texts.{line_feed};
+ghost use Rattle.im_report.specs.Figures.{kept_in, queue_at, sum_below};
 ghost use Rattle.im_dialogue.specs.Answers.{look_text, recalled_line};
-ghost use Rattle.im_dialogue.specs.Showing.{block_said, blocks_said, cell_said, entries_said, held_text, help_line};
-ghost use Rattle.im_dialogue.specs.Showing.{queue_text, recall, stat_line, state_text, states_said, window_said};
+ghost use Rattle.im_dialogue.specs.declared.sort.Sort.TheVariants.{Base, Clashed, Empty, Full, Waiting};
+ghost use Rattle.im_dialogue.specs.Showing.{block_said, cell_said, count_said, held_text, help_line, queue_text};
+ghost use Rattle.im_dialogue.specs.Showing.{recall, stat_line, state_text, window_said};
 
 use crate::answers::{add_kept, add_operation, add_request_refused};
 use crate::counting::count_cells;
@@ -100,8 +103,7 @@ fn add_held(out: &mut String, memory: &Memory, a: u32) -> Result<(), AllocError>
 
 /// Adds `cell A KIND STATE`, or `cell A nocell`.
 pub(crate) fn add_cell(out: &mut String, memory: &Memory, a: u32) -> Result<(), AllocError>
-    ensures { OnOk result (string_bytes out.new ≡ string_bytes out.old
-        ++ cell_said a (held_at memory.now.contents.cells a)) }
+    ensures { OnOk result (string_bytes out.new ≡ string_bytes out.old ++ cell_said memory.now.contents a) }
 {
     write!(out, "cell {a} ")?;
     add_held(out, memory, a)
@@ -134,34 +136,59 @@ pub(crate) fn add_bounds(
 
 // ---- counts
 
+// Adds a word, and how many addresses are of a sort.
+fn add_count(out: &mut String, memory: &Memory, word: &str, sort: Sort) -> Result<(), AllocError>
+    ensures { OnOk result (string_bytes out.new
+        ≡ string_bytes out.old ++ count_said word.now sort memory.now.contents) }
+{
+    let many = count_cells(memory, sort);
+    write!(out, "{word}{many}")
+}
+
 // Adds `stat cells C blocks B`.
 fn add_blocks(out: &mut String, memory: &Memory) -> Result<(), AllocError>
-    ensures { OnOk result (string_bytes out.new ≡ string_bytes out.old ++ blocks_said memory.now.contents) }
+    ensures { let m = memory.now.contents in OnOk result (string_bytes out.new ≡ string_bytes out.old
+        ++ (codes "stat cells " ++ decimal (length m.cells) ++ count_said (codes " blocks ") Base m)) }
 {
     let cells = memory.cells();
-    let blocks = count_cells(memory, Sort::Base);
-    write!(out, "stat cells {cells} blocks {blocks}")
+    write!(out, "stat cells {cells}")?;
+    add_count(out, memory, " blocks ", Sort::Base)
 }
 
-// Adds `empty E waiting W full F clashed X`.
-fn add_states(out: &mut String, memory: &Memory) -> Result<(), AllocError>
-    ensures { OnOk result (string_bytes out.new ≡ string_bytes out.old ++ states_said memory.now.contents) }
+// Adds `empty E waiting W`.
+fn add_unfilled(out: &mut String, memory: &Memory) -> Result<(), AllocError>
+    ensures { let m = memory.now.contents in OnOk result (string_bytes out.new ≡ string_bytes out.old
+        ++ (count_said (codes " empty ") Empty m ++ count_said (codes " waiting ") Waiting m)) }
 {
-    let empty = count_cells(memory, Sort::Empty);
-    let waiting = count_cells(memory, Sort::Waiting);
-    let full = count_cells(memory, Sort::Full);
-    let clashed = count_cells(memory, Sort::Clashed);
-    write!(out, " empty {empty} waiting {waiting}")?;
-    write!(out, " full {full} clashed {clashed}")
+    add_count(out, memory, " empty ", Sort::Empty)?;
+    add_count(out, memory, " waiting ", Sort::Waiting)
 }
 
-// Adds `kept K deferred D`.
-fn add_entries(out: &mut String, memory: &Memory) -> Result<(), AllocError>
-    ensures { OnOk result (string_bytes out.new ≡ string_bytes out.old ++ entries_said memory.now.contents) }
+// Adds `full F clashed X`.
+fn add_filled(out: &mut String, memory: &Memory) -> Result<(), AllocError>
+    ensures { let m = memory.now.contents in OnOk result (string_bytes out.new ≡ string_bytes out.old
+        ++ (count_said (codes " full ") Full m ++ count_said (codes " clashed ") Clashed m)) }
+{
+    add_count(out, memory, " full ", Sort::Full)?;
+    add_count(out, memory, " clashed ", Sort::Clashed)
+}
+
+// Adds `kept K`.
+fn add_kept_count(out: &mut String, memory: &Memory) -> Result<(), AllocError>
+    ensures { let w = memory.now.contents.windows in OnOk result (string_bytes out.new ≡ string_bytes out.old
+        ++ (codes " kept " ++ decimal (sum_below (λ k. kept_in (slice_get w k)) (length w)))) }
 {
     let kept = count_windows(memory).kept;
+    write!(out, " kept {kept}")
+}
+
+// Adds `deferred D`, and ends the line.
+fn add_deferred(out: &mut String, memory: &Memory) -> Result<(), AllocError>
+    ensures { let m = memory.now.contents in OnOk result (string_bytes out.new ≡ string_bytes out.old
+        ++ (codes " deferred " ++ decimal (sum_below (queue_at m) (length m.cells)) ++ line_feed)) }
+{
     let deferred = count_queues(memory).requests;
-    write!(out, " kept {kept} deferred {deferred}\n")
+    write!(out, " deferred {deferred}\n")
 }
 
 // Adds how many blocks, cells and entries there are.
@@ -169,8 +196,10 @@ fn add_stat(out: &mut String, memory: &Memory) -> Result<(), AllocError>
     ensures { OnOk result (string_bytes out.new ≡ string_bytes out.old ++ stat_line memory.now.contents) }
 {
     add_blocks(out, memory)?;
-    add_states(out, memory)?;
-    add_entries(out, memory)
+    add_unfilled(out, memory)?;
+    add_filled(out, memory)?;
+    add_kept_count(out, memory)?;
+    add_deferred(out, memory)
 }
 
 // ---- help

@@ -1,10 +1,11 @@
 //! The lines for those that watch. They follow an answer, and tell which waiting requests the line answered.
 ghost use Rattle.std.specs.Prelude.{◌≡◌, ◌<◌, true, [], ◌∷◌, ◌++◌, map, length, take, IfOk, OnOk, string_bytes};
-ghost use Rattle.im_types.specs.Types.{I, M, Value, MAX_GROUP, held_at, store, put, at_cell, act, asker, is_accepted};
+ghost use Rattle.im_types.specs.Types.{Answered, I, M, Value, MAX_GROUP, held_at, store, put, at_cell, act, asker};
+ghost use Rattle.im_types.specs.Types.{is_accepted};
 ghost use Rattle.im_front.specs.Lists.{commands_asked};
+ghost use Rattle.im_text.specs.{declared.OutputLine.TheVariants.Now, declared.Style.TheVariants.Text, Said.said_in};
 ghost use Rattle.im_dialogue.specs.Together.{GroupStart, TellsWatchers, TellWatchers};
-ghost use Rattle.im_dialogue.specs.Watching.{answers_nobody, is_of_kind, is_quiet, nows_text, resumed_by, told_now};
-ghost use Rattle.im_dialogue.specs.Watching.{told_with};
+ghost use Rattle.im_dialogue.specs.Watching.{answers_nobody, is_of_kind, is_quiet, nows_text, resumed_by, told_with};
 
 use crate::answers::LineAnswer;
 use crate::firsts::is_first;
@@ -34,7 +35,11 @@ fn answers_nobody(command: Command) -> bool
 
 // Adds `E.N now value VALUE`.
 fn add_now(out: &mut String, who: Waiter, value: u64) -> Result<(), AllocError>
-    ensures { OnOk result (string_bytes out.new ≡ string_bytes out.old ++ told_now (who, Value value)) }
+    ensures { OnOk result (string_bytes out.new ≡ string_bytes out.old ++ said_in Text (Now (record {
+      element = who.element;
+      number = who.number;
+      entry = Answered (Value value);
+    }))) }
 {
     let element = who.element;
     let number = who.number;

@@ -1,11 +1,10 @@
-use Rattle.std.proofs.Common.{ap, ◌∙◌, ap₂, arith}
-use Rattle.im_dialogue.proofs.CountLemmas.{sum_more, sum_none}
-use Rattle.im_dialogue.specs.Counting.{counted_at, is_counted, one_that}
+use Rattle.std.proofs.Common.{Bool, if◌then◌else◌, refl, ap, ◌∙◌, ap₂, arith}
+use Rattle.im_dialogue.{proofs.ListLemmas.count_more, specs.Counting.is_counted}
 use Rattle.im_dialogue.proofs.counting.count_cells.Goals as goal
 
 pub loop-a-init : goal.loop-a-init
 loop-a-init c = record {
-  sum = sum_none (counted_at c.args.sort c.args.memory.now.contents) _ (omega arith);
+  many = refl;
   few = omega arith;
 }
 
@@ -15,8 +14,7 @@ loop-a-preserved c =
     let passes = c.is_counted-passes.ensures
     ∙ ap₂ (is_counted c.args.sort a) c.block.ensures c.cell.ensures in
     record {
-      sum = sum_more (counted_at c.args.sort c.args.memory.now.contents) a _ c.loop-a.count c.one_that-count.result
-          (omega arith)
-          c.loop-a.invariant.sum (c.one_that-count.ensures.value ∙ ap one_that passes);
+      many = count_more _ a c.loop-a.count c.one_that-count.result c.loop-a.invariant.many
+          (c.one_that-count.ensures.value ∙ ap (λ (b : Bool). if b then 1 else 0) passes);
       few = omega (arith, c.loop-a.invariant.few, c.one_that-count.ensures.few);
     }

@@ -1,9 +1,11 @@
-use Rattle.std.proofs.Common.{◌≡◌, ◌≤◌}
-use Rattle.im_report.specs.Figures.{sum_below}
-use Rattle.im_dialogue.specs.Counting.{counted_at}
+use Rattle.std.proofs.Common.{◌≡◌, ◌≤◌, length, filter}
+use Rattle.std.specs.List.{range_with_len}
+use Rattle.im_types.specs.Types.{held_at, block_at, presence_in}
+use Rattle.im_dialogue.specs.Counting.{is_counted}
 
 abbrev pub invariant-loop-a : Rattle.im_dialogue.proofs.counting.count_cells.Given.invariant-loop-a
 invariant-loop-a l = record {
-  sum : l.count ≡ sum_below (counted_at l.sort l.memory.contents) l.a;
+  many : l.count ≡ length (filter (λ a. is_counted l.sort a (block_at l.memory.contents.cells a)
+      (presence_in (held_at l.memory.contents.cells a))) (range_with_len 0 l.a));
   few : l.count ≤ l.a;
 }
