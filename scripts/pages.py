@@ -1,4 +1,5 @@
-"""Checks the pages of this repository for scripts/check: their width, their size, their sentences, no dates."""
+"""Checks the pages of this repository for scripts/check: their width, their size, their sentences, no dates, no words that
+went."""
 import re
 
 from sources import TOP
@@ -7,6 +8,19 @@ WIDEST, LARGEST, LONGEST = 120, 40, 45  # columns of a line, KB of a page, words
 USERS = ("README.md", *(f"docs/{it}.md" for it in "TUTORIAL SCRIPTS SERVE SERVER EMBEDDING DATAFLOW CLUSTER MIGRATION DETERMINACY".split()))
 SHORT = ("README.md", *(f"docs/{it}.md" for it in "TUTORIAL SCRIPTS SERVE SERVER EMBEDDING DATAFLOW".split()))
 LARGE = {"docs/DECISIONS.md": 70, "docs/GATE.md": 3}
+# Words that went, each with what stands in its place: of pages, where backquotes may have them; and parts of names in crates.
+GONE = {
+    "so many": "this many",
+    "(?:is|was|what is) asked of": "gets, is sent",
+    "of which": "with, whose",
+    "tells?|told": "prints, answers, reports",
+    "calm": "synced",
+    "spell(?:s|ed|ing)?": "encode",
+    "ledgers?|books?": "list, counts",
+    "walks?": "traverse, run, random test",
+}
+GONE_NAMES = {"paper": "printer", "sieve": "filter", "relay": "writer", "slate": "line", "silenced": "ended"}
+OLD = ("docs/DECISIONS.md", "docs/DEFINITIONS.md")  # These still have them: choices that were made, sentences of specs/.
 
 
 def paragraphs(text):
@@ -24,7 +38,24 @@ def sentences(text):
         yield from re.split(r"(?<=[.!?])[)\"*]*\s+(?=[A-Z`*\[(])", paragraph)
 
 
+def gone(text):
+    """Yields words of a text that went, each with what to say in its place."""
+    for paragraph in paragraphs(text):
+        for word, instead in GONE.items():
+            yield from (f"{found[0]!r} is no longer used: {instead}" for found in re.finditer(rf"\b(?:{word})\b", re.sub("`[^`]*`", "``", paragraph)))
+
+
+def gone_names(names):
+    """Yields those of some names that have a part that went."""
+    for name in sorted(names):
+        for part in {it.lower() for it in re.findall("[A-Z]?[a-z]+|[A-Z]+", name)} & set(GONE_NAMES):
+            yield f"`{name}` is no longer used: {GONE_NAMES[part]}"
+
+
 def faults():
+    for path in sorted(it for it in TOP.glob("**/*.md") if it.parts[len(TOP.parts)] not in ("crates", "out")):
+        if (name := str(path.relative_to(TOP))) not in OLD:
+            yield from (f"{name}: {it}" for it in gone(path.read_text()))
     for path in sorted([*TOP.glob("*.md"), *TOP.glob("docs/*.md"), *TOP.glob("models/*.md")]):
         name, text = str(path.relative_to(TOP)), path.read_text()
         if len(text.encode()) > 1000 * (most := LARGE.get(name, LARGEST)):
