@@ -25,7 +25,8 @@ impl Display for BackupFault {
     }
 }
 
-/// Keeps copies of an image, each in a file of its own that has a name.
+/// What stands beside a dialogue. It keeps copies of the image, each in a file of its own that has a name, and is shown
+/// the memory.
 pub trait Backups {
     ghost use Rattle.std.specs.Prelude.{◌≡◌, List, ◌∷◌, OnOk, OnErr};
     ghost use Rattle.im_dialogue.specs.Backups.{Backup, bytes_of};
@@ -48,6 +49,11 @@ pub trait Backups {
           count = count;
         } ∷ kept self.old) }
         ensures same { OnErr result (kept self.new ≡ kept self.old) };
+
+    /// Is shown the memory each time that the dialogue rests: all that was asked is answered, and more is to be read.
+    /// It may tell an operator what it sees. Nothing is kept by it.
+    fn look_at(&mut self, memory: &Memory)
+        ensures same { kept self.new ≡ kept self.old };
 }
 
 /// Keeps no backup, since no folder was given.
@@ -66,4 +72,6 @@ impl Backups for NoBackups {
     ) -> Result<(), BackupFault> {
         Err(BackupFault::NoFolder)
     }
+
+    fn look_at(&mut self, _memory: &Memory) {}
 }

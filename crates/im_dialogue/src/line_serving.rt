@@ -164,6 +164,15 @@ impl<D: Disk> Dialogue<D> {
         }
     }
 
+    // Shows the memory to what stands beside the dialogue, unless a whole line is there.
+    fn show_rest<B: Backups>(&self, backups: &mut B)
+        ensures { B.kept backups.new ≡ B.kept backups.old }
+    {
+        if !self.more {
+            backups.look_at(self.front.memory());
+        }
+    }
+
     // Rests, and serves the next line. Behind it nothing is asked, unless a whole line is there to be read.
     fn serve_rested<B: Backups, R: BufRead + Ear>(
         &mut self,
@@ -181,6 +190,7 @@ impl<D: Disk> Dialogue<D> {
             Ok(()) => {}
             Err(reason) => return Err(reason),
         }
+        self.show_rest(backups);
         match self.serve_next(backups, input) {
             Ok(true) => match self.settle() {
                 Ok(()) => Ok(true),

@@ -8,6 +8,7 @@ ghost use Rattle.im_program.specs.Places.{IsOpenAt};
 use crate::descriptors::Descriptors;
 use crate::opening::{format_reason, give_up, is_folder, reason_of};
 use crate::shelf::{KeptBackup, shelve};
+use crate::standstill::{StuckElements, is_at_standstill};
 use im_damage::Damage;
 use im_dialogue::{BackupFault, BackupName, Backups};
 use im_disk::{Disk, FileDisk, Start, Unknown};
@@ -20,7 +21,7 @@ use im_text::{PathFault, Reason};
 use im_types::{LAST, Limits, Refusal, Unobserved};
 use std::alloc::{AllocError, Global};
 use std::fs::File;
-use std::io::ErrorKind;
+use std::io::{Eprint, ErrorKind};
 use std::rt::Files;
 
 // What the name of a note ends in. A backup of such a name would be taken for a note, and removed.
@@ -155,7 +156,8 @@ pub(crate) fn has_folder<R: Files<File = File>>(rt: &R, backups: Option<&str>) -
     }
 }
 
-/// The folder in which a dialogue keeps its backups, or none.
+/// What stands beside a dialogue: the folder in which it keeps its backups, or none. It tells on standard error when
+/// nothing can go on, once until something can.
 #[derive(Drop)]
 pub(crate) struct Folder<'a, 'p, R> {
     rt: &'a R,
@@ -163,6 +165,8 @@ pub(crate) struct Folder<'a, 'p, R> {
     _held: &'a Descriptors,
     path: Option<&'p str>,
     shelf: NoteList<KeptBackup>,
+    // Whether nothing could go on when the memory was looked at last.
+    is_at_standstill: bool,
 }
 
 impl<'a, 'p, R> Folder<'a, 'p, R> {
@@ -175,11 +179,12 @@ impl<'a, 'p, R> Folder<'a, 'p, R> {
             _held: held,
             path,
             shelf: NoteList::new(),
+            is_at_standstill: false,
         }
     }
 }
 
-impl<'a, 'p, R: Files<File = File> + AllocGlobal> Backups for Folder<'a, 'p, R> {
+impl<'a, 'p, R: Files<File = File> + AllocGlobal + Eprint> Backups for Folder<'a, 'p, R> {
     ghost kept = { λ folder. folder.shelf };
 
     fn keep(
@@ -205,5 +210,17 @@ impl<'a, 'p, R: Files<File = File> + AllocGlobal> Backups for Folder<'a, 'p, R> 
             Ok(()) => Ok(()),
             Err(reason) => Err(BackupFault::Unkept(reason)),
         }
+    }
+
+    fn look_at(&mut self, memory: &Memory) {
+        let is_so = is_at_standstill(memory);
+        if is_so && !self.is_at_standstill {
+            let stuck = StuckElements(memory);
+            let _printed = eprintln!(self.rt;
+                "imem: standstill: every window that has asked is full of waits (elements {stuck}): \
+                 only a request of another element can answer them"
+            );
+        }
+        self.is_at_standstill = is_so;
     }
 }

@@ -26,6 +26,7 @@ mod serving;
 mod settling;
 mod shelf;
 mod shown;
+mod standstill;
 mod statuses;
 mod talking;
 mod tracing;

@@ -1,8 +1,7 @@
 //! Whether the system itself has made a file system read-only, as most of them do behind an error.
 
 use std::alloc::{AllocError, Global};
-use std::fs;
-use std::fs::File;
+use std::fs::{self, File};
 use std::rt::Files;
 
 // The system's list of what is mounted.

@@ -3,8 +3,7 @@
 use im_words::{
     Dumping, Formatting, Inspection, Making, Moving, ScriptRun, Serving, Talking, Work,
 };
-use std::fmt;
-use std::fmt::{Display, Formatter};
+use std::fmt::{self, Display, Formatter};
 use std::path::Path;
 
 /// A name in a message. Control characters are written as escapes, so that a name can't steer a terminal.

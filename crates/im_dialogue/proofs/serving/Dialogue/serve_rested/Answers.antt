@@ -13,7 +13,8 @@ returns-in-Ok-settle-clause-talks g c =
     let known = g.R.Read.remaining c.args.input.now in
     let later = g.R.Read.remaining c.serve_next.new.input in
     let next = then_next old mid been was is c.rest.ensures.same known (g.R.Read.remaining c.rest.new.input) later
-    c.serve_next.result c.rest.ensures.kept c.in-Ok.ensures.talks c.serve_next.ensures.talks in
+    c.serve_next.result c.rest.ensures.kept c.in-Ok.ensures.talks
+    (rw c.show_rest.ensures at c.serve_next.ensures.talks) in
     let on = next_ok old been was is known later c.serve_next.result next c.in-Ok-true.field-0 true c.in-Ok-true.is
     c.in-Ok-true.field-0-test in
     settled_ok old been c.settle.new.self was is (questions_left known)
@@ -30,7 +31,8 @@ returns-in-Err-settle-clause-talks g c =
     let known = g.R.Read.remaining c.args.input.now in
     let later = g.R.Read.remaining c.serve_next.new.input in
     let next = then_next old mid been was is c.rest.ensures.same known (g.R.Read.remaining c.rest.new.input) later
-    c.serve_next.result c.rest.ensures.kept c.in-Ok.ensures.talks c.serve_next.ensures.talks in
+    c.serve_next.result c.rest.ensures.kept c.in-Ok.ensures.talks
+    (rw c.show_rest.ensures at c.serve_next.ensures.talks) in
     let on = next_ok old been was is known later c.serve_next.result next c.in-Ok-true.field-0 true c.in-Ok-true.is
     c.in-Ok-true.field-0-test in
     settled_err old been c.settle.new.self was is (questions_left known)
@@ -47,7 +49,8 @@ returns-in-Ok-false-clause-talks g c =
     let known = g.R.Read.remaining c.args.input.now in
     let later = g.R.Read.remaining c.serve_next.new.input in
     let next = then_next old mid been was is c.rest.ensures.same known (g.R.Read.remaining c.rest.new.input) later
-    c.serve_next.result c.rest.ensures.kept c.in-Ok.ensures.talks c.serve_next.ensures.talks in
+    c.serve_next.result c.rest.ensures.kept c.in-Ok.ensures.talks
+    (rw c.show_rest.ensures at c.serve_next.ensures.talks) in
     next_ok old been was is known later c.serve_next.result next c.in-Ok-false.field-0 false c.in-Ok-false.is
     c.in-Ok-false.field-0-test
 
@@ -61,7 +64,8 @@ returns-in-Err-serve_next-clause-talks g c =
     let known = g.R.Read.remaining c.args.input.now in
     let later = g.R.Read.remaining c.serve_next.new.input in
     let next = then_next old mid been was is c.rest.ensures.same known (g.R.Read.remaining c.rest.new.input) later
-    c.serve_next.result c.rest.ensures.kept c.in-Ok.ensures.talks c.serve_next.ensures.talks in
+    c.serve_next.result c.rest.ensures.kept c.in-Ok.ensures.talks
+    (rw c.show_rest.ensures at c.serve_next.ensures.talks) in
     next_err old been was is known later c.serve_next.result next c.in-Err-serve_next.reason c.in-Err-serve_next.is
 
 pub returns-in-Err-clause-talks : goal.returns-in-Err-clause-talks
