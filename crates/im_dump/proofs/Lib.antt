@@ -1,3 +1,4 @@
+pub mod SalvageLemmas
 pub mod WritingLemmas
 pub mod DumpingLemmas
 pub mod Cuts

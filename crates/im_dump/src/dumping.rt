@@ -10,8 +10,12 @@ use im_text::{Reason, diagnose, put_through};
 use std::alloc::Global;
 use std::io::Write;
 
-// Writes the dump of an image that was read.
-fn write_dump<W: Write>(alloc: Global, image: &ImageParts, out: &mut W) -> Result<(), Reason>
+/// Writes the dump of an image that was read.
+pub(crate) fn write_dump<W: Write>(
+    alloc: Global,
+    image: &ImageParts,
+    out: &mut W,
+) -> Result<(), Reason>
     requires { AreParts image.now }
     ensures text { OnOk result (Appends (W.contents out.old) (W.contents out.new)
         (dump_text (sizes_of image.now.header.limits) image.now.journal.count image.now.memory.contents)) }

@@ -12,6 +12,9 @@ mod laws;
 mod laying;
 mod lines;
 mod loading;
+mod records;
+mod salvaging;
+mod windows;
 mod words;
 mod writing;
 
@@ -19,4 +22,5 @@ pub use dumping::dump;
 pub use faults::{DumpFault, TextLineFault, Wanted};
 pub use laws::{one_memory_has_a_dump, reload, what_was_dumped_is_loaded};
 pub use loading::{Loaded, read_dump};
+pub use salvaging::salvage;
 pub use writing::add_dump;

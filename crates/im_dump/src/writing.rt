@@ -24,8 +24,8 @@ fn add_first(out: &mut String) -> Result<(), AllocError>
     out.push_str("imem dump 1\n")
 }
 
-// Adds the lines of the sizes and of the count.
-fn add_head(out: &mut String, limits: Limits, count: u64) -> Result<(), AllocError>
+/// Adds the lines of the sizes and of the count.
+pub(crate) fn add_head(out: &mut String, limits: Limits, count: u64) -> Result<(), AllocError>
     ensures { OnOk result (string_bytes out.new ≡ string_bytes out.old ++ head_lines (sizes_of limits) count) }
 {
     let Limits {
@@ -40,8 +40,8 @@ fn add_head(out: &mut String, limits: Limits, count: u64) -> Result<(), AllocErr
     writeln!(out, "count {count}")
 }
 
-// Adds the line of a block if this address is its base.
-fn add_begun(out: &mut String, a: u32, block: Option<Block>) -> Result<(), AllocError>
+/// Adds the line of a block if this address is its base.
+pub(crate) fn add_begun(out: &mut String, a: u32, block: Option<Block>) -> Result<(), AllocError>
     ensures { OnOk result (string_bytes out.new ≡ string_bytes out.old ++ begun_line a block) }
 {
     let Some(block) = block else {
@@ -110,8 +110,8 @@ fn add_cells(out: &mut String, memory: &Memory) -> Result<(), AllocError>
     Ok(())
 }
 
-// Adds the line of what is kept under an element's number, if anything is kept.
-fn add_kept(
+/// Adds the line of what is kept under an element's number, if anything is kept.
+pub(crate) fn add_kept(
     out: &mut String,
     element: u16,
     number: u64,
@@ -150,15 +150,15 @@ fn add_entries(
     Ok(())
 }
 
-// Returns whether an element with this window base and this many entries has asked nothing yet.
-fn is_new(base: u64, kept: u64) -> bool
+/// Returns whether an element with this window base and this many entries has asked nothing yet.
+pub(crate) fn is_new(base: u64, kept: u64) -> bool
     ensures { result ≡ ((base == 1) && (kept == 0)) }
 {
     base == 1 && kept == 0
 }
 
-// Adds the line of an element's window base.
-fn add_base(out: &mut String, element: u16, base: u64) -> Result<(), AllocError>
+/// Adds the line of an element's window base.
+pub(crate) fn add_base(out: &mut String, element: u16, base: u64) -> Result<(), AllocError>
     ensures { OnOk result (string_bytes out.new ≡ string_bytes out.old ++ base_line element base) }
 {
     writeln!(out, "element {element} base {base}")
@@ -192,8 +192,8 @@ fn add_windows(out: &mut String, memory: &Memory) -> Result<(), AllocError>
     Ok(())
 }
 
-// Adds the last line.
-fn add_last(out: &mut String) -> Result<(), AllocError>
+/// Adds the last line.
+pub(crate) fn add_last(out: &mut String) -> Result<(), AllocError>
     ensures { OnOk result (string_bytes out.new ≡ string_bytes out.old ++ last_line) }
 {
     out.push_str("end\n")

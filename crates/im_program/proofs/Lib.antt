@@ -4,4 +4,5 @@ pub mod Loads
 pub mod MovedLemmas
 pub mod OkLemmas
 pub mod SourceLemmas
+pub mod StatusLemmas
 pub mod ToldLemmas

@@ -4,7 +4,7 @@ use Rattle.std.proofs.Common.{Option, Result, sym, subst, inl, inr}
 use Rattle.im_disk.specs.declared.{Disk.Ghosts as DiskGhosts, FileDisk.FileDisk, Start.Ghosts}
 use Rattle.{im_disk.specs.Moment.Moment, im_text.specs.Said.Output, im_words.specs.declared.Work.Work}
 use Rattle.im_program.specs.{Sources.IsTextOf, Told.WorkDone}
-use Rattle.im_program.specs.Working.{MakesImage, ScriptServed, ScriptServes, TextServed}
+use Rattle.im_program.specs.Working.{EndsStrictly, MakesImage, ScriptServed, ScriptServes, TextServed}
 
 -- it was read from the input
 pub from_input : {A E : Type 0} (text : A → List ℕ) (r : Result A E) (known : Option (List ℕ)) (b : Bool) → b ≡ true
@@ -27,13 +27,13 @@ text_as known text other same it = subst (IsTextOf known) (sym same) it
 
 -- the text that was served is what was read
 pub text_served : {D : Type 0} (d : DiskGhosts D) (once : Bool) (first : Moment) (bytes : List ℕ) (disk : D)
-    (was : Output) (is : Option (List ℕ)) (status : ℕ) → ScriptServed d once first (Some bytes) disk was is status
+    (was : Output) (is : Option (List ℕ)) (status : ℕ) → ScriptServed d once false first (Some bytes) disk was is status
     → TextServed d once first bytes was is status disk
 text_served d once first bytes disk was is status it = (
   it.old,
   it.begins,
   it.none,
-  subst (λ (t : List ℕ). ScriptServes d once t it.old disk was is status) it.read it.served,
+  subst (λ (t : List ℕ). EndsStrictly false (ScriptServes d once t it.old disk was) is status) it.read it.served,
 )
 
 -- What was done with an input that nobody asked, if it was asked about a new image alone.

@@ -9,7 +9,7 @@ use Rattle.im_program.specs.Told.{WorkDone}
 -- The exit status of work with this status: the same, but 1, 4 or 5 for a refusal if refusals are told apart.
 pub record EndsAs (statuses : Bool) (status result : ℕ) : Type 0 where
   pub same : (statuses ≡ false) ⊎ (status ≢ 1) → result ≡ status
-  pub few : status ≤ 3 → result ≤ 5
+  pub few : status ≤ 6 → result ≤ 6
   pub range : status ≡ 1 → (result ≡ 1) ⊎ (result ≡ 4) ⊎ (result ≡ 5)
 
 module _ {S T : Type 0} (start : Ghosts S) (other : Ghosts T) (d : DiskGhosts (FileDisk S start))

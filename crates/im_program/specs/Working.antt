@@ -2,13 +2,13 @@
 use Rattle.std.specs.Prelude.{◌≡◌, ℕ, Bool, true, false, List, [], IfOk, Some, None, Option, Result}
 use Rattle.std.specs.Borrow.{Bor}
 use Rattle.{im_types.specs.Types.AreLimits, im_types.specs.Types.Sizes, im_image.specs.Fresh.new_image}
-use Rattle.{im_migration.specs.declared.Asked.Asked, im_text.specs.Said.Output, im_text.specs.Said.output}
-use Rattle.{im_report.specs.Look.ShowsView, im_dump.specs.Dumping.Dumps, im_words.specs.declared.Formatting.Formatting}
+use Rattle.{im_migration.specs.declared.Asked.Asked, im_report.specs.Look.ShowsView, im_dump.specs.Dumping.Dumps}
+use Rattle.{im_run.specs.Once.RunsWhen, im_run.specs.Tracing.TraceState, im_words.specs.declared.Formatting.Formatting}
 use Rattle.im_disk.specs.declared.{Disk.Ghosts as DiskGhosts, FileDisk.FileDisk, Start.Ghosts}
 use Rattle.im_disk.specs.{Moment.Moment, Since.LeavesNow, Since.ReadsOnly}
+use Rattle.im_text.specs.{Said.Output, Said.output, Said.Written, Statuses.strict_status}
 use Rattle.im_dialogue.specs.{Backups.Backup, Dialogue.TalkedFrom, Talk.Outputs, Talk.outputs, Talk.with_input}
 use Rattle.im_serial.specs.{Once.SerialOnceOn, Serving.SerialOn}
-use Rattle.im_run.specs.{Once.RunsWhen, Tracing.TraceState}
 use Rattle.im_words.specs.declared.{ScriptRun.ScriptRun, Serving.Serving, Talking.Talking, Work.Work}
 use Rattle.im_words.specs.declared.Work.TheVariants.{Copy, Demonstration, Dump, Format, Inspect, Load, Migrate, Run}
 use Rattle.im_words.specs.declared.Work.TheVariants.{Serial, Serve}
@@ -29,42 +29,53 @@ WasFormatted d cells elements slots status disk = d.honest disk → (status ≡ 
     × HoldsNewImage d (record { cells = cells; elements = elements; slots = slots }) disk
 
 -- a script is served on a disk, once or anew
-abbrev pub ScriptServes : {D : Type 0} → DiskGhosts D → Bool → List ℕ → D → D → Output → Option (List ℕ) → ℕ → Type 0
+abbrev pub ScriptServes : {D : Type 0} → DiskGhosts D → Bool → List ℕ → D → D → Output → Written → ℕ → Type 0
 ScriptServes d true = SerialOnceOn d
 ScriptServes d false = SerialOn d
 
+-- A script was done with some status, and the writer holds this. It ends with that status, but if it is strict, with 6
+-- in the place of 0 if a line told an error of the program that asked.
+pub record EndsStrictly (strict : Bool) (Done : Written → ℕ → Type 0) (is : Option (List ℕ)) (status : ℕ) : Type 0
+  where
+    pub faulted : Bool
+    pub plain : ℕ
+    pub done : Done (is, faulted) plain
+    pub status_is : status ≡ strict_status strict faulted plain
+
 -- a script of these bytes, where they are known, was served on this disk, once or anew; the disk was at this moment,
 -- and had no moment before it
-pub record ScriptServed {D : Type 0} (d : DiskGhosts D) (once : Bool) (first : Moment) (known : Option (List ℕ))
+pub record ScriptServed {D : Type 0} (d : DiskGhosts D) (once strict : Bool) (first : Moment) (known : Option (List ℕ))
     (disk : D) (was : Output) (is : Option (List ℕ)) (status : ℕ) : Type 0 where
   pub old : D
   pub begins : d.now old ≡ first
   pub none : d.past old ≡ []
   pub text : List ℕ
   pub read : IsTextOf known text
-  pub served : ScriptServes d once text old disk was is status
+  pub served : EndsStrictly strict (ScriptServes d once text old disk was) is status
 
 -- this text was served on this disk, once or anew; the disk was at this moment, and had no moment before it
 abbrev pub TextServed : {D : Type 0} → DiskGhosts D → Bool → Moment → List ℕ → Output → Option (List ℕ) → ℕ → D → Type 0
 TextServed {D} d once first text was is status disk = (old : D) × (d.now old ≡ first) × (d.past old ≡ [])
-    × ScriptServes d once text old disk was is status
+    × EndsStrictly false (ScriptServes d once text old disk was) is status
 
 -- a script of these bytes, where they are known, was run on this disk, once or anew, freely or as a plan; the disk was
 -- at this moment, and had no moment before it
-pub record ScriptRan {D : Type 0} (d : DiskGhosts D) (planned once : Bool) (first : Moment) (known : Option (List ℕ))
-    (disk : D) (was : Output) (is : Option (List ℕ)) (calls : TraceState) (status : ℕ) : Type 0 where
+pub record ScriptRan {D : Type 0} (d : DiskGhosts D) (planned once strict : Bool) (first : Moment)
+    (known : Option (List ℕ)) (disk : D) (was : Output) (is : Option (List ℕ)) (calls : TraceState)
+    (status : ℕ) : Type 0 where
   pub old : D
   pub begins : d.now old ≡ first
   pub none : d.past old ≡ []
   pub text : List ℕ
   pub read : IsTextOf known text
-  pub run : RunsWhen d once planned text old disk was is calls status
+  pub run : EndsStrictly strict (λ is status. RunsWhen d once planned text old disk was is calls status) is status
 
 -- a script was served on this disk, if it is honest
 abbrev pub WasScriptServed : {D : Type 0} → DiskGhosts D → Moment → Serving (Bor (List ℕ)) → Option (List ℕ)
     → Option (List ℕ) → Option (List ℕ) → ℕ → D → Type 0
-WasScriptServed d first serving input was is status disk = d.honest disk → ScriptServed d serving.once first
-    (bytes_at serving.script.now input) disk (output serving.style was) is status
+WasScriptServed d first serving input was is status disk = d.honest disk
+    → ScriptServed d serving.once serving.strict first (bytes_at serving.script.now input) disk
+    (output serving.style was) is status
 
 -- this text was served on this disk, if it is honest
 abbrev pub WasTextServed : {D : Type 0} → DiskGhosts D → Moment → Bool → List ℕ → Output → Option (List ℕ) → ℕ → D
@@ -74,7 +85,7 @@ WasTextServed d first once text was is status disk = d.honest disk → TextServe
 -- a script was run on this disk, with this trace
 abbrev pub RanAs : {D : Type 0} → DiskGhosts D → Moment → ScriptRun (Bor (List ℕ)) → Option (List ℕ) → Option (List ℕ)
     → Option (List ℕ) → TraceState → ℕ → D → Type 0
-RanAs d first running input was is calls status disk = ScriptRan d running.planned running.once first
+RanAs d first running input was is calls status disk = ScriptRan d running.planned running.once running.strict first
     (bytes_at running.script.now input) disk (output running.style was) is calls status
 
 -- the same, with some trace, if the disk is honest
@@ -120,16 +131,16 @@ module _ {S T : Type 0} (start : Ghosts S) (other : Ghosts T) (d : DiskGhosts (F
       → Option (FileDisk T other) → Type 0
   DoneOn input Demonstration was is status disk old = ⊥
   DoneOn input (Format it) was is status disk old = WasFormatted d it.cells it.elements it.slots status disk
-  DoneOn input (Serial it) was is status disk old = d.honest disk → ScriptServed d it.once start.first
+  DoneOn input (Serial it) was is status disk old = d.honest disk → ScriptServed d it.once it.strict start.first
       (bytes_at it.script input) disk (output it.style was) is status
   DoneOn input (Run it) was is status disk old = d.honest disk → (calls : TraceState)
-      × ScriptRan d it.planned it.once start.first (bytes_at it.script input) disk (output it.style was) is calls
-      status
+      × ScriptRan d it.planned it.once it.strict start.first (bytes_at it.script input) disk (output it.style was) is
+      calls status
   DoneOn input (Serve it) was is status disk old = d.honest disk → (kept : List Backup)
       × TalkedFrom d it.watch start.first disk (with_input input (outputs was [])) (outputs is kept) status
   DoneOn input (Inspect it) was is status disk old =
       WasShown d start.first (ShowsView it.look start.first.bytes was is) status disk
-  DoneOn input (Dump image) was is status disk old =
+  DoneOn input (Dump it) was is status disk old =
       WasShown d start.first (Dumps start.first.bytes was is) status disk
   DoneOn input (Load it) was is status disk old = WasLoaded d start.first it.asked it.from input was is status disk
   DoneOn input (Migrate it) was is status disk old =

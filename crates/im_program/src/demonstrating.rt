@@ -64,7 +64,7 @@ fn serve_in_memory<W: Write, N: Observer<News>>(
         script: &script,
         style: Style::Text,
     };
-    let (status, _) = serial_on(alloc, disk, &styled, out, observer);
+    let (status, _disk, _faulted) = serial_on(alloc, disk, &styled, out, observer);
     Ok(status)
 }
 

@@ -11,6 +11,7 @@ use crate::dumping::dump_file;
 use crate::formatting::format_image;
 use crate::hand::AtHand;
 use crate::loading::load_file;
+use crate::log::tell_opening;
 use crate::looking::inspect_file;
 use crate::moving::migrate_file;
 use crate::overwriting::{Loss, may_be_made};
@@ -18,10 +19,11 @@ use crate::running::run_traced;
 use crate::serving::serve_file;
 use crate::settling::{settle_if, settle_new};
 use crate::talking::talk_file;
+use crate::watching::tell_size;
 use im_disk::{Disk, FileDisk, Start};
 use im_listening::Ear;
 use im_run::STALLED;
-use im_text::{News, Style};
+use im_text::{FAULTY, News, Style};
 use im_types::{Observer, Refusal};
 use im_words::{CommandLine, Formatting, Work};
 use std::fs::File;
@@ -75,10 +77,11 @@ pub(crate) fn do_work<
     out: &mut W,
     starts: (S, T),
 ) -> Result<(u8, Option<FileDisk<S>>, Option<FileDisk<T>>), Refusal>
-    ensures status { IfOk result (λ r. (r.0 ≤ 1) ⊎ (r.0 ≡ STALLED)) }
+    ensures status { IfOk result (λ r. (r.0 ≤ 1) ⊎ (r.0 ≡ STALLED) ⊎ (r.0 ≡ FAULTY)) }
     ensures done { IfOk result (λ r. LineDone S.Start T.Start ⟦<FileDisk<S> as Disk>⟧ ⟦<FileDisk<T> as Disk>⟧
         (I.remaining hand.entry.input.now) line.now.work (W.contents out.old) (W.contents out.new) r.0 r.1 r.2) }
 {
+    tell_size(hand.rt, &line.work, hand.observer.is_watched());
     let (start, other) = starts;
     match line.work {
         Work::Demonstration => Ok((demonstrate_at(hand, out), None, None)),
@@ -86,11 +89,12 @@ pub(crate) fn do_work<
         Work::Serial(it) => Ok(of_one(serve_file(hand, &it, out, start)?)),
         Work::Run(it) => Ok(of_one(run_traced(hand, &it, out, start)?)),
         Work::Serve(it) => {
+            tell_opening(hand.rt, &it, other);
             let mut folder = Folder::new(hand.rt, hand.held, it.backups);
             Ok(of_one(talk_file(hand, &it, &mut folder, out, start)?))
         }
         Work::Inspect(it) => Ok(of_one(inspect_file(hand, it.image, &it.look, out, start)?)),
-        Work::Dump(image) => Ok(of_one(dump_file(hand, image, out, start)?)),
+        Work::Dump(it) => Ok(of_one(dump_file(hand, &it, out, start)?)),
         Work::Load(it) => Ok(of_one(load_file(hand, &it, out, start)?)),
         Work::Migrate(it) => Ok(of_two(migrate_file(hand, &it, out, (start, other))?)),
         Work::Copy(it) => Ok(of_two(copy_file(hand, &it, out, (start, other))?)),
@@ -136,7 +140,7 @@ fn path_of<'a>(work: &Work<&'a str>) -> &'a str
         Work::Run(running) => running.image,
         Work::Serve(talking) => talking.image,
         Work::Inspect(it) => it.image,
-        Work::Dump(image) => image,
+        Work::Dump(it) => it.image,
         Work::Load(making) => making.new,
         Work::Migrate(moving) => moving.new,
         Work::Copy(making) => making.new,

@@ -13,6 +13,7 @@ mod formatting;
 mod hand;
 mod jobs;
 mod loading;
+mod log;
 mod looking;
 mod mounts;
 mod moving;
@@ -39,8 +40,8 @@ pub use dumping::dump_file;
 pub use formatting::format_file;
 pub use hand::AtHand;
 pub use im_words::{
-    CommandLine, DEFAULT_CELLS, DEFAULT_ELEMENTS, DEFAULT_SLOTS, Formatting, Inspection, Making,
-    Moving, ScriptRun, Serving, Talking, WordFault, Work, read_words,
+    CommandLine, DEFAULT_CELLS, DEFAULT_ELEMENTS, DEFAULT_SLOTS, Dumping, Formatting, Inspection,
+    Making, Moving, ScriptRun, Serving, Talking, WordFault, Work, read_words,
 };
 pub use loading::{LoadFault, load_file};
 pub use looking::inspect_file;

@@ -16,7 +16,7 @@ use im_run::{Assignment, RunContext, STALLED, Trace, run_on, run_on_plan, run_on
 use im_script::Script;
 use im_serial::StyledScript;
 use im_serving::{Host, Open, Standing, Teller};
-use im_text::{News, Style};
+use im_text::{FAULTY, News, Style, strict_status};
 use im_types::{Observer, Refusal};
 use im_words::ScriptRun;
 use std::fs::File;
@@ -47,10 +47,10 @@ fn run_task<
     task: RunTask<'_>,
     out: &mut W,
     observer: &mut N,
-) -> (u8, D, Trace)
+) -> (u8, D, Trace, bool)
     ensures status { (result.0 ≤ 1) ⊎ (result.0 ≡ STALLED) }
     ensures run { RunsWhen D.Disk task.entry.once task.entry.planned task.entry.script.now disk result.1
-        (output task.entry.style (W.contents out.old)) (W.contents out.new) result.2 result.0 }
+        (output task.entry.style (W.contents out.old)) (W.contents out.new, result.3) result.2 result.0 }
     ensures recorded { context.now.recorded ≡ true → result.2.recorded ≡ true }
 {
     let RunTask {
@@ -75,7 +75,8 @@ fn run_task<
 }
 
 /// Runs the script of one file on the image of another, each element's requests by threads of its own. The script may
-/// have glances, and is a plan if that is asked for. Returns the status of [`run_on`], the image's disk and the trace;
+/// have glances, and is a plan if that is asked for. Returns the status of [`run_on`], the image's disk and the trace.
+/// If it is strict, the status is [`FAULTY`] where it would be 0 and a line tells an error of the program that asked.
 /// [`run_on`] also says which lines are printed. The script is read first. The path `-` stands for the input, which is
 /// read to its end. If it is done once, [`run_once_on`] stands for [`run_on`] here, and else [`run_on_plan`] if it is a
 /// plan.
@@ -109,7 +110,7 @@ pub fn run_file<
     out: &mut W,
     start: S,
 ) -> Result<(u8, FileDisk<S>, Trace), Refusal>
-    ensures status { IfOk result (λ r. (r.0 ≤ 1) ⊎ (r.0 ≡ STALLED)) }
+    ensures status { IfOk result (λ r. (r.0 ≤ 1) ⊎ (r.0 ≡ STALLED) ⊎ (r.0 ≡ FAULTY)) }
     ensures ran { IfOk result (λ r. RanAs ⟦<FileDisk<S> as Disk>⟧ S.first running.now
         (I.remaining hand.entry.input.now) (W.contents out.old) (W.contents out.new) r.2 r.0 r.1) }
     ensures named { IfOk result (λ r. IsOpenAt ⟦<FileDisk<S> as Disk>⟧ S.path running.now.image.now r.1) }
@@ -128,7 +129,8 @@ pub fn run_file<
         once: running.once,
         planned: running.planned,
     };
-    Ok(run_task(&context, disk, task, out, observer))
+    let (status, disk, trace, faulted) = run_task(&context, disk, task, out, observer);
+    Ok((strict_status(running.strict, faulted, status), disk, trace))
 }
 
 /// Runs a script with threads for its elements, and writes its trace if one is asked for: as objects of JSON if its
@@ -144,7 +146,7 @@ pub(crate) fn run_traced<
     out: &mut W,
     start: S,
 ) -> Result<(u8, FileDisk<S>), Refusal>
-    ensures status { IfOk result (λ r. (r.0 ≤ 1) ⊎ (r.0 ≡ STALLED)) }
+    ensures status { IfOk result (λ r. (r.0 ≤ 1) ⊎ (r.0 ≡ STALLED) ⊎ (r.0 ≡ FAULTY)) }
     ensures ran { IfOk result (λ r. WasRun ⟦<FileDisk<S> as Disk>⟧ S.first running.now
         (I.remaining hand.entry.input.now) (W.contents out.old) (W.contents out.new) r.0 r.1) }
     ensures named { IfOk result (λ r. IsOpenAt ⟦<FileDisk<S> as Disk>⟧ S.path running.now.image.now r.1) }

@@ -10,7 +10,7 @@ use crate::opening::image_at;
 use crate::scripts::{read_file, script_in};
 use im_disk::{Disk, FileDisk, Start};
 use im_serial::{StyledScript, serial_on, serial_once_on};
-use im_text::{News, Style};
+use im_text::{FAULTY, News, Style, strict_status};
 use im_types::{Observer, Refusal};
 use im_words::Serving;
 use std::fs::File;
@@ -20,7 +20,8 @@ use std::rt::Files;
 /// Serves the script of one file on the image of another. Returns the status of [`serial_on`] and the image's disk;
 /// [`serial_on`] also says which lines are printed. The script is read first. The path `-` stands for the input, which
 /// is read to its end. If it is done once, what the image has of the script isn't asked anew: then [`serial_once_on`]
-/// stands for [`serial_on`] here.
+/// stands for [`serial_on`] here. If it is strict, the status is [`FAULTY`] where it would be 0 and a line tells an
+/// error of the program that asked.
 ///
 /// The clauses hold for whatever the image held when it was opened (`S`), as long as the file was honest. A crash at
 /// any moment since then leaves what [`serial_on`] says. It says that of the bytes that the input gives, where these
@@ -47,7 +48,7 @@ pub fn serve_file<
     out: &mut W,
     start: S,
 ) -> Result<(u8, FileDisk<S>), Refusal>
-    ensures status { IfOk result (λ r. r.0 ≤ 1) }
+    ensures status { IfOk result (λ r. (r.0 ≤ 1) ⊎ (r.0 ≡ FAULTY)) }
     ensures served { IfOk result (λ r. WasScriptServed ⟦<FileDisk<S> as Disk>⟧ S.first serving.now
         (I.remaining hand.entry.input.now) (W.contents out.old) (W.contents out.new) r.0 r.1) }
     ensures named { IfOk result (λ r. IsOpenAt ⟦<FileDisk<S> as Disk>⟧ S.path serving.now.image.now r.1) }
@@ -64,9 +65,11 @@ pub fn serve_file<
         style: serving.style,
     };
     if once {
-        Ok(serial_once_on(rt.alloc(), disk, &styled, out, observer))
+        let (status, disk, faulted) = serial_once_on(rt.alloc(), disk, &styled, out, observer);
+        Ok((strict_status(serving.strict, faulted, status), disk))
     } else {
-        Ok(serial_on(rt.alloc(), disk, &styled, out, observer))
+        let (status, disk, faulted) = serial_on(rt.alloc(), disk, &styled, out, observer);
+        Ok((strict_status(serving.strict, faulted, status), disk))
     }
 }
 
@@ -86,6 +89,7 @@ pub fn serve_input<R: Files<File = File> + AllocGlobal, S: Start, W: Write, N: O
         image,
         script: "-",
         once,
+        strict: false,
         style: Style::Text,
     };
     serve_file(hand, &serving, out, start)

@@ -1,6 +1,8 @@
 //! How files are called in messages.
 
-use im_words::{Formatting, Inspection, Making, Moving, ScriptRun, Serving, Talking, Work};
+use im_words::{
+    Dumping, Formatting, Inspection, Making, Moving, ScriptRun, Serving, Talking, Work,
+};
 use std::fmt;
 use std::fmt::{Display, Formatter};
 use std::path::Path;
@@ -29,7 +31,8 @@ pub(crate) fn paths_of<'a>(work: &Work<&'a str>) -> (&'a str, &'a str) {
     match *work {
         Work::Demonstration => ("", ""),
         Work::Format(Formatting { image, .. }) => (image, ""),
-        Work::Inspect(Inspection { image, .. }) | Work::Dump(image) => (image, ""),
+        Work::Inspect(Inspection { image, .. }) => (image, ""),
+        Work::Dump(Dumping { image, .. }) => (image, ""),
         Work::Serial(Serving { image, script, .. }) => (image, script),
         Work::Run(ScriptRun { image, script, .. }) => (image, script),
         Work::Serve(Talking { image, .. }) => (image, "-"),

@@ -9,7 +9,7 @@ use im_text::{PathFault, Reason};
 /// set, the status is 1 and there is a reason, it is that of the last reason ([`Reason::status`]).
 pub fn status_for(status: u8, statuses: bool, reason: Option<Reason>) -> u8
     ensures same { (statuses ≡ false) ⊎ (status ≢ 1) → result ≡ status }
-    ensures few { status ≤ 3 → result ≤ 5 }
+    ensures few { status ≤ 6 → result ≤ 6 }
     ensures range { status ≡ 1 → (result ≡ 1) ⊎ (result ≡ 4) ⊎ (result ≡ 5) }
     ensures in_use { statuses ≡ true → status ≡ 1 → reason ≡ Some (Reason.File PathFault.InUse) → result ≡ 4 }
     ensures image { (refusal : Refusal) (damage : Damage) → statuses ≡ true → status ≡ 1

@@ -11,7 +11,7 @@ use crate::overwriting::Loss;
 use im_disk::{Disk, FileDisk, Start};
 use im_listening::Ear;
 use im_run::STALLED;
-use im_text::{News, PathFault, Reason, Style, put_refusal};
+use im_text::{FAULTY, News, PathFault, Reason, Style, put_refusal};
 use im_types::{Observer, Refusal};
 use im_words::CommandLine;
 use std::alloc::Global;
@@ -37,7 +37,8 @@ fn or_refused<S: Start, T: Start, W: Write>(
 }
 
 /// Does the work of a command line. Returns the status that the program ends with: 0; 1 if something was refused or a
-/// write of the output failed; of a run 3 if its elements wait for each other. Also returns the disk of the image or of
+/// write of the output failed; of a run 3 if its elements wait for each other; of a strict script 6 if all was served
+/// and a reply tells an error of the script. Also returns the disk of the image or of
 /// the new file, if it was made or opened, and of a migration or a copy that of the old file. A dialogue reads the
 /// input, and so does a script or a dump with the path `-`. The output goes to `out`, a refusal as its last line
 /// `refused N NAME`.
@@ -46,8 +47,10 @@ fn or_refused<S: Start, T: Start, W: Write>(
 ///
 /// - The reason of a refusal. If a call of the disk failed, it says which. If that was a sync, it also says that the
 ///   file system is to be mounted anew, and a note is left beside the image.
-/// - `K.N now REPLY` for a request that waited when the image was opened and whose entry is confirmed.
-/// - How far a long script has come, if somebody watches.
+/// - `K.N now REPLY` for a request that waited when the image was opened, and is answered and kept at the end.
+/// - `confirmed K.N REPLY` for an entry of an earlier script that is confirmed, since a window is full.
+/// - How far a long script has come, and how many bytes of a large image are read or written first, if somebody
+///   watches.
 /// - Which cells or elements the image has, if a report was asked for others alone.
 ///
 /// If standard input is a terminal, a person is asked before an image replaces a file that isn't empty. Else, if such a
@@ -76,7 +79,7 @@ pub fn act<
     out: &mut W,
     starts: (S, T),
 ) -> (u8, Option<FileDisk<S>>, Option<FileDisk<T>>)
-    ensures status { (result.0 ≤ 1) ⊎ (result.0 ≡ STALLED) }
+    ensures status { (result.0 ≤ 1) ⊎ (result.0 ≡ STALLED) ⊎ (result.0 ≡ FAULTY) }
     ensures done { LineDone S.Start T.Start ⟦<FileDisk<S> as Disk>⟧ ⟦<FileDisk<T> as Disk>⟧
         (I.remaining hand.entry.input.now) line.now.work (W.contents out.old) (W.contents out.new)
         result.0 result.1 result.2 }

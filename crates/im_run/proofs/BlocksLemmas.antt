@@ -108,12 +108,12 @@ module _ {D : Type 0} where
   pub begun : (c : Course) (s : ScriptServer D) (bases : List ℕ) → HasServedNothing s bases → c.earlier ≡ []
       → GoingAt s.session.start (output_of s) (standing (Some c) c.first (c.wanted ++ [])) s
   begun c s bases ready none = let m = s.session.start.memory in
-      going_from c s.session (output_of s) s.lines s.waited s.marks ready.fresh ready.works
+      going_from c s.session s.held s.lines s.waited s.marks ready.fresh ready.works
       (record {
         memory = subst (λ (x : Contents). IsMemory (length x.cells) (length x.windows) x)
             (sym (ap (λ (t : SessionState D). t.start.memory) ready.fresh)) ready.memory;
         noted = subst (AreNoted m [] 0 0 s.marks) (sym ready.waited) (λ at w is. absurd (no_item w is));
-      }) (ap (map who_of) ready.waited ∙ sym none) refl ready.pending
+      }) (ap (map who_of) ready.waited ∙ sym none) ready.pending
     where
       no_item : (w : Waited) → ◌≡◌ {A = Option Waited} None (Some w) → ⊥
       no_item w is = cc

@@ -2,11 +2,12 @@
 use Rattle.std.proofs.Common.{◌≡◌, ℕ, zero, suc, ◌+◌, Bool, true, false, ◌⊎◌, List, [], ◌++◌, length, take, Some}
 use Rattle.std.proofs.Common.{Option, sym, refl, ap, ◌∙◌, subst, inl, inr, ⊎_elim, append-nil, arith, length-append}
 use Rattle.im_types.specs.Types.{Command, Limits, Contents, after, accept_each, Means}
-use Rattle.{im_laws.proofs.RunLemmas.after-append, im_engine.proofs.Keeping.accept_both, im_text.specs.Said.Output}
+use Rattle.{im_laws.proofs.RunLemmas.after-append, im_engine.proofs.Keeping.accept_both}
 use Rattle.im_disk.{proofs.SinceLemmas.leaves_now, specs.declared.Disk.Ghosts, specs.Moment.Left, specs.Since.LeavesNow}
 use Rattle.im_session.{proofs.AcceptedLemmas.each_accepted, specs.Carrying.LedBy}
 use Rattle.im_session.proofs.CarryLemmas.{began_with, BeganWith, carried}
 use Rattle.im_session.specs.Kept.{Kept, MeansPut, session_of, SessionStart, SessionState}
+use Rattle.im_text.specs.Said.{Output, Written}
 use Rattle.im_serial.proofs.BegunLemmas.{accepted_after, accepted_first}
 use Rattle.im_serial.specs.{Begun.new_memory, Serving.NotOpened}
 use Rattle.im_run.proofs.PlanStops.{has_all, plan_stops, Stops}
@@ -61,7 +62,7 @@ module _ {D : Type 0} (disk : Ghosts D) (s : SessionState D) (kept : Kept disk s
 -- ---- a run that went on
 
 module _ {D : Type 0} (disk : Ghosts D) (limits : Limits) (planned : Bool) (text : List ℕ) (start : SessionStart D)
-    (new : D) (was : Output) (is : Option (List ℕ)) (calls : TraceState) (status : ℕ)
+    (new : D) (was : Output) (is : Written) (calls : TraceState) (status : ℕ)
     (it : RanRest disk planned text start new was is calls status) (h : disk.honest it.run.engine.disk) where
   abbrev run_session : SessionState D
   run_session = session_of start it.run.put it.run.doubt it.run.engine
@@ -119,7 +120,7 @@ module _ {D : Type 0} (disk : Ghosts D) (limits : Limits) (planned : Bool) (text
 
 -- ---- one run more
 
-module _ {D : Type 0} (disk : Ghosts D) (planned : Bool) (text : List ℕ) (was : Output) (is : Option (List ℕ))
+module _ {D : Type 0} (disk : Ghosts D) (planned : Bool) (text : List ℕ) (was : Output) (is : Written)
     (calls : TraceState) (status : ℕ) where
   no_end : status ≡ 1 → status ≡ 0 → ⊥
   no_end one well = omega (arith, one, well)
@@ -151,7 +152,7 @@ module _ {D : Type 0} (disk : Ghosts D) (planned : Bool) (text : List ℕ) (was 
             zero;
       })
 
-  pub once_keeps : (old new : D) → NotOpened disk.now disk.past old new was is status
+  pub once_keeps : (old new : D) → NotOpened disk.now disk.past old new was is.0 status
       ⊎ ((start : SessionStart D) × ((start.disk ≡ old) × EndsOnce disk planned text start new was is calls status))
       → disk.honest new → KeepsRun disk planned text old new status
   once_keeps old new (inl it) honest = keeps_all old new it.status_is (λ P before file left.

@@ -5,7 +5,7 @@ use Rattle.im_types.specs.Types.{Command, Contents, IsMemory}
 use Rattle.{im_disk.specs.declared.Disk.Ghosts, im_text.proofs.SaidLemmas.prints_none}
 use Rattle.im_session.specs.Kept.{IsFresh, Kept, session_of, SessionStart, SessionState}
 use Rattle.im_text.specs.declared.{OutputLine.OutputLine, Style.Style, Waited.Waited}
-use Rattle.im_text.specs.Said.{IsLast, Output, output, Prints, SaysSome, SaysWhole}
+use Rattle.im_text.specs.Said.{IsLast, Output, Prints, SaysSome, SaysWhole, Written}
 use Rattle.im_serial.proofs.OnceLemmas.{met_start, shown_at, shown_written}
 use Rattle.im_serial.specs.{Asked.Wanted, Asked.wanted_of, Fitting.FitsScript, Had.bases_had, Had.numbers_had}
 use Rattle.im_serial.specs.Once.{Breaks, HasMade, HasServedNothing, HasShown, IsPrefix, lines_had}
@@ -25,10 +25,10 @@ module _ {D : Type 0} (disk : Ghosts D) (script : List Wanted) (old mid : Script
   -- it was ended before the run
   pub unrun_by : mid.session ≡ old.session → Kept disk mid.session
       → Breaks (numbers_had old.session.engine.memory) script old mid
-      → FitsScript old.session.engine.memory script ⊎ (mid ≡ old) → (new : D) (is : Option (List ℕ))
+      → FitsScript old.session.engine.memory script ⊎ (mid ≡ old) → (new : D) (is : Written)
       (calls : TraceState) (status : ℕ) → status ≡ 1 → new ≡ mid.session.engine.disk
       → ((start : Output) (text : List OutputLine) → Prints start mid.held mid.lines text
-      → (last : List OutputLine) × (IsLast last × SaysSome start is (text ++ last)))
+      → (last : List OutputLine) × IsLast last × SaysSome start is (text ++ last))
       → calls ≡ record { setup = []; served = []; recorded = true }
       → IsUnrun disk script old.session.start new (output_of old) is calls status
   unrun_by same kept breaks fit new is calls status one at_disk last none = ⊎_elim by_fit by_same fit
@@ -50,8 +50,8 @@ module _ {D : Type 0} (disk : Ghosts D) (script : List Wanted) (old mid : Script
         had_is = had_is;
         fit = fits;
         last = end.0;
-        last_is = end.1.0;
-        begins = end.1.1;
+        last_is = end.1;
+        begins = end.2;
         unserved = none;
       }
 
@@ -66,7 +66,7 @@ module _ {D : Type 0} (disk : Ghosts D) (script : List Wanted) (old mid : Script
       by_same : mid ≡ old → IsUnrun disk script old.session.start new (output_of old) is calls status
       by_same it = make [] (lines_had found (numbers_had found) script, refl) (inr refl)
           (subst (λ (t : ScriptServer D). Prints (output_of old) t.held t.lines []) (sym it)
-          (prints_none (output_of old) old.lines refl ready.pending))
+          (prints_none old.held old.lines ready.pending))
 
   module _ (known : List ℕ) (it : HasShown script bases known old mid) where
     -- the run can begin
@@ -92,24 +92,26 @@ module _ {D : Type 0} (disk : Ghosts D) (script : List Wanted) (old mid : Script
 
     -- it ran
     pub rest_by : (planned : Bool) (text : List ℕ) → script ≡ wanted_of text
-        → FitsScript old.session.engine.memory script → (new : D) (is : Option (List ℕ)) (calls : TraceState)
+        → FitsScript old.session.engine.memory script → (new : D) (is : Written) (calls : TraceState)
         (status : ℕ) → RunWhen disk true planned text mid.session.start new (output_of mid) is calls status
         → RanRest disk planned text old.session.start new (output_of old) is calls status
     rest_by planned text same fit new is calls status run = record {
       fit = subst (FitsScript found) same (subst (λ (m : Contents). FitsScript m script) found_is fit);
       made = subst (HasMade found) same (subst (λ (m : Contents). HasMade m script) found_is it.made);
-      mid = mid.held;
-      shown = subst (λ (s : List Wanted). SaysWhole (output_of old) mid.held (lines_had found (numbers_had found) s))
+      mid = (mid.held, mid.lines.faulted);
+      shown = subst (λ (s : List Wanted). SaysWhole (output_of old) (mid.held, mid.lines.faulted)
+          (lines_had found (numbers_had found) s))
           same (shown_written script bases known old mid it fit ready);
-      run = subst (λ (t : SessionState D). RunWhen disk true planned text t.start new (output old.lines.style mid.held)
-          is calls status) it.session
-          (subst (λ (s : Style). RunWhen disk true planned text mid.session.start new (output s mid.held) is calls
-          status) (shown_at script bases known old mid it fit ready).1.1.styled run);
+      run = subst (λ (t : SessionState D). RunWhen disk true planned text t.start new
+          (record (output_of mid) { style = old.lines.style }) is calls status) it.session
+          (subst (λ (s : Style). RunWhen disk true planned text mid.session.start new
+          (record (output_of mid) { style = s }) is calls status)
+          (shown_at script bases known old mid it fit ready).1.1.styled run);
     }
 
 -- the disk was honest at the start, if it is at the end
 pub ends_honest : {D : Type 0} (disk : Ghosts D) (once planned : Bool) (text : List ℕ) (start : SessionStart D)
-    (new : D) (was : Output) (is : Option (List ℕ)) (calls : TraceState) (status : ℕ)
+    (new : D) (was : Output) (is : Written) (calls : TraceState) (status : ℕ)
     → EndsWhen disk once planned text start new was is calls status → disk.honest new → disk.honest start.disk
 ends_honest disk false planned text start new was is calls status it honest =
     it.kept.honest (subst disk.honest it.closed honest)

@@ -9,7 +9,7 @@ use Rattle.im_session.specs.Kept.{Kept, session_of, SessionStart, SessionState}
 use Rattle.im_controller.specs.Kept.{accepted_in, Begun, begun_by, IsSessionOf, origin_of}
 use Rattle.im_text.proofs.{SaidLemmas.prints_begins, TextLemmas.written_none}
 use Rattle.im_text.specs.declared.{Lines.Lines, OutputLine.OutputLine, Waited.Waited}
-use Rattle.im_text.specs.Said.{IsLast, Output, Prints, PrintsMore, replies, SaysSome, SaysWhole}
+use Rattle.im_text.specs.Said.{IsLast, Output, Prints, PrintsMore, replies, SaysSome, SaysWhole, Written}
 use Rattle.im_serial.specs.{Asked.Course, Asked.Standing, Asked.Wanted, Noted.Notes, Serving.IsOver, Serving.IsServing}
 use Rattle.im_run.proofs.DoingLemmas.{told_weaker}
 use Rattle.im_run.specs.declared.{run.TheConstants.STALLED, served.Did.Did}
@@ -99,8 +99,9 @@ pub closed_by : (was mid is : Option (List ℕ)) (before after final : Lines) (m
     → (status ≡ 0 → PrintsMore was before mid after (finals m did (length did)))
     → ((start : Output) (text : List OutputLine) → Prints start mid after text
     → (last : List OutputLine) × (IsLast last × Prints start is final (text ++ last)))
-    → (status ≡ 0 → (start : Output) (text : List OutputLine) → Prints start mid after text → SaysWhole start is text)
-    → Closes was before is m did status
+    → (status ≡ 0 → (start : Output) (text : List OutputLine) → Prints start mid after text
+    → SaysWhole start (is, final.faulted) text)
+    → Closes was before (is, final.faulted) m did status
 closed_by was mid is before after final m did status some all last whole = λ start text it.
     let end = last start (text ++ finals m did some.0) (some.2 start text it) in (
       (
@@ -114,7 +115,7 @@ closed_by was mid is before after final m did status some all last whole = λ st
     )
 
 -- nothing was done, so that it is told of any memory
-none_done : (start : Output) (is : Option (List ℕ)) (text : List OutputLine) (m n : Contents) (did : List Did)
+none_done : (start : Output) (is : Written) (text : List OutputLine) (m n : Contents) (did : List Did)
     → did ≡ []
     → BeginsFinals start is text m did → BeginsFinals start is text n did
 none_done start is text m n did none begins =
@@ -165,7 +166,7 @@ module _ {D : Type 0} (disk : Ghosts D) (once planned : Bool) (script : List ℕ
 
   -- the setup was ended
   pub halted_run : (course : Option Course) (waited : List Waited) (text : List OutputLine) (was : Output)
-      (mid is : Option (List ℕ))
+      (mid : Option (List ℕ)) (is : Written)
       (lines : Lines) (did : List Did) (new : D) (calls : TraceState) (status : ℕ)
       → IsOver start t course text waited → Kept disk t → Prints was mid lines text → did ≡ [] → new ≡ t.engine.disk
       → ((status ≡ 0) ⊎ (status ≡ STALLED) → t.engine.failed ≡ false) → (status ≡ 0 → ⊥)
@@ -205,7 +206,7 @@ module _ {D : Type 0} (disk : Ghosts D) (once planned : Bool) (script : List ℕ
 
   -- the elements' servers ended
   pub ended_run : (bases : List ℕ) (whole : Option (List Ask)) (orders : List Ask) (s : Standing) (n : Notes)
-      (text : List OutputLine) (was : Output) (held is : Option (List ℕ)) (lines : Lines) (new : D)
+      (text : List OutputLine) (was : Output) (held : Option (List ℕ)) (is : Written) (lines : Lines) (new : D)
       (calls : TraceState) (status : ℕ)
       → IsServing start t s text n → Prints was held lines text
       → EndedOn disk planned whole orders t new held lines is calls.served status

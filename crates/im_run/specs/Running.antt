@@ -7,7 +7,7 @@ use Rattle.{im_damage.specs.declared.Damage.TheVariants.Unknown, im_text.specs.T
 use Rattle.im_session.specs.Kept.{Kept, session_of, SessionStart, SessionState}
 use Rattle.im_text.specs.declared.{Lines.Lines, OutputLine.OutputLine, OutputLine.TheVariants.Glance, Waited.Waited}
 use Rattle.im_text.specs.declared.Reason.{Reason, TheVariants.Image, TheVariants.Request}
-use Rattle.im_text.specs.Said.{IsLast, Output, Prints, PrintsMore, replied, replies, SaysSome, SaysWhole}
+use Rattle.im_text.specs.Said.{IsLast, Output, Prints, PrintsMore, replied, replies, SaysSome, SaysWhole, Written}
 use Rattle.im_serial.specs.{Asked.Wanted, Serving.NotOpened}
 use Rattle.im_run.specs.{Alone.AreCallsOf, Doing.AreAllTold, Doing.HasToldScript, Tracing.TraceState}
 use Rattle.im_run.specs.declared.{run.TheConstants.STALLED, sheet.Order.Order}
@@ -55,14 +55,14 @@ PrintsFinals was before is after m did =
 
 -- a prefix of these lines was written: what was printed before, the lines of the first of these, and the line of a
 -- refusal
-abbrev pub BeginsFinals : Output → Option (List ℕ) → List OutputLine → Contents → List Did → Type 0
+abbrev pub BeginsFinals : Output → Written → List OutputLine → Contents → List Did → Type 0
 BeginsFinals start is text m did =
     (many : ℕ) × ((many ≤ length did)
     × ((last : List OutputLine) × (IsLast last × SaysSome start is (text ++ finals m did many ++ last))))
 
 -- After what was printed before, the lines of the first of these and of a refusal are written, as far as the writer
 -- took them. If the status is 0, the lines of all of these are.
-abbrev pub Closes : Option (List ℕ) → Lines → Option (List ℕ) → Contents → List Did → ℕ → Type 0
+abbrev pub Closes : Option (List ℕ) → Lines → Written → Contents → List Did → ℕ → Type 0
 Closes was before is m did status = (start : Output) (text : List OutputLine) → Prints start was before text
     → BeginsFinals start is text m did × (status ≡ 0 → SaysWhole start is (text ++ finals m did (length did)))
 
@@ -86,7 +86,7 @@ pub record ServersEnded {D : Type 0} (disk : Ghosts D) (planned : Bool) (whole :
 
 -- A session's servers of these orders ended with this trace, the session was closed, and this status was given.
 pub record EndedOn {D : Type 0} (disk : Ghosts D) (planned : Bool) (whole : Option (List Ask)) (orders : List Ask)
-    (begun : SessionState D) (new : D) (was : Option (List ℕ)) (before : Lines) (is : Option (List ℕ))
+    (begun : SessionState D) (new : D) (was : Option (List ℕ)) (before : Lines) (is : Written)
     (trace : List Line) (status : ℕ) : Type 0 where
   pub engine : EngineState D
   pub closed : new ≡ engine.disk
@@ -97,8 +97,9 @@ pub record EndedOn {D : Type 0} (disk : Ghosts D) (planned : Bool) (whole : Opti
 
 -- What was printed, at the end: a prefix of this text, and all of it if the status is 0. The text is first the lines of
 -- the first commands of the setup. Then come the lines of what was done: of the requests that were sent, each with its
--- final entry in the memory after all that was put, and of the glances. Then comes the line of a refusal.
-pub record Says (start : Contents) (setup put : List Command) (was : Output) (is : Option (List ℕ)) (status : ℕ)
+-- final entry in the memory after all that was put, and of the glances. Then comes the line of a refusal. It is known
+-- whether a line of the text tells an error of the program that asked.
+pub record Says (start : Contents) (setup put : List Command) (was : Output) (is : Written) (status : ℕ)
     : Type 0 where
   pub said : List Command
   pub others : List Command
@@ -124,7 +125,7 @@ pub record HasEndedSetup (s : Scope) (start : Contents) (setup doubt : List Comm
 -- the setup, of all that was put, of those in doubt, and of the parts' orders. Or its setup was ended.
 pub record RunOn {D : Type 0} (disk : Ghosts D) (s : Scope)
     (Also : List Command → List Command → List Command → List Ask → Type 0) (start : SessionStart D) (new : D)
-    (was : Output) (is : Option (List ℕ)) (calls : TraceState) (status : ℕ) : Type 0 where
+    (was : Output) (is : Written) (calls : TraceState) (status : ℕ) : Type 0 where
   pub put : List Command
   pub doubt : List Command
   pub engine : EngineState D
@@ -141,20 +142,20 @@ pub record RunOn {D : Type 0} (disk : Ghosts D) (s : Scope)
 -- The image was opened, and a session began of which this is so; or it was not opened. The disk was honest at the
 -- start, if it is at the end; what came of it holds of such a disk.
 pub record Opened {D : Type 0} (disk : Ghosts D) (Came : SessionStart D → Type 0) (old new : D) (was : Output)
-    (is : Option (List ℕ)) (status : ℕ) : Type 0 where
+    (is : Written) (status : ℕ) : Type 0 where
   pub honest : disk.honest new → disk.honest old
-  pub came : disk.honest new → NotOpened disk.now disk.past old new was is status
+  pub came : disk.honest new → NotOpened disk.now disk.past old new was is.0 status
       ⊎ ((start : SessionStart D) × ((start.disk ≡ old) × Came start))
 
 -- all of a script was run
-abbrev pub RunsOn : {D : Type 0} → Ghosts D → List ℕ → D → D → Output → Option (List ℕ) → TraceState → ℕ
+abbrev pub RunsOn : {D : Type 0} → Ghosts D → List ℕ → D → D → Output → Written → TraceState → ℕ
     → Type 0
 RunsOn disk text old new was is calls status = Opened disk
     (λ start. RunOn disk (all_of text) (λ setup put doubt orders. Unit {0}) start new was is calls status) old new was
     is status
 
 -- all of a script was run by the plan of its requests
-abbrev pub RunsPlanOn : {D : Type 0} → Ghosts D → List ℕ → D → D → Output → Option (List ℕ) → TraceState → ℕ
+abbrev pub RunsPlanOn : {D : Type 0} → Ghosts D → List ℕ → D → D → Output → Written → TraceState → ℕ
     → Type 0
 RunsPlanOn disk text old new was is calls status = Opened disk (λ start. RunOn disk (all_of text)
     (GoesByPlan start.memory calls.served (status ≡ 0)) start new was is calls status) old new was is status

@@ -92,19 +92,20 @@ pub struct Ending<D: Disk> {
     pub done: Result<(), Reason>,
 }
 
-/// Prints the lines of what was done, and the refusal, and closes the session. Returns the status and its disk.
+/// Prints the lines of what was done, and the refusal, and closes the session. Returns the status, its disk, and
+/// whether a line told an error.
 pub fn close<D: Disk, W: Write, N: Observer<News>>(
     ending: Ending<D>,
     mut lines: Lines,
     out: &mut W,
     observer: &mut N,
-) -> (u8, D)
+) -> (u8, D, bool)
     ensures status { (result.0 ≤ 1) ⊎ (result.0 ≡ STALLED) }
     ensures disk { result.1 ≡ ending.session.engine.disk }
     ensures kept { Kept D.Disk ending.session }
     ensures works { (result.0 ≡ 0) ⊎ (result.0 ≡ STALLED) → ending.session.engine.failed ≡ false }
     ensures done { result.0 ≡ 0 → IsOk ending.done }
-    ensures printed { Closes (W.contents out.old) lines (W.contents out.new) ending.session.engine.memory
+    ensures printed { Closes (W.contents out.old) lines (W.contents out.new, result.2) ending.session.engine.memory
         ending.did.items result.0 }
 {
     let failed = ending.session.engine().failed();
@@ -117,5 +118,9 @@ pub fn close<D: Disk, W: Write, N: Observer<News>>(
     );
     let stalled = is_stalled(&ended);
     let status = finish(both(ended, told), &mut lines, out, &mut Behind { observer });
-    (status_of(failed, stalled, status), ending.session.close())
+    (
+        status_of(failed, stalled, status),
+        ending.session.close(),
+        lines.faulted(),
+    )
 }

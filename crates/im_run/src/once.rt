@@ -1,7 +1,7 @@
 //! A script that is run once, whatever stopped it before.
 ghost use Rattle.std.specs.Prelude.{◌≡◌, ◌≤◌, true, ◌⊎◌, List, ◌++◌};
 ghost use Rattle.{im_session.specs.Kept.Kept, im_text.specs.declared.OutputLine.OutputLine};
-ghost use Rattle.im_text.specs.Said.{IsLast, Output, output, Prints, SaysSome};
+ghost use Rattle.im_text.specs.Said.{IsLast, Output, output, output_by, Prints, SaysSome};
 ghost use Rattle.im_serial.specs.{Once.HasServedNothing, Serving.seen_by};
 ghost use Rattle.im_run.specs.Once.{EndsOnce, RunsOnceOn};
 
@@ -17,26 +17,27 @@ use im_text::{News, Reason, finish};
 use im_types::Observer;
 use std::io::Write;
 
-// Prints a refusal behind the lines that are kept back. Returns the status and the session's disk.
+// Prints a refusal behind the lines that are kept back. Returns the status, the session's disk, and whether a line told
+// an error.
 fn refuse_rest<D: Disk, W: Write, N: Observer<News>>(
     server: Server<D>,
     reason: Reason,
     out: &mut W,
     observer: &mut N,
-) -> (u8, D)
+) -> (u8, D, bool)
     ensures status { result.0 ≡ 1 }
     ensures disk { result.1 ≡ server.session.engine.disk }
     ensures kept { Kept D.Disk server.session }
-    ensures last { (start : Output) (text : List OutputLine) → Prints start (W.contents out.old) server.lines text
-        → (last : List OutputLine) × (IsLast last × SaysSome start (W.contents out.new) (text ++ last)) }
+    ensures last { (from : Output) (text : List OutputLine) → Prints from (W.contents out.old) server.lines text
+        → (last : List OutputLine) × IsLast last × SaysSome from (W.contents out.new, result.2) (text ++ last) }
 {
     let (session, mut lines) = server.leave();
     let _status = finish(Err(reason), &mut lines, out, observer);
-    (1, session.close())
+    (1, session.close(), lines.faulted())
 }
 
-/// Prints what the memory of a server has of a script, and runs the rest. Returns the status, the session's disk, and
-/// the trace.
+/// Prints what the memory of a server has of a script, and runs the rest. Returns the status, the session's disk, the
+/// trace, and whether a line told an error.
 pub(crate) fn run_rest<
     D: Disk + Drop + Send,
     W: Write,
@@ -50,11 +51,11 @@ pub(crate) fn run_rest<
     asked: Commission<'_, '_>,
     out: &mut W,
     observer: &mut N,
-) -> (u8, D, Trace)
+) -> (u8, D, Trace, bool)
     requires ready { HasServedNothing (seen_by server (W.contents out.old)) server.bases.items }
     ensures status { (result.0 ≤ 1) ⊎ (result.0 ≡ STALLED) }
     ensures ends { EndsOnce D.Disk asked.entry.planned asked.entry.script.now server.session.start result.1
-        (output server.lines.style (W.contents out.old)) (W.contents out.new) result.2 result.0 }
+        (output_by server.lines (W.contents out.old)) (W.contents out.new, result.3) result.2 result.0 }
     ensures recorded { context.now.recorded ≡ true → result.2.recorded ≡ true }
 {
     let alloc = context.alloc;
@@ -72,15 +73,15 @@ pub(crate) fn run_rest<
             run_server(context, server, asked, out, observer)
         }
         Err(reason) => {
-            let (status, disk) = refuse_rest(server, reason, out, observer);
-            (status, disk, Trace::new(alloc))
+            let (status, disk, faulted) = refuse_rest(server, reason, out, observer);
+            (status, disk, Trace::new(alloc), faulted)
         }
     }
 }
 
-/// Runs what the image of a disk doesn't have of a script, and gives the disk back, with the trace: the n-th request of
-/// an element in the script has number n, and the blocks of the setup are element 0's first requests. So a script that
-/// was stopped is gone on with by the same call. What it prints goes to `out`, in this order:
+/// Runs what the image of a disk doesn't have of a script, and returns what [`run_on`](crate::run_on) does: the n-th
+/// request of an element in the script has number n, and the blocks of the setup are element 0's first requests. So a
+/// script that was stopped is gone on with by the same call. What it prints goes to `out`, in this order:
 ///
 /// - For each request that the image has, in the script's order: `K.N REPLY`, what is kept for it, or `K.N done` if it
 ///   was confirmed. These lines are written out before anything is served.
@@ -116,10 +117,10 @@ pub fn run_once_on<
     asked: Assignment<'_, '_>,
     out: &mut W,
     observer: &mut N,
-) -> (u8, D, Trace)
+) -> (u8, D, Trace, bool)
     ensures status { (result.0 ≤ 1) ⊎ (result.0 ≡ STALLED) }
     ensures run { RunsOnceOn D.Disk asked.entry.planned asked.entry.script.now disk result.1
-        (output asked.entry.style (W.contents out.old)) (W.contents out.new) result.2 result.0 }
+        (output asked.entry.style (W.contents out.old)) (W.contents out.new, result.3) result.2 result.0 }
     ensures recorded { context.now.recorded ≡ true → result.2.recorded ≡ true }
 {
     let asked = Commission {

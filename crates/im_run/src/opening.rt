@@ -1,6 +1,6 @@
 //! The opening of an image, before a script is run on it.
-ghost use Rattle.std.specs.Prelude.{◌≡◌, IfOk, IfErr, OnOk};
-ghost use Rattle.im_text.specs.Said.{output};
+ghost use Rattle.std.specs.Prelude.{◌≡◌, IfOk, IfErr};
+ghost use Rattle.im_text.specs.Said.{output, output_by};
 ghost use Rattle.im_serial.specs.{Once.HasServedNothing, Serving.NotOpened, Serving.seen_by};
 
 use im_disk::Disk;
@@ -22,9 +22,9 @@ pub(crate) fn open_server<D: Disk, W: Write, N: Observer<News>>(
 ) -> Result<Server<D>, (u8, D)>
     ensures nothing { IfOk result (λ server. HasServedNothing (seen_by server (W.contents out.new))
         server.bases.items) }
-    ensures style { IfOk result (λ server. server.lines.style ≡ style) }
+    ensures output { IfOk result (λ server. output_by server.lines (W.contents out.new)
+        ≡ output style (W.contents out.old)) }
     ensures opened { IfOk result (λ server. server.session.start.disk ≡ disk) }
-    ensures same { OnOk result (W.contents out.new ≡ W.contents out.old) }
     ensures status { IfErr result (λ r. r.0 ≡ 1) }
     ensures refused { IfErr result (λ r. D.honest r.1
         → NotOpened D.now D.past disk r.1 (output style (W.contents out.old)) (W.contents out.new) r.0) }

@@ -1,6 +1,6 @@
 //! A script's requests, by servers over the session of an image.
 ghost use Rattle.std.specs.Prelude.{◌≡◌, ◌≤◌, true, ◌⊎◌, [], map, IsOk, Some, None};
-ghost use Rattle.{im_session.specs.Kept.Kept, im_text.specs.Said.output};
+ghost use Rattle.{im_session.specs.Kept.Kept, im_text.specs.Said.output_by};
 ghost use Rattle.im_serial.specs.{Once.HasServedNothing, Serving.seen_by};
 ghost use Rattle.im_run.specs.{Once.RunWhen, Orders.ask_of, Orders.asks_in, Orders.bases_first, Planned.FitsIfNew};
 ghost use Rattle.im_run.specs.{Planned.plan_of, Planned.planned_orders, Running.EndedOn, Running.ServersEnded};
@@ -93,8 +93,8 @@ fn no_server<D: Disk>(alloc: Global, session: Session<D>, reason: Reason) -> End
     }
 }
 
-// Serves what each element asks for by the session of a server. Returns the status, the session's disk, and the calls
-// in the order of the lock.
+// Serves what each element asks for by the session of a server. Returns the status, the session's disk, the calls in
+// the order of the lock, and whether a line told an error.
 fn serve_on<
     D: Disk + Drop + Send,
     W: Write,
@@ -108,10 +108,11 @@ fn serve_on<
     work: Workload,
     out: &mut W,
     observer: &mut N,
-) -> (u8, D, Calls)
+) -> (u8, D, Calls, bool)
     ensures status { (result.0 ≤ 1) ⊎ (result.0 ≡ STALLED) }
     ensures ended { EndedOn D.Disk work.planned (asks_in work.whole) (map ask_of work.orders.items)
-        server.session result.1 (W.contents out.old) server.lines (W.contents out.new) result.2.items result.0 }
+        server.session result.1 (W.contents out.old) server.lines (W.contents out.new, result.3)
+        result.2.items result.0 }
     ensures recorded { context.now.recorded ≡ true → result.2.recorded ≡ true }
 {
     let alloc = context.alloc;
@@ -121,18 +122,19 @@ fn serve_on<
         Ok(opening) => {
             let (ending, trace) = serve_opening(context, opening, work);
             tell_late(ending.session.memory(), ending.waits.as_slice(), observer);
-            let (status, disk) = close(ending, lines, out, observer);
-            (status, disk, trace)
+            let (status, disk, faulted) = close(ending, lines, out, observer);
+            (status, disk, trace, faulted)
         }
         Err((reason, session)) => {
             let ending = no_server(alloc, session, reason);
-            let (status, disk) = close(ending, lines, out, observer);
-            (status, disk, Calls::new())
+            let (status, disk, faulted) = close(ending, lines, out, observer);
+            (status, disk, Calls::new(), faulted)
         }
     }
 }
 
-/// Serves a script with a server that has served nothing yet. Returns the status, the session's disk, and the trace.
+/// Serves a script with a server that has served nothing yet. Returns the status, the session's disk, the trace, and
+/// whether a line told an error.
 pub(crate) fn run_server<
     D: Disk + Drop + Send,
     W: Write,
@@ -146,13 +148,13 @@ pub(crate) fn run_server<
     asked: Commission<'_, '_>,
     out: &mut W,
     observer: &mut N,
-) -> (u8, D, Trace)
+) -> (u8, D, Trace, bool)
     // It may know bases already: the next clause says which.
     requires ready { HasServedNothing (seen_by server (W.contents out.old)) [] }
     requires bases { server.bases.items ≡ bases_first asked.once server.session.engine.memory asked.script.now }
     ensures status { (result.0 ≤ 1) ⊎ (result.0 ≡ STALLED) }
     ensures run { RunWhen D.Disk asked.entry.once asked.entry.planned asked.entry.script.now server.session.start
-        result.1 (output server.lines.style (W.contents out.old)) (W.contents out.new) result.2 result.0 }
+        result.1 (output_by server.lines (W.contents out.old)) (W.contents out.new, result.3) result.2 result.0 }
     ensures recorded { context.now.recorded ≡ true → result.2.recorded ≡ true }
 {
     let alloc = context.alloc;
@@ -160,15 +162,15 @@ pub(crate) fn run_server<
     let (read, setup) = read_orders(alloc, &mut server, asked, out, observer);
     match read {
         Ok(work) => {
-            let (status, disk, served) = serve_on(context, server, work, out, observer);
-            (status, disk, Trace { setup, served })
+            let (status, disk, served, faulted) = serve_on(context, server, work, out, observer);
+            (status, disk, Trace { setup, served }, faulted)
         }
         Err(reason) => {
             let (session, lines) = server.leave();
             let ending = no_server(alloc, session, reason);
-            let (status, disk) = close(ending, lines, out, observer);
+            let (status, disk, faulted) = close(ending, lines, out, observer);
             let served = Calls::new();
-            (status, disk, Trace { setup, served })
+            (status, disk, Trace { setup, served }, faulted)
         }
     }
 }

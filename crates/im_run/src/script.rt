@@ -1,6 +1,7 @@
 //! A script on the image of a disk, from opening to end.
 ghost use Rattle.std.specs.Prelude.{◌≡◌, ◌≤◌, true, ◌⊎◌};
-ghost use Rattle.{im_text.specs.Said.output, im_serial.specs.Once.HasServedNothing, im_serial.specs.Serving.seen_by};
+ghost use Rattle.im_text.specs.Said.{output, output_by};
+ghost use Rattle.im_serial.specs.{Once.HasServedNothing, Serving.seen_by};
 ghost use Rattle.im_run.specs.{Once.EndsWhen, Once.RunsWhen, Running.RunsOn, Running.RunsPlanOn};
 
 use crate::context::RunContext;
@@ -17,7 +18,7 @@ use im_types::Observer;
 use std::io::Write;
 
 // Prints what the memory of a server has of a script, if it is done once, and runs the script, or the rest of it.
-// Returns the status, the session's disk, and the trace.
+// Returns the status, the session's disk, the trace, and whether a line told an error.
 fn run_opened<
     D: Disk + Drop + Send,
     W: Write,
@@ -31,11 +32,11 @@ fn run_opened<
     asked: Commission<'_, '_>,
     out: &mut W,
     observer: &mut N,
-) -> (u8, D, Trace)
+) -> (u8, D, Trace, bool)
     requires ready { HasServedNothing (seen_by server (W.contents out.old)) server.bases.items }
     ensures status { (result.0 ≤ 1) ⊎ (result.0 ≡ STALLED) }
     ensures ends { EndsWhen D.Disk asked.entry.once asked.entry.planned asked.entry.script.now server.session.start
-        result.1 (output server.lines.style (W.contents out.old)) (W.contents out.new) result.2 result.0 }
+        result.1 (output_by server.lines (W.contents out.old)) (W.contents out.new, result.3) result.2 result.0 }
     ensures recorded { context.now.recorded ≡ true → result.2.recorded ≡ true }
 {
     if asked.once {
@@ -50,7 +51,8 @@ fn run_opened<
     run_server(context, server, asked, out, observer)
 }
 
-/// Opens the image of a disk, and runs a script on it, or the rest of it. Returns the status, the disk, and the trace.
+/// Opens the image of a disk, and runs a script on it, or the rest of it. Returns the status, the disk, the trace, and
+/// whether a line told an error.
 pub(crate) fn run_script<
     D: Disk + Drop + Send,
     W: Write,
@@ -64,21 +66,22 @@ pub(crate) fn run_script<
     asked: Commission<'_, '_>,
     out: &mut W,
     observer: &mut N,
-) -> (u8, D, Trace)
+) -> (u8, D, Trace, bool)
     ensures status { (result.0 ≤ 1) ⊎ (result.0 ≡ STALLED) }
     ensures run { RunsWhen D.Disk asked.entry.once asked.entry.planned asked.entry.script.now disk result.1
-        (output asked.entry.style (W.contents out.old)) (W.contents out.new) result.2 result.0 }
+        (output asked.entry.style (W.contents out.old)) (W.contents out.new, result.3) result.2 result.0 }
     ensures recorded { context.now.recorded ≡ true → result.2.recorded ≡ true }
 {
     let alloc = context.alloc;
     match open_server(alloc, asked.style, disk, out, observer) {
         Ok(server) => run_opened(context, server, asked, out, observer),
-        Err((status, disk)) => (status, disk, Trace::new(alloc)),
+        Err((status, disk)) => (status, disk, Trace::new(alloc), false),
     }
 }
 
 /// Runs a script on the image of a disk, with a server for each element and all of them at once, prints their answers,
-/// and gives the disk and the trace back. The script may have glances.
+/// and gives the disk and the trace back. The script may have glances. Returns, beside the status, whether a line told
+/// an error of the program that asked ([`Lines::faulted`](im_text::Lines::faulted)).
 ///
 /// What it prints goes to `out`, in this order:
 ///
@@ -119,8 +122,8 @@ pub(crate) fn run_script<
 ///   At the end it leaves the memory after all that were put, with or without those in doubt. With status 0 or 3 none
 ///   is in doubt.
 /// - `run`, what was written: a prefix of the lines. A line of the setup is of a command that was put. With status 0
-///   all lines are written. The entry in an element's line is in the memory after all that were put, or was told to a
-///   server that confirmed it.
+///   all lines are written. It is known of these lines whether one tells an error of the program that asked. The entry
+///   in an element's line is in the memory after all that were put, or was told to a server that confirmed it.
 /// - `run`, the trace: each call that the setup and the servers made, with its answer, in the order of the lock. The
 ///   servers' answers are legal from the memory after the setup, and the commands accepted are those that were put.
 /// - `run`, the script: of each element, from the least, a prefix of its lines is told, in their order; all if the
@@ -143,10 +146,10 @@ pub fn run_on<
     styled: &StyledScript<'_>,
     out: &mut W,
     observer: &mut N,
-) -> (u8, D, Trace)
+) -> (u8, D, Trace, bool)
     ensures status { (result.0 ≤ 1) ⊎ (result.0 ≡ STALLED) }
     ensures run { RunsOn D.Disk styled.now.script.now disk result.1 (output styled.now.style (W.contents out.old))
-        (W.contents out.new) result.2 result.0 }
+        (W.contents out.new, result.3) result.2 result.0 }
     ensures recorded { context.now.recorded ≡ true → result.2.recorded ≡ true }
 {
     let asked = Commission {
@@ -179,10 +182,10 @@ pub fn run_on_plan<
     styled: &StyledScript<'_>,
     out: &mut W,
     observer: &mut N,
-) -> (u8, D, Trace)
+) -> (u8, D, Trace, bool)
     ensures status { (result.0 ≤ 1) ⊎ (result.0 ≡ STALLED) }
     ensures run { RunsPlanOn D.Disk styled.now.script.now disk result.1 (output styled.now.style (W.contents out.old))
-        (W.contents out.new) result.2 result.0 }
+        (W.contents out.new, result.3) result.2 result.0 }
     ensures recorded { context.now.recorded ≡ true → result.2.recorded ≡ true }
 {
     let asked = Commission {

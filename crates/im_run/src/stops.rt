@@ -60,7 +60,7 @@ fn run_in<
     ensures status { (result.0 ≤ 1) ⊎ (result.0 ≡ STALLED) }
     ensures keeps { KeepsRuns D.Disk asked.entry.planned asked.entry.script.now disk result.1 result.0 }
 {
-    let (status, disk, _trace) = run_once_on(context, disk, asked, out, observer);
+    let (status, disk, _trace, _faulted) = run_once_on(context, disk, asked, out, observer);
     (status, disk)
 }
 

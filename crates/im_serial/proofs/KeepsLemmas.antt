@@ -5,7 +5,7 @@ use Rattle.im_types.specs.Types.{Command, Limits, after, accept_each, Means}
 use Rattle.im_disk.proofs.SinceLemmas.{leaves_now, leaves_weaker}
 use Rattle.im_disk.specs.{declared.Disk.Ghosts, Moment.Left, Moment.Moment, Moment.Outside}
 use Rattle.im_disk.specs.Since.{LeavesNow, LeavesOnly}
-use Rattle.{im_session.proofs.AcceptedLemmas.each_accepted, im_text.specs.Said.Output}
+use Rattle.{im_session.proofs.AcceptedLemmas.each_accepted, im_text.specs.Said.Output, im_text.specs.Said.Written}
 use Rattle.im_session.proofs.CarryLemmas.{began_with, BeganWith, carried}
 use Rattle.im_session.specs.{Carrying.LedBy, Kept.Kept, Kept.MeansPut, Kept.SessionState}
 use Rattle.im_serial.proofs.BegunLemmas.{all_accepted, all_asked, begun_on, gone_on}
@@ -76,7 +76,7 @@ module _ {D : Type 0} (disk : Ghosts D) (limits : Limits) (text : List ℕ) (s :
   }
 
 module _ {D : Type 0} (disk : Ghosts D) (limits : Limits) (text : List ℕ) (old new : D) (was : Output)
-    (is : Option (List ℕ)) (status : ℕ)
+    (is : Written) (status : ℕ)
     (before : LeavesNow (disk.now old) (LedBy (HasComeTo limits (wanted_of text)))) (h : disk.honest new) where
   pub keeps_on : SerialOnceOn disk text old new was is status
       → KeepsBegun disk.now disk.past limits (wanted_of text) old new status

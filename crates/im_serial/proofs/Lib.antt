@@ -1,6 +1,7 @@
 pub mod AskedLemmas
 pub mod ServingLemmas
 pub mod NotedLemmas
+pub mod NamedLemmas
 pub mod ScriptedLemmas
 pub mod PlaceLemmas
 pub mod LeftLemmas

@@ -13,9 +13,9 @@ use Rattle.im_session.specs.Kept.{IsFresh, Kept as SessionKept, session_of, Sess
 use Rattle.im_script.specs.{declared.Said.Said, Script.Draft, Script.lines_of}
 use Rattle.im_text.proofs.{PrintingLemmas.true_false, WindowLemmas.bounds_found}
 use Rattle.im_text.proofs.SaidLemmas.{prints_after, prints_all, prints_begins, prints_none}
-use Rattle.im_text.specs.declared.{Lines.Lines, OutputLine.OutputLine, Waited.Waited}
-use Rattle.im_text.specs.Said.{IsLast, nows, Output, output, Prints, PrintsMore, PrintsNows, PrintsOn, replies}
-use Rattle.im_text.specs.Said.{SaysSome, SaysWhole, waits, waits_if, who_of}
+use Rattle.im_text.specs.declared.{Lines.Lines, OutputLine.OutputLine, Style.Style, Waited.Waited}
+use Rattle.im_text.specs.Said.{IsLast, nows, Output, output_from, Prints, PrintsMore, PrintsNows, PrintsOn, replies}
+use Rattle.im_text.specs.Said.{SaysSome, SaysWhole, waits, waits_if, who_of, Written}
 use Rattle.im_serial.proofs.{AskedLemmas.wanted_line, KeepsLemmas.went_on, LeftLemmas.had_at, LeftLemmas.has_some}
 use Rattle.im_serial.proofs.{LeftLemmas.met_here, LeftLemmas.met_less, NotedLemmas.apart, NotedLemmas.last_or_before}
 use Rattle.im_serial.proofs.{ScriptedLemmas.going_from, ScriptedLemmas.leads_here, ScriptedLemmas.over_here}
@@ -623,7 +623,7 @@ module _ {D : Type 0} where
         marked = λ at w is. absurd (no_item w (ap (λ (l : List Waited). slice_get l at) (sym ready.waited) ∙ is));
         passed = λ at w is. absurd (no_item w (ap (λ (l : List Waited). slice_get l at) (sym ready.waited) ∙ is));
       },
-      prints_none (output_of t) t.lines refl ready.pending,
+      prints_none t.held t.lines ready.pending,
     ),
   )
 
@@ -712,7 +712,7 @@ module _ {D : Type 0} where
         known = λ at w is. absurd (no_item w (ap (λ (l : List Waited). slice_get l at) (sym ready.waited) ∙ is));
       } in
       subst (λ (t : ScriptServer D). EndedOnce old.session.start script (output_of old) t) (sym same)
-      (unbegun script old old bases ready refl [] broken (prints_none (output_of old) old.lines refl ready.pending)
+      (unbegun script old old bases ready refl [] broken (prints_none old.held old.lines ready.pending)
       (inr (refl, ready.waited)))
 
   fits_start : (script : List Wanted) (old : ScriptServer D) (bases : List ℕ) → HasServedNothing old bases
@@ -767,13 +767,13 @@ module _ {D : Type 0} where
     shown_text ready = sym ((met_there ready).lines ∙ append-nil (shown_at ready).0)
 
     pub shown_written : HasServedNothing old bases
-        → SaysWhole (output_of old) mid.held (lines_had found (numbers_had found) script)
-    shown_written ready = subst (SaysWhole (output_of old) mid.held) (shown_text ready) (prints_all (output_of old)
-        mid.held mid.lines (shown_at ready).0 it.works it.pending (shown_at ready).1.1)
+        → SaysWhole (output_of old) (mid.held, mid.lines.faulted) (lines_had found (numbers_had found) script)
+    shown_written ready = subst (SaysWhole (output_of old) (mid.held, mid.lines.faulted)) (shown_text ready)
+        (prints_all (output_of old) mid.held mid.lines (shown_at ready).0 it.works it.pending (shown_at ready).1.1)
 
-    -- what its writer held then
+    -- its output then
     abbrev shown_from : Output
-    shown_from = output old.lines.style mid.held
+    shown_from = output_from (output_of old) (mid.held, mid.lines.faulted)
 
     shown_going : HasServedNothing old bases
         → GoingAt old.session.start shown_from (standing (Some course) known (course.wanted ++ [])) mid
@@ -787,10 +787,13 @@ module _ {D : Type 0} where
         (sym names)
         (subst (λ (t : SessionState D). GoingAt old.session.start shown_from (standing (Some course) course.first
         (course.wanted ++ [])) (server_of t mid.held mid.lines mid.waited mid.marks)) (sym it.session)
-        (going_from course old.session shown_from mid.lines mid.waited mid.marks ready.fresh ready.works (record {
+        (subst (λ (s : Style). GoingAt old.session.start (record (output_of mid) { style = s })
+        (standing (Some course) course.first (course.wanted ++ []))
+        (server_of old.session mid.held mid.lines mid.waited mid.marks)) (shown_at ready).1.1.styled
+        (going_from course old.session mid.held mid.lines mid.waited mid.marks ready.fresh ready.works (record {
           memory = met.memory;
           noted = λ at w is. inr (met.marked at w is);
-        }) (sym (met.names ∙ append-nil (map who_of mid.waited))) (shown_at ready).1.1.styled it.pending))
+        }) (sym (met.names ∙ append-nil (map who_of mid.waited))) it.pending)))
 
     made_there : HasServedNothing old bases → HasMade found script
     made_there ready = subst (λ (x : Contents). HasMade x script) (found_is ready) it.made
@@ -816,8 +819,8 @@ module _ {D : Type 0} where
             text = ends.text;
             over = ends.over;
             once = record { made = inl (made_there ready); fit = inl (fits_start script old bases ready fit) };
-            printed = prints_after (output_of old) mid.held new.held new.lines _ ends.text (shown_written ready)
-                ends.printed;
+            printed = prints_after (output_of old) (mid.held, mid.lines.faulted) new.held new.lines _ ends.text
+                (shown_written ready) ends.printed;
           },
           by_result r served_now.serves ready going,
         )
@@ -833,8 +836,8 @@ module _ {D : Type 0} where
               bases = last;
               text = done.text;
               serving = done.serving;
-              printed = prints_after (output_of old) mid.held new.held new.lines _ done.text (shown_written ready)
-                  done.printed;
+              printed = prints_after (output_of old) (mid.held, mid.lines.faulted) new.held new.lines _ done.text
+                  (shown_written ready) done.printed;
             }
         by_result (Err e) serves ready going = tt
 
@@ -854,7 +857,10 @@ module _ {D : Type 0} where
       (last : (from : Output) (text : List OutputLine) → Prints from mid later text
       → (last : List OutputLine) × (IsLast last × Prints from is final (text ++ last)))
       (whole : status ≡ 0 → (from : Output) (text : List OutputLine) → Prints from mid later text
-      → SaysWhole from is text) where
+      → SaysWhole from (is, final.faulted) text) where
+    abbrev at_last : Written
+    at_last = (is, final.faulted)
+
     abbrev origin : Contents
     origin = t.start.memory
 
@@ -870,8 +876,8 @@ module _ {D : Type 0} where
     served : IsAskedOnce origin wanted (t.put ++ t.doubt) status → AreDue origin (t.put ++ t.doubt)
         → length t.doubt ≤ 1
         → HasMade origin wanted ⊎ ((t.put ++ t.doubt ≡ []) × (status ≡ 0 → ⊥))
-        → FitsScript origin wanted ⊎ (t.put ++ t.doubt ≡ []) → ToldOnce origin wanted t.put was is status
-        → ServedOnce disk script t.start.disk end was is status
+        → FitsScript origin wanted ⊎ (t.put ++ t.doubt ≡ []) → ToldOnce origin wanted t.put was at_last status
+        → ServedOnce disk script t.start.disk end was at_last status
     served asked confirmed few made fit told = record {
       session = t;
       opened = refl;
@@ -892,8 +898,8 @@ module _ {D : Type 0} where
         → IsPrefix c.earlier early → FitsScript origin wanted ⊎ ((had ≡ []) × (waited ≡ []))
         → Prints was held before (had ++ text)
         → (status ≡ 0 → (had ≡ lines) × (map who_of waited ≡ early ++ waits origin t.put)
-        × SaysWhole was is (had ++ replies origin t.put ++ nows waited (length waited)))
-        → ToldOnce origin wanted t.put was is status
+        × SaysWhole was at_last (had ++ replies origin t.put ++ nows waited (length waited)))
+        → ToldOnce origin wanted t.put was at_last status
     told_once c text had over had_is earlier_is fit prints all_of =
         let end = last was ((had ++ text) ++ nows waited some.0) (some.2 was (had ++ text) prints) in record {
           had = had;
@@ -910,13 +916,13 @@ module _ {D : Type 0} where
           many = some.0;
           last = end.0;
           last_is = end.1.0;
-          begins = subst (λ (l : List OutputLine). SaysSome was is (((had ++ l) ++ nows waited some.0) ++ end.0))
+          begins = subst (λ (l : List OutputLine). SaysSome was at_last (((had ++ l) ++ nows waited some.0) ++ end.0))
               over.lines
               (prints_begins was is final (((had ++ text) ++ nows waited some.0) ++ end.0) end.1.1);
           whole = all_of;
         }
 
-    by_status : (n : ℕ) → status ≡ n → ServedOnce disk script t.start.disk end was is status
+    by_status : (n : ℕ) → status ≡ n → ServedOnce disk script t.start.disk end was at_last status
     by_status zero none =
         let g = done none in
         let s = standing (Some (course_of origin wanted)) g.bases [] in
@@ -932,7 +938,7 @@ module _ {D : Type 0} where
         (inl g.fit) g.printed (λ z. (
           refl,
           same ∙ g.serving.names,
-          subst (λ (l : List OutputLine). SaysWhole was is ((lines ++ l) ++ nows waited (length waited)))
+          subst (λ (l : List OutputLine). SaysWhole was at_last ((lines ++ l) ++ nows waited (length waited)))
               g.serving.lines full,
         )))
     by_status (suc n) more =
@@ -955,5 +961,5 @@ module _ {D : Type 0} where
         (λ none. inr (none.1.0, none_left waited (same ∙ ap (map who_of) none.1.1))) ended.once.fit)
         ended.printed (λ z. absurd (omega arith)))
 
-    pub closed_once : ServedOnce disk script t.start.disk end was is status
+    pub closed_once : ServedOnce disk script t.start.disk end was at_last status
     closed_once = by_status status refl

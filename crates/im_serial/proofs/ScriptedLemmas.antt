@@ -16,8 +16,8 @@ use Rattle.im_script.specs.{declared.Said.Said, Places.action_op, Script.Draft, 
 use Rattle.im_text.proofs.PrintingLemmas.{take-all, take-prefix, true_false}
 use Rattle.im_text.proofs.SaidLemmas.{prints_begins, prints_none, replies_more, waits_more}
 use Rattle.im_text.specs.declared.{Lines.Lines, OutputLine.OutputLine, Waited.Waited}
-use Rattle.im_text.specs.Said.{IsLast, nows, Output, Prints, PrintsMore, PrintsNows, PrintsOn, replied, replies}
-use Rattle.im_text.specs.Said.{reply_line, SaysSome, SaysWhole, waits, waits_by, waits_if, who_of}
+use Rattle.im_text.specs.Said.{IsLast, nows, Output, output_by, Prints, PrintsMore, PrintsNows, PrintsOn, replied}
+use Rattle.im_text.specs.Said.{replies, reply_line, SaysSome, SaysWhole, waits, waits_by, waits_if, who_of, Written}
 use Rattle.im_serial.proofs.AskedLemmas.{due_more, named_asked, named_confirmed, named_first, request_is, stands_asked}
 use Rattle.im_serial.proofs.AskedLemmas.{stands_confirmed, stands_first, stands_here, stands_last, wanted_line}
 use Rattle.im_serial.proofs.NotedLemmas.{known_asked, noted_asked, noted_confirmed, noted_known, noted_same}
@@ -700,13 +700,13 @@ module _ {D : Type 0} where
   -- ---- the beginning and the end
 
   -- nothing of a script was put yet
-  pub going_from : (c : Course) (session : SessionState D) (held : Output) (lines : Lines) (waited : List Waited)
-      (marks : List Mark) → IsFresh session → session.engine.failed ≡ false
+  pub going_from : (c : Course) (session : SessionState D) (held : Option (List ℕ)) (lines : Lines)
+      (waited : List Waited) (marks : List Mark) → IsFresh session → session.engine.failed ≡ false
       → IsRecorded session.start.memory [] (notes waited marks) → map who_of waited ≡ c.earlier
-      → lines.style ≡ held.style → lines.batch.pending.items ≡ []
-      → GoingAt session.start held (standing (Some c) c.first (c.wanted ++ []))
-      (server_of session held.held lines waited marks)
-  going_from c session held lines waited marks fresh works recorded names styled pending =
+      → lines.batch.pending.items ≡ []
+      → GoingAt session.start (output_by lines held) (standing (Some c) c.first (c.wanted ++ []))
+      (server_of session held lines waited marks)
+  going_from c session held lines waited marks fresh works recorded names pending =
       let m = session.start.memory in record {
         text = [];
         serving = serving_with session.start session (standing (Some c) c.first (c.wanted ++ [])) []
@@ -718,27 +718,29 @@ module _ {D : Type 0} where
             (subst (λ (l : List Wanted). HasNamed m (standing (Some c) c.first l) []) (sym (append-nil c.wanted))
             (named_first m c))
             tt recorded;
-        printed = prints_none held lines styled pending;
+        printed = prints_none held lines pending;
       }
 
   -- a server of this session that has served nothing of a script yet
-  pub going_first : (script : List Wanted) (session same : SessionState D) (held : Output) (before lines :
+  pub going_first : (script : List Wanted) (session same : SessionState D) (held : Option (List ℕ)) (before lines :
       Lines) (waited : List Waited) (marks : List Mark) (bases : List ℕ) → IsFresh session
       → session.engine.failed ≡ false
       → (let m = session.engine.memory in IsMemory (length m.cells) (length m.windows) m)
-      → before.style ≡ held.style → before.batch.pending.items ≡ [] → waited ≡ [] → bases ≡ [] → same ≡ session
-      → lines ≡ before → GoingAt session.start held (standing (Some (whole_course script)) bases (script ++ []))
-      (server_of same held.held lines waited marks)
-  going_first script session same held before lines waited marks bases fresh works memory styled pending none no_bases
+      → before.batch.pending.items ≡ [] → waited ≡ [] → bases ≡ [] → same ≡ session
+      → lines ≡ before
+      → GoingAt session.start (output_by before held) (standing (Some (whole_course script)) bases (script ++ []))
+      (server_of same held lines waited marks)
+  going_first script session same held before lines waited marks bases fresh works memory pending none no_bases
       sessions line =
-      subst (λ (b : List ℕ). GoingAt session.start held (standing (Some (whole_course script)) b (script ++ []))
-      (server_of same held.held lines waited marks)) (sym no_bases)
-      (as_of (λ (t : SessionState D) (l : Lines). GoingAt session.start held (standing (Some (whole_course script)) []
-      (script ++ [])) (server_of t held.held l waited marks)) session same before lines sessions line
-      (subst (λ (l : List Waited). GoingAt session.start held (standing (Some (whole_course script)) [] (script ++ []))
-      (server_of session held.held before l marks)) (sym none) (going_from (whole_course script) session held before
+      let from = output_by before held in
+      subst (λ (b : List ℕ). GoingAt session.start from (standing (Some (whole_course script)) b (script ++ []))
+      (server_of same held lines waited marks)) (sym no_bases)
+      (as_of (λ (t : SessionState D) (l : Lines). GoingAt session.start from (standing (Some (whole_course script)) []
+      (script ++ [])) (server_of t held l waited marks)) session same before lines sessions line
+      (subst (λ (l : List Waited). GoingAt session.start from (standing (Some (whole_course script)) [] (script ++ []))
+      (server_of session held before l marks)) (sym none) (going_from (whole_course script) session held before
       [] marks
-      fresh works (record { memory = memory_at; noted = λ at w is. absurd (no_item w is) }) refl styled pending)))
+      fresh works (record { memory = memory_at; noted = λ at w is. absurd (no_item w is) }) refl pending)))
     where
       no_item : (w : Waited) → ◌≡◌ {A = Option Waited} None (Some w) → ⊥
       no_item w is = cc
@@ -754,7 +756,7 @@ module _ {D : Type 0} where
 
   -- what was told, by the lines that were printed
   told_by : (start : SessionStart D) (t : SessionState D) (script : List Wanted) (text : List OutputLine) (noted waited
-      : List Waited) (status : ℕ) (was : Output) (is : Option (List ℕ)) (many : ℕ) (last : List OutputLine)
+      : List Waited) (status : ℕ) (was : Output) (is : Written) (many : ℕ) (last : List OutputLine)
       → IsOver start t (Some (whole_course script)) text noted → map who_of waited ≡ map who_of noted
       → AreLast start.memory t.put waited → IsLast last → SaysSome was is ((text ++ nows waited many) ++ last)
       → (status ≡ 0 → (map who_of waited ≡ waits start.memory t.put)
@@ -787,22 +789,23 @@ module _ {D : Type 0} where
       → (status ≡ 0 → PrintsMore held before mid later (nows waited (length waited)))
       → ((from : Output) (text : List OutputLine) → Prints from mid later text
       → (last : List OutputLine) × (IsLast last × Prints from is final (text ++ last)))
-      → (status ≡ 0 → (from : Output) (text : List OutputLine) → Prints from mid later text → SaysWhole from is text)
-      → ServedScript disk script t.start.disk end was is status
+      → (status ≡ 0 → (from : Output) (text : List OutputLine) → Prints from mid later text
+      → SaysWhole from (is, final.faulted) text)
+      → ServedScript disk script t.start.disk end was (is, final.faulted) status
   closed disk script bases t end status held mid is was before later final noted waited marks kept at_end works ended
       going same learn some all last whole = by_status status refl
     where
       printed : (text : List OutputLine) → IsOver t.start t (Some (whole_course (wanted_of script))) text noted
           → Prints was held before text → (status ≡ 0 → (map who_of waited ≡ waits t.start.memory t.put)
-          × SaysWhole was is (replies t.start.memory t.put ++ nows waited (length waited)))
-          → Told t.start.memory t.put was is status
+          × SaysWhole was (is, final.faulted) (replies t.start.memory t.put ++ nows waited (length waited)))
+          → Told t.start.memory t.put was (is, final.faulted) status
       printed text over prints all_of =
           let end = last was (text ++ nows waited some.0) (some.2 was text prints) in
-          told_by t.start t (wanted_of script) text noted waited status was is some.0 end.0 over same
+          told_by t.start t (wanted_of script) text noted waited status was (is, final.faulted) some.0 end.0 over same
           (learn t.start.memory t.put kept.memory over.known) end.1.0
           (prints_begins was is final ((text ++ nows waited some.0) ++ end.0) end.1.1) all_of
 
-      by_status : (n : ℕ) → status ≡ n → ServedScript disk script t.start.disk end was is status
+      by_status : (n : ℕ) → status ≡ n → ServedScript disk script t.start.disk end was (is, final.faulted) status
       by_status zero none =
           let g = going none in
           let it = g.serving in
@@ -822,8 +825,8 @@ module _ {D : Type 0} where
             works = works;
             printed = printed g.text (over_here t.start t s g.text (notes noted marks) it) g.printed (λ z. (
               same ∙ it.names,
-              subst (λ (l : List OutputLine). SaysWhole was is (l ++ nows waited (length waited))) it.lines
-                  (whole none was (g.text ++ nows waited (length waited)) (all none was g.text g.printed)),
+              subst (λ (l : List OutputLine). SaysWhole was (is, final.faulted) (l ++ nows waited (length waited)))
+                  it.lines (whole none was (g.text ++ nows waited (length waited)) (all none was g.text g.printed)),
             ));
           }
       by_status (suc n) more = record {

@@ -1,5 +1,6 @@
 pub mod Asked
 pub mod Noted
+pub mod Named
 pub mod Serving
 pub mod Begun
 pub mod Had

@@ -8,7 +8,7 @@ use Rattle.{im_session.specs.Carrying.LedBy, im_text.specs.declared.Lines.Lines,
 use Rattle.im_session.specs.Kept.{IsFresh, Kept as SessionKept, SessionStart, SessionState}
 use Rattle.im_text.specs.declared.OutputLine.{OutputLine, TheVariants.Done as IsDone}
 use Rattle.im_text.specs.Said.{IsLast, nows, Output, Prints, PrintsMore, PrintsOn, replied, replies, SaysSome}
-use Rattle.im_text.specs.Said.{SaysWhole, waits, waits_if, who_of}
+use Rattle.im_text.specs.Said.{SaysWhole, waits, waits_if, who_of, Written}
 use Rattle.im_serial.specs.Asked.{AreDue, Course, IsAsked, standing, Wanted, wanted_of}
 use Rattle.im_serial.specs.{Begun.HasComeTo, Begun.HasGoneOn, declared.waits.Mark.Mark, Fitting.FitsScript}
 use Rattle.im_serial.specs.declared.meeting.Met.{Met, TheVariants.Done, TheVariants.Kept, TheVariants.New}
@@ -247,7 +247,7 @@ IsAskedOnce m script put status = IsAsked m (bases_had (numbers_had m) 0 script)
 -- wait, with their last entries; and that of a refusal. If what the memory had doesn't fit the script, no line but that
 -- of the refusal is printed.
 pub record ToldOnce (m : Contents) (script : List Wanted) (put : List Command) (was : Output)
-    (is : Option (List ℕ)) (status : ℕ) : Type 0 where
+    (is : Written) (status : ℕ) : Type 0 where
   pub had : List OutputLine
   pub had_is : IsPrefix had (lines_had m (numbers_had m) script)
   pub told : List Command
@@ -273,7 +273,7 @@ pub record ToldOnce (m : Contents) (script : List Wanted) (put : List Command) (
 -- wasn't made, or what it had doesn't fit the script. If each file that was left meant what runs of the script come to,
 -- those runs and this one are one run from a new image on.
 pub record ServedOnce {D : Type 0} (disk : Ghosts D) (text : List ℕ) (old new : D) (was : Output)
-    (is : Option (List ℕ)) (status : ℕ) : Type 0 where
+    (is : Written) (status : ℕ) : Type 0 where
   pub session : SessionState D
   pub opened : session.start.disk ≡ old
   pub closed : new ≡ session.engine.disk
@@ -289,10 +289,10 @@ pub record ServedOnce {D : Type 0} (disk : Ghosts D) (text : List ℕ) (old new 
   pub printed : ToldOnce session.start.memory (wanted_of text) session.put was is status
 
 -- The script was served once on the image of a disk, or the image was not opened.
-abbrev pub SerialOnceOn : {D : Type 0} → Ghosts D → List ℕ → D → D → Output → Option (List ℕ) → ℕ → Type 0
-SerialOnceOn disk text old new was is status = NotOpened disk.now disk.past old new was is status
+abbrev pub SerialOnceOn : {D : Type 0} → Ghosts D → List ℕ → D → D → Output → Written → ℕ → Type 0
+SerialOnceOn disk text old new was is status = NotOpened disk.now disk.past old new was is.0 status
     ⊎ ServedOnce disk text old new was is status
 
 -- The same of a disk that is honest at the end.
-abbrev pub ServesOnceOn : {D : Type 0} → Ghosts D → List ℕ → D → D → Output → Option (List ℕ) → ℕ → Type 0
+abbrev pub ServesOnceOn : {D : Type 0} → Ghosts D → List ℕ → D → D → Output → Written → ℕ → Type 0
 ServesOnceOn disk text old new was is status = disk.honest new → SerialOnceOn disk text old new was is status

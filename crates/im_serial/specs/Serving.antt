@@ -6,8 +6,8 @@ use Rattle.im_disk.specs.{declared.Disk.Ghosts, Moment.Left, Moment.Moment, Sinc
 use Rattle.im_session.specs.Kept.{Kept, SessionStart, SessionState}
 use Rattle.im_script.specs.Places.{action_op}
 use Rattle.im_text.specs.declared.{Lines.Lines, OutputLine.OutputLine, Waited.Waited}
-use Rattle.im_text.specs.Said.{IsLast, nows, Output, output, Prints, replies, SaysLast, SaysSome, SaysWhole, waits}
-use Rattle.im_text.specs.Said.{who_of}
+use Rattle.im_text.specs.Said.{IsLast, nows, Output, output_by, Prints, replies, SaysLast, SaysSome, SaysWhole, waits}
+use Rattle.im_text.specs.Said.{who_of, Written}
 use Rattle.im_serial.specs.Asked.{AreDue, bases_by, Course, earlier_in, HasNamed, HasReached, IsAsked, LeadsIf}
 use Rattle.im_serial.specs.Asked.{Standing, standing, Wanted, wanted_of}
 use Rattle.im_serial.specs.declared.{server.Server.Server as Whole, waits.Mark.Mark}
@@ -84,9 +84,9 @@ abbrev pub server_of : {D : Type 0} → SessionState D → Option (List ℕ) →
 server_of session held lines waited marks =
     record { session = session; held = held; lines = lines; waited = waited; marks = marks }
 
--- what its writer holds, and how its lines are said
+-- its output
 abbrev pub output_of : {D : Type 0} → ScriptServer D → Output
-output_of t = output t.lines.style t.held
+output_of t = output_by t.lines t.held
 
 -- a server of the program, and what the writer holds
 abbrev pub seen_by : {D : Type 0} → Whole D → Option (List ℕ) → ScriptServer D
@@ -145,8 +145,9 @@ module _ {D : Type 0} where
 
 -- What was printed of the commands that were put, at the end: a prefix of this text, and all of it if the status is 0.
 -- The text is the lines of the first of them, then those of requests that had to wait, then that of a refusal. A
--- request that had to wait is told with its last entry after all of them.
-pub record Told (m : Contents) (put : List Command) (was : Output) (is : Option (List ℕ)) (status : ℕ) : Type 0 where
+-- request that had to wait is told with its last entry after all of them. It is known whether a line of the text tells
+-- an error of the program that asked.
+pub record Told (m : Contents) (put : List Command) (was : Output) (is : Written) (status : ℕ) : Type 0 where
   pub told : List Command
   pub others : List Command
   pub split : put ≡ told ++ others
@@ -164,7 +165,7 @@ pub record Told (m : Contents) (put : List Command) (was : Output) (is : Option 
 -- are the script's first requests, in their order, and confirmations, each of a full window; with status 0 all its
 -- requests, and no call of the disk failed.
 pub record ServedScript {D : Type 0} (disk : Ghosts D) (text : List ℕ) (old new : D) (was : Output)
-    (is : Option (List ℕ)) (status : ℕ) : Type 0 where
+    (is : Written) (status : ℕ) : Type 0 where
   pub session : SessionState D
   pub opened : session.start.disk ≡ old
   pub closed : new ≡ session.engine.disk
@@ -184,6 +185,6 @@ pub record NotOpened {D : Type 0} (now : D → Moment) (past : D → List Moment
   pub leaves : Leaves (now old) (now new) (past old) (past new) (Left (now old))
 
 -- The script was served on the image of a disk, or the image was not opened.
-abbrev pub SerialOn : {D : Type 0} → Ghosts D → List ℕ → D → D → Output → Option (List ℕ) → ℕ → Type 0
-SerialOn disk text old new was is status = NotOpened disk.now disk.past old new was is status
+abbrev pub SerialOn : {D : Type 0} → Ghosts D → List ℕ → D → D → Output → Written → ℕ → Type 0
+SerialOn disk text old new was is status = NotOpened disk.now disk.past old new was is.0 status
     ⊎ ServedScript disk text old new was is status

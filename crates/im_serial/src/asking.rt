@@ -2,7 +2,7 @@
 ghost use Rattle.std.specs.Prelude.{◌≡◌, ℕ, [], ◌∷◌, ◌++◌, IfOk, OnOk, Ok};
 ghost use Rattle.im_types.specs.Types.{bounds};
 ghost use Rattle.im_asks.specs.{declared.WindowPlace.TheVariants.Confirm as DueTo, Windows.IsWindowPlace};
-ghost use Rattle.im_serial.specs.Asked.{wanted_by, wanted_of};
+ghost use Rattle.im_serial.specs.{Asked.wanted_by, Asked.wanted_of, Had.left_of, Named.AreNamed};
 ghost use Rattle.im_serial.specs.Serving.{HasAsked, MakesPlace, seen_by, ServedBy};
 
 use crate::hearing::hear;
@@ -18,7 +18,8 @@ use std::alloc::Global;
 use std::io::Write;
 
 impl<D: Disk> Server<D> {
-    // Learns an element's answers within these numbers, which are due to be confirmed, and confirms them.
+    // Learns an element's answers within these numbers, which are due to be confirmed, names those of earlier scripts,
+    // and confirms them.
     fn make_place<N: Observer<News>>(
         &mut self,
         element: u16,
@@ -30,6 +31,8 @@ impl<D: Disk> Server<D> {
             self.new.session self.new.waited.items self.new.places.marks.items }
         ensures lines { self.new.lines ≡ self.old.lines }
         ensures bases { self.new.bases.items ≡ self.old.bases.items }
+        ensures named { AreNamed self.old.session.engine.memory (left_of self.old.earlier.last.items element) element
+            numbers.0 numbers.1 self.new.earlier.named }
     {
         let (base, upto) = numbers;
         learn(
@@ -37,8 +40,9 @@ impl<D: Disk> Server<D> {
             &mut self.places,
             self.session.memory(),
             (element, base, upto),
-            observer,
         );
+        self.earlier
+            .name_all(self.session.memory(), (element, base, upto), observer);
         serve_one(
             &mut self.session,
             &mut self.progress,
@@ -47,7 +51,7 @@ impl<D: Disk> Server<D> {
     }
 
     // Returns the number of an element's next request. If its window is full, and only then, confirms its entries
-    // before the first that isn't answered yet.
+    // before the first that isn't answered yet. Those of earlier scripts are named before.
     fn number<N: Observer<News>>(&mut self, element: u16, observer: &mut N) -> Result<u64, Refusal>
         ensures goes { MakesPlace result self.old.session self.old.waited.items self.old.places.marks.items
             self.new.session self.new.waited.items self.new.places.marks.items }

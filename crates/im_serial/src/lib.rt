@@ -5,6 +5,7 @@ mod asking;
 mod comparing;
 mod hearing;
 mod meeting;
+mod naming;
 mod notes;
 mod once;
 mod past;

@@ -84,6 +84,7 @@ impl<D: Disk> Server<D> {
         ensures fit { FitsOrStays result (wanted_of script.now)
             (seen_by self.old (W.contents out.old)) (seen_by self.new (W.contents out.new)) }
     {
+        self.earlier.clear();
         match compare_script(alloc, self.session.memory(), script) {
             Ok(()) => {}
             Err(reason) => return Err(reason),

@@ -1,6 +1,6 @@
 //! A script's requests, served one after another.
 ghost use Rattle.std.specs.Prelude.{◌≡◌, ◌≤◌, false, [], IsOk};
-ghost use Rattle.{im_session.specs.Kept.IsFresh, im_text.specs.Said.output};
+ghost use Rattle.{im_session.specs.Kept.IsFresh, im_text.specs.Said.output, im_text.specs.Said.output_by};
 ghost use Rattle.im_serial.specs.{Begun.KeepsOnce, Serving.seen_by, Serving.SerialOn, Serving.ServedScript};
 ghost use Rattle.im_serial.specs.Once.{HasServedNothing, ServedOnce, ServesOnceOn};
 
@@ -23,6 +23,8 @@ pub struct StyledScript<'a> {
 }
 
 /// Serves a script's requests one after another on the image of a disk, prints their answers, and gives the disk back.
+/// Returns the status, the disk, and whether a line told an error of the program that asked
+/// ([`Lines::faulted`](im_text::Lines::faulted)).
 ///
 /// What it prints goes to `out`, in this order:
 ///
@@ -35,9 +37,9 @@ pub struct StyledScript<'a> {
 /// told why.
 ///
 /// If an element's window is full, its entries before the first that still waits are confirmed before its next request.
-/// If a request that waited when the image was opened gets its answer, the observer is told: before its entry is
-/// confirmed, and at the end at the latest. Before each request and each confirmation, turns of a checkpoint are taken
-/// while there is no room for a command.
+/// The observer is told those that earlier scripts left, before they are confirmed: nobody may have seen them. If a
+/// request that waited when the image was opened is answered and still kept at the end, it is told then. Before each
+/// request and each confirmation, turns of a checkpoint are taken while there is no room for a command.
 ///
 /// Each line is written whole after its command is on the disk, in batches of at most 4,096 bytes, and the rest at the
 /// end. A write that fails ends the script: nothing more is served or written.
@@ -56,7 +58,7 @@ pub struct StyledScript<'a> {
 ///   with or without the one in doubt.
 /// - `served`, what was written: a prefix of the lines. First come answers of commands that were put, then `now` lines,
 ///   then a refusal. A `now` line tells the entry that is kept at the end, or that was kept when it was confirmed. With
-///   status 0 all lines are written.
+///   status 0 all lines are written. It is known of these lines whether one tells an error of the program that asked.
 /// - `honest`: the disk was honest at the start, if it is at the end. What `served` says holds of such a disk.
 pub fn serial_on<D: Disk, W: Write, N: Observer<News>>(
     alloc: Global,
@@ -64,11 +66,11 @@ pub fn serial_on<D: Disk, W: Write, N: Observer<News>>(
     styled: &StyledScript<'_>,
     out: &mut W,
     observer: &mut N,
-) -> (u8, D)
+) -> (u8, D, bool)
     ensures status { result.0 ≤ 1 }
     ensures served { D.honest result.1
         → SerialOn D.Disk styled.now.script.now disk result.1 (output styled.now.style (W.contents out.old))
-        (W.contents out.new) result.0 }
+        (W.contents out.new, result.2) result.0 }
     ensures honest { D.honest result.1 → D.honest disk }
 {
     let desk = match Desk::new(alloc, styled.style) {
@@ -76,18 +78,21 @@ pub fn serial_on<D: Disk, W: Write, N: Observer<News>>(
         Err(_) => return (
             end(alloc, styled.style, Err(Reason::Memory), out, observer),
             disk,
+            false,
         ),
     };
     match Session::open(alloc, disk) {
         Ok(session) => serve_on(alloc, session, desk, styled.script, out, observer),
         Err((refusal, mut disk)) => {
             let reason = diagnose(alloc, &mut disk, refusal);
-            (end(alloc, styled.style, Err(reason), out, observer), disk)
+            let status = end(alloc, styled.style, Err(reason), out, observer);
+            (status, disk, false)
         }
     }
 }
 
-// Serves a script with a session that has put nothing. Returns the status and the session's disk.
+// Serves a script with a session that has put nothing. Returns the status, the session's disk, and whether a line told
+// an error.
 fn serve_on<D: Disk, W: Write, N: Observer<News>>(
     alloc: Global,
     session: Session<D>,
@@ -95,13 +100,13 @@ fn serve_on<D: Disk, W: Write, N: Observer<News>>(
     script: &Script<'_>,
     out: &mut W,
     observer: &mut N,
-) -> (u8, D)
+) -> (u8, D, bool)
     requires fresh { IsFresh session }
     requires works { session.engine.failed ≡ false }
     requires pending { desk.lines.batch.pending.items ≡ [] }
     ensures status { result.0 ≤ 1 }
     ensures served { ServedScript D.Disk script.now session.start.disk result.1
-        (output desk.lines.style (W.contents out.old)) (W.contents out.new) result.0 }
+        (output_by desk.lines (W.contents out.old)) (W.contents out.new, result.2) result.0 }
 {
     let mut server = Server::new(alloc, session, desk);
     let served = server.serve(alloc, script, out, observer);
@@ -111,7 +116,7 @@ fn serve_on<D: Disk, W: Write, N: Observer<News>>(
     let status = finish(both(served, told), &mut lines, out, observer);
     // If the disk failed, a refusal was printed: the status is 1 already.
     let failed = session.engine().failed();
-    (status_at(failed, status), session.close())
+    (status_at(failed, status), session.close(), lines.faulted())
 }
 
 /// Serves what the image of a disk doesn't have of a script, and gives the disk back: the n-th request of an element in
@@ -145,27 +150,28 @@ pub fn serial_once_on<D: Disk, W: Write, N: Observer<News>>(
     styled: &StyledScript<'_>,
     out: &mut W,
     observer: &mut N,
-) -> (u8, D)
+) -> (u8, D, bool)
     ensures status { result.0 ≤ 1 }
     ensures served { ServesOnceOn D.Disk styled.now.script.now disk result.1
-        (output styled.now.style (W.contents out.old)) (W.contents out.new) result.0 }
+        (output styled.now.style (W.contents out.old)) (W.contents out.new, result.2) result.0 }
     ensures keeps { KeepsOnce D.Disk styled.now.script.now disk result.1 result.0 }
     ensures honest { D.honest result.1 → D.honest disk }
 {
     open_and_serve_once(alloc, disk, styled, out, observer)
 }
 
-// Opens the image of a disk, and serves what it doesn't have of a script. Returns the status and the disk.
+// Opens the image of a disk, and serves what it doesn't have of a script. Returns the status, the disk, and whether a
+// line told an error.
 fn open_and_serve_once<D: Disk, W: Write, N: Observer<News>>(
     alloc: Global,
     disk: D,
     styled: &StyledScript<'_>,
     out: &mut W,
     observer: &mut N,
-) -> (u8, D)
+) -> (u8, D, bool)
     ensures status { result.0 ≤ 1 }
     ensures served { ServesOnceOn D.Disk styled.now.script.now disk result.1
-        (output styled.now.style (W.contents out.old)) (W.contents out.new) result.0 }
+        (output styled.now.style (W.contents out.old)) (W.contents out.new, result.2) result.0 }
     ensures honest { D.honest result.1 → D.honest disk }
 {
     let desk = match Desk::new(alloc, styled.style) {
@@ -173,6 +179,7 @@ fn open_and_serve_once<D: Disk, W: Write, N: Observer<News>>(
         Err(_) => return (
             end(alloc, styled.style, Err(Reason::Memory), out, observer),
             disk,
+            false,
         ),
     };
     match Session::open(alloc, disk) {
@@ -182,23 +189,25 @@ fn open_and_serve_once<D: Disk, W: Write, N: Observer<News>>(
         }
         Err((refusal, mut disk)) => {
             let why = diagnose(alloc, &mut disk, refusal);
-            (end(alloc, styled.style, Err(why), out, observer), disk)
+            let status = end(alloc, styled.style, Err(why), out, observer);
+            (status, disk, false)
         }
     }
 }
 
-// Serves what the session of a server doesn't have of a script. Returns the status and the session's disk.
+// Serves what the session of a server doesn't have of a script. Returns the status, the session's disk, and whether a
+// line told an error.
 fn serve_once_on<D: Disk, W: Write, N: Observer<News>>(
     alloc: Global,
     mut server: Server<D>,
     script: &Script<'_>,
     out: &mut W,
     observer: &mut N,
-) -> (u8, D)
+) -> (u8, D, bool)
     requires nothing { HasServedNothing (seen_by server (W.contents out.old)) server.bases.items }
     ensures status { result.0 ≤ 1 }
     ensures served { ServedOnce D.Disk script.now server.session.start.disk result.1
-        (output server.lines.style (W.contents out.old)) (W.contents out.new) result.0 }
+        (output_by server.lines (W.contents out.old)) (W.contents out.new, result.2) result.0 }
 {
     let served = server.serve_once(alloc, script, out, observer);
     server.learn_all(observer);
@@ -207,7 +216,7 @@ fn serve_once_on<D: Disk, W: Write, N: Observer<News>>(
     let status = finish(both(served, told), &mut lines, out, observer);
     // If the disk failed, a refusal was printed: the status is 1 already.
     let failed = session.engine().failed();
-    (status_at(failed, status), session.close())
+    (status_at(failed, status), session.close(), lines.faulted())
 }
 
 /// Returns the first refusal, if there is one: that of what was served, or that of telling it.

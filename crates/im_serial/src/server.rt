@@ -1,10 +1,11 @@
 //! A session that serves requests one after another, and prints their lines.
-ghost use Rattle.std.specs.Prelude.{◌≡◌, ℕ, List, [], map, length, IfOk, OnOk, slice_get, Some};
+ghost use Rattle.std.specs.Prelude.{◌≡◌, ℕ, false, List, [], map, length, IfOk, OnOk, slice_get, Some};
 ghost use Rattle.im_types.specs.Types.{Waiter, Waiting, Command, Contents, IsMemory, after};
 ghost use Rattle.im_text.specs.Said.{answered_now, nows, PrintsMore, PrintsNows, Pushes, replied, who_of};
 ghost use Rattle.im_serial.specs.{declared.waits.Mark.TheVariants.Here, Once.done_line, Serving.ServedBy};
 ghost use Rattle.im_serial.specs.Noted.{AreKnown, AreLast, mark_place, noted_if, NotesMore};
 
+use crate::naming::Earlier;
 use crate::notes::WaitNote;
 use crate::room::ServerProgress;
 use crate::waits::{Places, learn_all, note, tell_earlier, waited_at};
@@ -19,6 +20,7 @@ use std::io::Write;
 #[derive(Drop)]
 pub struct Desk {
     places: Places,
+    earlier: Earlier,
     /// The lines that are printed.
     pub lines: Lines,
 }
@@ -29,9 +31,11 @@ impl Desk {
     pub fn new(alloc: Global, style: Style) -> Result<Desk, AllocError>
         ensures pending { IfOk result (λ desk. desk.lines.batch.pending.items ≡ []) }
         ensures style { IfOk result (λ desk. desk.lines.style ≡ style) }
+        ensures faulted { IfOk result (λ desk. desk.lines.faulted ≡ false) }
     {
         Ok(Desk {
             places: Places::new(alloc)?,
+            earlier: Earlier::new(alloc)?,
             lines: Lines::new(alloc, style)?,
         })
     }
@@ -50,6 +54,8 @@ pub struct Server<D: Disk> {
     pub lines: Lines,
     // The place of each request that had to wait, while it is kept.
     pub(crate) places: Places,
+    // What earlier scripts left.
+    pub(crate) earlier: Earlier,
     pub(crate) progress: ServerProgress,
 }
 
@@ -62,14 +68,20 @@ impl<D: Disk> Server<D> {
         ensures bases { result.bases.items ≡ [] }
         ensures memory { let m = session.engine.memory in IsMemory (length m.cells) (length m.windows) m }
     {
-        let Desk { mut places, lines } = desk;
+        let Desk {
+            mut places,
+            mut earlier,
+            lines,
+        } = desk;
         places.mark_earlier(session.memory());
+        earlier.find(session.memory());
         Server {
             session,
             bases: Vec::new(alloc),
             waited: Vec::new(alloc),
             lines,
             places,
+            earlier,
             progress: ServerProgress {
                 told: Progress {
                     served: 0,
@@ -91,6 +103,7 @@ impl<D: Disk> Server<D> {
             waited: _,
             lines,
             places: _,
+            earlier: _,
             progress: _,
         } = self;
         (session, lines)

@@ -65,9 +65,9 @@ pub fn serial_over_stops<W: Write, N: Observer<News>>(
     for at in 0..stops.len() {
         let stop = stops[at];
         let fused = FuseDisk::new(disk, stop.passes, stop.mode);
-        let (_status, left) = serial_once_on(alloc, fused, &styled, out, observer);
+        let (_status, left, _faulted) = serial_once_on(alloc, fused, &styled, out, observer);
         disk = left.into_inner().crash(stop.crash);
     }
-    let (status, disk) = serial_once_on(alloc, disk, &styled, out, observer);
+    let (status, disk, _faulted) = serial_once_on(alloc, disk, &styled, out, observer);
     (status, disk)
 }

@@ -137,33 +137,20 @@ fn answered(who: (u16, u64), entry: Entry) -> News {
     })
 }
 
-// Keeps the answer of a request that waited here. Tells the observer the answer of one that waited before.
-fn settle<N: Observer<News>>(
-    waited: &mut [WaitNote],
-    mark: Mark,
-    who: (u16, u64),
-    entry: Entry,
-    observer: &mut N,
-)
+// Keeps the answer of a request that waited here.
+fn settle(waited: &mut [WaitNote], mark: Mark, who: (u16, u64), entry: Entry)
     ensures names { map who_of waited.new ≡ map who_of waited.old }
     ensures sets { let who : Waiter = record { element = who.0; number = who.1 } in
         (i : ℕ) → slice_get waited.new i ≡ noted_by mark who entry i (slice_get waited.old i) }
 {
     match mark {
-        Mark::Nobody => {}
-        Mark::Earlier => observer.tell(answered(who, entry)),
+        Mark::Nobody | Mark::Earlier => {}
         Mark::Here(at) => set_entry(waited, at, who, entry),
     }
 }
 
 // Learns the answer under a number, before it is confirmed.
-fn learn_one<N: Observer<News>>(
-    waited: &mut [WaitNote],
-    places: &mut Places,
-    memory: &Memory,
-    who: (u16, u64),
-    observer: &mut N,
-)
+fn learn_one(waited: &mut [WaitNote], places: &mut Places, memory: &Memory, who: (u16, u64))
     ensures names { map who_of waited.new ≡ map who_of waited.old }
     ensures learnt { Learns memory.now.contents who.0 who.1 (who.1 + 1) places.old.marks.items waited.old
         places.new.marks.items waited.new }
@@ -171,7 +158,7 @@ fn learn_one<N: Observer<News>>(
     match memory.kept(who.0, who.1) {
         Some(kept) => {
             let mark = places.take(who.0, who.1);
-            settle(waited, mark, who, kept.entry, observer);
+            settle(waited, mark, who, kept.entry);
         }
         None => {}
     }
@@ -179,12 +166,11 @@ fn learn_one<N: Observer<News>>(
 
 /// Learns the answers under an element's numbers, before they are confirmed. `numbers` are the element, the first of
 /// them, and the one behind the last.
-pub fn learn<N: Observer<News>>(
+pub fn learn(
     waited: &mut [WaitNote],
     places: &mut Places,
     memory: &Memory,
     numbers: (u16, u64, u64),
-    observer: &mut N,
 )
     ensures names { map who_of waited.new ≡ map who_of waited.old }
     ensures learnt { numbers.1 ≤ numbers.2 → Learns memory.now.contents numbers.0 numbers.1 numbers.2
@@ -192,7 +178,7 @@ pub fn learn<N: Observer<News>>(
 {
     let (element, base, upto) = numbers;
     for number in base..upto {
-        learn_one(waited, places, memory, (element, number), observer);
+        learn_one(waited, places, memory, (element, number));
     }
 }
 

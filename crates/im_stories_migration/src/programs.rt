@@ -21,7 +21,7 @@ pub fn run(desk: &mut MigrationDesk, call: &Phrase, said: &mut Saying) {
     let Ok(line) = read_words(call.alloc(), call.rest(1)) else {
         return said.fail("bad words");
     };
-    let mut console = Console::new(desk.rt, desk.held, &line.work, NOBODY);
+    let mut console = Console::new(desk.rt, desk.held, &line, NOBODY);
     let mut nothing = b"".as_slice();
     desk.out = Printout::new(call.alloc());
     let hand = AtHand {

@@ -3,7 +3,7 @@
 use crate::ProgramDesk;
 use crate::spelling::{add_text, add_word};
 use im_migration::Asked;
-use im_program::{CommandLine, WordFault, Work, read_words};
+use im_program::{CommandLine, Talking, WordFault, Work, read_words};
 use im_report::View;
 use im_story::{Phrase, Saying};
 use im_text::Style;
@@ -37,6 +37,12 @@ fn add_look(said: &mut Saying, image: &str, look: View) {
     said.either(is_json, ", as JSON", "")
 }
 
+fn add_talk(said: &mut Saying, talk: &Talking<&str>) {
+    write!(said, "talk on {}", talk.image);
+    said.either(talk.watch, ", watched", ", unwatched");
+    said.either(talk.verbose, ", with a log", "")
+}
+
 fn add_work(said: &mut Saying, work: &Work<&str>) {
     match *work {
         Work::Demonstration => said.text("demonstration"),
@@ -47,22 +53,24 @@ fn add_work(said: &mut Saying, work: &Work<&str>) {
         }
         Work::Serial(it) => {
             write!(said, "serve {} on {}", it.script, it.image);
-            said.either(it.once, ", once", "")
+            said.either(it.once, ", once", "");
+            said.either(it.strict, ", strictly", "")
         }
         Work::Run(run) => {
             write!(said, "run {} on {}", run.script, run.image);
             said.either(run.planned, ", planned", "");
             said.either(run.once, ", once", "");
+            said.either(run.strict, ", strictly", "");
             if let Some(path) = run.trace {
                 write!(said, ", traced to {path}")
             }
         }
-        Work::Serve(it) => {
-            write!(said, "talk on {}", it.image);
-            said.either(it.watch, ", watched", ", unwatched")
-        }
+        Work::Serve(it) => add_talk(said, &it),
         Work::Inspect(it) => add_look(said, it.image, it.look),
-        Work::Dump(image) => write!(said, "dump {image}"),
+        Work::Dump(it) => {
+            write!(said, "dump {}", it.image);
+            said.either(it.damaged, ", damaged too", "")
+        }
         Work::Load(it) => {
             write!(said, "load {} into {}", it.from, it.new);
             add_sizes(said, it.asked)
@@ -86,6 +94,7 @@ fn style_of(work: &Work<&str>) -> Style {
 fn add_line(said: &mut Saying, line: &CommandLine) {
     add_work(said, &line.work);
     said.either(line.statuses, ", by statuses", "");
+    said.either(line.progress, ", with progress", "");
     said.text(match style_of(&line.work) {
         Style::Text => "",
         Style::Quiet => ", quietly",

@@ -28,7 +28,7 @@ pub fn run(desk: &mut ProgramDesk, call: &Phrase, said: &mut Saying) {
     let Ok(line) = read_words(call.alloc(), call.rest(1)) else {
         return said.fail("bad words");
     };
-    let mut console = Console::new(desk.rt, desk.held, &line.work, NOBODY);
+    let mut console = Console::new(desk.rt, desk.held, &line, NOBODY);
     desk.print(usize::MAX);
     let mut input = desk.text.as_slice();
     let hand = AtHand {
@@ -56,6 +56,7 @@ fn is_done<'a>(
         image,
         script: call.word(3),
         once: false,
+        strict: false,
         style: Style::Text,
     };
     let hand = AtHand {

@@ -39,7 +39,7 @@ fn serve_script(desk: &mut ProgramDesk, is_once: bool, said: &mut Saying) -> u8 
         script: &script,
         style: Style::Text,
     };
-    let (status, disk) = if is_once {
+    let (status, disk, _faulted) = if is_once {
         serial_once_on(alloc, disk, &styled, &mut desk.out, &mut desk.notes)
     } else {
         serial_on(alloc, disk, &styled, &mut desk.out, &mut desk.notes)

@@ -47,7 +47,7 @@ fn done(
         }
         Work::Serial(it) => of_one(serve_file(hand, &it, out, Unknown)),
         Work::Inspect(it) => of_one(inspect_file(hand, it.image, &it.look, out, Unknown)),
-        Work::Dump(image) => of_one(dump_file(hand, image, out, Unknown)),
+        Work::Dump(it) => of_one(dump_file(hand, &it, out, Unknown)),
         Work::Load(it) => of_one(load_file(hand, &it, out, Unknown)),
         Work::Migrate(it) => of_two(migrate_file(hand, &it, out, (Unknown, Unknown))),
         Work::Copy(it) => of_two(copy_file(hand, &it, out, (Unknown, Unknown))),

@@ -32,6 +32,11 @@ impl Observer<News> for ObserverNotes {
                 self.told.entry(waited.entry);
                 self.told.text("\n")
             }
+            News::Confirmed(it) => {
+                write!(self.told, "confirmed {}.{} ", it.element, it.number);
+                self.told.entry(it.entry);
+                self.told.text("\n")
+            }
             News::Progressed(progress) => self.progress = Some(progress),
             News::Refused(reason) => writeln!(self.told, "{reason}"),
             News::Warned(warning) => writeln!(self.told, "{warning}"),

@@ -12,17 +12,18 @@ use im_serial::StyledScript;
 use im_serving::{EarlierAnswer, Gate, Host, Open};
 use im_story::{Printout, Saying};
 use im_story_disk::StoryFile;
-use im_text::{News, Reason, Style, Waited};
+use im_text::{News, Reason, Style, strict_status};
 use im_types::{Entry, Limits, Observer, Refusal};
 use std::alloc::Global;
 use std::sync::Mutex;
 
-/// How a script is run: once or not, as a plan or not, and for its trace or not.
+/// How a script is run: once or not, as a plan or not, for its trace or not, and strictly or not.
 #[derive(Clone, Copy)]
 pub struct How {
     once: bool,
     planned: bool,
     recorded: bool,
+    strict: bool,
 }
 
 impl How {
@@ -32,6 +33,7 @@ impl How {
             once: call.starts_with("once") || call.starts_with("again"),
             planned: call.ends_with("plan"),
             recorded: call == "trace",
+            strict: call == "strict",
         }
     }
 }
@@ -65,13 +67,9 @@ impl Observer<News> for Noted {
     fn tell(&mut self, news: News) {
         match news {
             News::Refused(reason) => self.refused = Some(reason),
-            News::Answered(waited) => {
-                let Waited {
-                    element,
-                    number,
-                    entry,
-                } = waited;
-                self.note("at the end", (element, number), entry)
+            News::Answered(it) => self.note("at the end", (it.element, it.number), it.entry),
+            News::Confirmed(it) => {
+                self.note("before it is confirmed", (it.element, it.number), it.entry)
             }
             _ => {}
         }
@@ -91,7 +89,7 @@ fn run_as<D: Disk + Drop + Send, G: Gate + Sync, R: Host>(
     task: Task<'_>,
     out: &mut Printout,
     noted: &mut Noted,
-) -> (u8, D, Trace) {
+) -> (u8, D, Trace, bool) {
     let Task { script, how } = task;
     let (style, planned) = (Style::Text, how.planned);
     if how.once {
@@ -186,11 +184,17 @@ impl<'a> RunDesk<'a> {
         let (out, noted) = (&mut self.out, &mut self.noted);
         let context = RunContext::new(rt, alloc, gate, hearing, how.recorded);
         let script = &script;
-        let (status, disk, trace) = run_as(&context, disk, Task { script, how }, out, noted);
+        let (status, disk, trace, faulted) = run_as(
+            &context,
+            disk,
+            Task { script, how },
+            out,
+            noted,
+        );
         self.noted.note_told(heard.lock(rt).as_slice());
         self.place.lay_down(disk);
         self.print_trace(how.recorded, &trace);
-        status
+        strict_status(how.strict, faulted, status)
     }
 
     // Prints a trace in place of lines, if it was recorded.
@@ -272,7 +276,11 @@ impl<'a> RunDesk<'a> {
         match call {
             "#" => writeln!(self.said, "{line}"),
             "new" | "old" => self.lay(call == "old"),
-            "run" | "plan" | "trace" | "once" | "once-plan" => self.run(rt, How::of(call), words),
+            "run" | "strict" | "plan" | "trace" | "once" | "once-plan" => self.run(
+                rt,
+                How::of(call),
+                words,
+            ),
             "fault" => self.run_failing(rt, words),
             "owed" | "once-owed" | "owed-plan" => self.run_owed(rt, How::of(call), words),
             "again" | "again-plan" => run_again(rt, self, How::of(call), words),

@@ -8,6 +8,7 @@
 //! run NAME, plan NAME, trace NAME    runs a script on the image, as a plan, or for its trace. With `after N` the
 //!                                requests of the other of elements 1 and 2 are held until one of N's is answered
 //! held TEXT                      tells the text, and whether the last run held requests back so
+//! strict NAME                    the same as run, with the status of a strict script
 //! report, report windows         the image's cells and entries, or its windows
 //! owed NAME, once-owed NAME, owed-plan NAME    the same as run, once and plan, but it tells what the run told of
 //!                                earlier scripts: before it was confirmed, or at the end

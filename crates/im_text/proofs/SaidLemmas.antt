@@ -1,14 +1,16 @@
 -- Lines on their way to a writer, and the lines of commands. (Own.)
-use Rattle.std.proofs.Common.{◌≡◌, ℕ, false, ◌⊎◌, List, [], ◌∷◌, ◌++◌, Ok, Err, Option, Result, sym, refl, ap, ◌∙◌}
-use Rattle.std.proofs.Common.{subst, ap₂, inl, inr, append_assoc, append-nil}
-use Rattle.std.proofs.KnownBytes.{Appends-nil}
+use Rattle.std.proofs.Common.{◌≡◌, ℕ, Bool, true, false, ◌||◌, ◌⊎◌, List, [], ◌∷◌, ◌++◌, Ok, Err, Option, Result, sym}
+use Rattle.std.proofs.Common.{refl, ap, ◌∙◌, subst, ap₂, inl, inr, append_assoc, append-nil}
+use Rattle.std.proofs.{KnownBytes.Appends-nil, lemmas.List.Folds.list_any-append, Math.Bool.or_assoc}
+use Rattle.std.specs.List.{list_any}
 use Rattle.im_types.specs.Types.{Waiter, Command, Refusal, Contents, step, after}
 use Rattle.im_text.proofs.PrintingLemmas.{batches_after, batches_all, batches_begin, batches_none}
 use Rattle.im_text.specs.declared.lines.Lines.{Lines}
 use Rattle.im_text.specs.declared.said.{OutputLine.OutputLine, OutputLine.TheVariants.Refused, Style.Style}
 use Rattle.im_text.specs.Printing.{Batches, BatchesMore, BatchesOn, TakesText}
-use Rattle.im_text.specs.Said.{IsLast, Output, output, Prints, PrintsMore, PrintsOn, Pushes, replies, reply_line}
-use Rattle.im_text.specs.Said.{said_all, said_in, SaysLast, SaysSome, SaysWhole, waits, waits_by}
+use Rattle.im_text.specs.Said.{is_fault_line, is_faulted, IsLast, Output, output_by, output_from, Prints, PrintsMore}
+use Rattle.im_text.specs.Said.{PrintsOn, replies, reply_line, said_all, said_in, SaysLast, SaysSome, SaysWhole, waits}
+use Rattle.im_text.specs.Said.{waits_by, Written}
 
 -- ---- what is said
 
@@ -27,56 +29,69 @@ said_nothing : (style : Style) → said_all style [] ≡ []
 unfolding said_all
 said_nothing style = refl
 
+-- ---- which of them tell a fault
+
+or_false : (a : Bool) → (a || false) ≡ a
+or_false true = refl
+or_false false = refl
+
+-- one time after another
+faulted_both : (from : Output) (b : Bool) (some more : List OutputLine) → b ≡ is_faulted from some
+    → (b || list_any is_fault_line more) ≡ is_faulted from (some ++ more)
+faulted_both from b some more is = ap (λ (x : Bool). x || list_any is_fault_line more) is
+    ∙ or_assoc from.faulted (list_any is_fault_line some) (list_any is_fault_line more)
+    ∙ ap (λ (x : Bool). from.faulted || x) (sym (list_any-append is_fault_line some more))
+
 -- ---- lines and their batch
 
 -- no text more
 pub prints_on : (was is : Option (List ℕ)) (before after : Lines) → after.style ≡ before.style
-    → BatchesOn was before.batch is after.batch → PrintsOn was before is after
-prints_on was is before after same on from said it = record {
+    → after.faulted ≡ before.faulted → BatchesOn was before.batch is after.batch → PrintsOn was before is after
+prints_on was is before after same told on from said it = record {
   styled = same ∙ it.styled;
+  told = told ∙ it.told;
   printed = on from.held (said_all from.style said) it.printed;
 }
 
 -- the text of a line more
-prints_more : (was is : Option (List ℕ)) (before after : Lines) (line : OutputLine) (text : List ℕ)
-    → after.style ≡ before.style → text ≡ said_in before.style line
+pub prints_more : (was is : Option (List ℕ)) (before after : Lines) (line : OutputLine) (text : List ℕ)
+    → after.style ≡ before.style → after.faulted ≡ (before.faulted || is_fault_line line)
+    → text ≡ said_in before.style line
     → BatchesMore was before.batch is after.batch text → PrintsMore was before is after (line ∷ [])
-prints_more was is before after line text same made more from said it = record {
+prints_more was is before after line text same told made more from said it = record {
   styled = same ∙ it.styled;
+  told = told ∙ ap (λ (b : Bool). before.faulted || b) (sym (or_false (is_fault_line line)))
+      ∙ faulted_both from before.faulted said (line ∷ []) it.told;
   printed = subst (Batches from.held is after.batch)
       (ap (λ (l : List ℕ). said_all from.style said ++ l) (made ∙ ap (λ (s : Style). said_in s line) it.styled
       ∙ sym (said_one from.style line)) ∙ sym (said_both from.style said (line ∷ [])))
       (more from.held (said_all from.style said) it.printed);
 }
 
-pub pushes : {T E : Type 0} (r : Result T E) (was is : Option (List ℕ)) (before after : Lines) (line : OutputLine)
-    (text : List ℕ) → after.style ≡ before.style → text ≡ said_in before.style line
-    → TakesText r was before.batch is after.batch text → Pushes r was before is after (line ∷ [])
-pushes (Ok x) was is before after line text same made more = prints_more was is before after line text same made more
-pushes (Err e) was is before after line text same made on = prints_on was is before after same on
-
 -- all of it is written
 pub prints_all : (from : Output) (is : Option (List ℕ)) (lines : Lines) (said : List OutputLine)
-    → lines.batch.broken ≡ false → lines.batch.pending.items ≡ [] → Prints from is lines said → SaysWhole from is said
+    → lines.batch.broken ≡ false → lines.batch.pending.items ≡ [] → Prints from is lines said
+    → SaysWhole from (is, lines.faulted) said
 prints_all from is lines said works none it =
-    batches_all from.held is lines.batch (said_all from.style said) works none it.printed
+    (batches_all from.held is lines.batch (said_all from.style said) works none it.printed, it.told)
 
 -- a prefix of it is written
 pub prints_begins : (from : Output) (is : Option (List ℕ)) (lines : Lines) (said : List OutputLine)
-    → Prints from is lines said → SaysSome from is said
-prints_begins from is lines said it = batches_begin from.held is lines.batch (said_all from.style said) it.printed
+    → Prints from is lines said → SaysSome from (is, lines.faulted) said
+prints_begins from is lines said it =
+    (batches_begin from.held is lines.batch (said_all from.style said) it.printed, it.told)
 
 -- nothing is said
 pub nothing_said : (from : Output) → SaysLast from from.held
 nothing_said from = ([], (inl refl, (0, Appends-nil from.held)))
 
 -- nothing is printed yet
-pub prints_none : (from : Output) (lines : Lines) → lines.style ≡ from.style → lines.batch.pending.items ≡ []
-    → Prints from from.held lines []
-prints_none from lines same none = record {
-  styled = same;
-  printed = subst (Batches from.held from.held lines.batch) (sym (said_nothing from.style))
-      (batches_none from.held lines.batch none);
+pub prints_none : (held : Option (List ℕ)) (lines : Lines) → lines.batch.pending.items ≡ []
+    → Prints (output_by lines held) held lines []
+prints_none held lines none = record {
+  styled = refl;
+  told = sym (or_false lines.faulted);
+  printed = subst (Batches held held lines.batch) (sym (said_nothing lines.style)) (batches_none held lines.batch none);
 }
 
 -- no line more
@@ -84,12 +99,14 @@ pub prints_same : (was : Option (List ℕ)) (lines : Lines) → PrintsMore was l
 prints_same was lines from said it = subst (Prints from was lines) (sym (append-nil said)) it
 
 -- behind lines that were written
-pub prints_after : (was : Output) (mid is : Option (List ℕ)) (lines : Lines) (had said : List OutputLine)
-    → SaysWhole was mid had → Prints (output was.style mid) is lines said → Prints was is lines (had ++ said)
+pub prints_after : (was : Output) (mid : Written) (is : Option (List ℕ)) (lines : Lines) (had said : List OutputLine)
+    → SaysWhole was mid had → Prints (output_from was mid) is lines said → Prints was is lines (had ++ said)
 prints_after was mid is lines had said first it = record {
   styled = it.styled;
+  told = it.told ∙ faulted_both was mid.1 had said first.1;
   printed = subst (Batches was.held is lines.batch) (sym (said_both was.style had said))
-      (batches_after was.held mid is lines.batch (said_all was.style had) (said_all was.style said) first it.printed);
+      (batches_after was.held mid.0 is lines.batch (said_all was.style had) (said_all was.style said) first.0
+      it.printed);
 }
 
 -- ---- lines of commands

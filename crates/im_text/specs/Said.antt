@@ -1,7 +1,7 @@
 -- The lines of a script as values, how each is said, and how far they were written. (Own.)
-use Rattle.std.specs.Prelude.{◌≡◌, ℕ, ◌≤◌, ◌⊎◌, List, [], ◌∷◌, ◌++◌, length, slice_get, MatchResult, Some, None, Ok}
-use Rattle.std.specs.Prelude.{Err, codes, decimal, Option, Result}
-use Rattle.std.specs.Io.KnownBytes.{Appends}
+use Rattle.std.specs.Prelude.{◌≡◌, ℕ, ◌≤◌, Bool, false, ◌||◌, ◌⊎◌, List, [], ◌∷◌, ◌++◌, length, slice_get, MatchResult}
+use Rattle.std.specs.Prelude.{Some, None, Ok, Err, codes, decimal, Option, Result}
+use Rattle.std.specs.{Io.KnownBytes.Appends, List.list_any}
 use Rattle.im_types.specs.Types.{Entry, Waiter, Waiting, Answered, Command, Outcome, Asks, Confirm, Tells, Confirmed}
 use Rattle.im_types.specs.Types.{Refusal, Gap, Forgotten, WindowFull, Mismatch, NoElement, NotAnswered, JournalFull}
 use Rattle.im_types.specs.Types.{Device, Failed, NoMemory, TraceFull, WrongLength, NoHeader, BadHeader, BadPage}
@@ -12,7 +12,7 @@ use Rattle.im_text.specs.declared.said.OutputLine.TheVariants.{Done, Glance, Now
 use Rattle.im_text.specs.declared.said.Style.{Style, TheVariants.Json, TheVariants.Quiet, TheVariants.Text}
 use Rattle.im_text.specs.Objects.{number_member, number_of_entry, object_start, word_of_entry}
 use Rattle.im_text.specs.Printing.{Batches, Begins, now_line, refused_line, told_line}
-use Rattle.im_text.specs.Texts.{line_feed, texts_below}
+use Rattle.im_text.specs.Texts.{is_fault_entry, line_feed, texts_below}
 
 -- ---- the words of a line
 
@@ -187,30 +187,56 @@ IsLast last = (last ≡ []) ⊎ ((refusal : Refusal) × (last ≡ Refused refusa
 
 -- ---- how far they were written
 
--- what a writer held when its lines began, and how they are said
+-- whether a line tells an error of the program that asked
+abbrev pub is_fault_line : OutputLine → Bool
+is_fault_line (Reply w) = is_fault_entry w.entry
+is_fault_line (Now w) = is_fault_entry w.entry
+is_fault_line (Done element number) = false
+is_fault_line (Glance element address value) = false
+is_fault_line (Refused refusal) = false
+
+-- how lines are said, what their writer holds, and whether one of those so far tells an error of the program that asked
 pub record Output : Type 0 where
   pub style : Style
   pub held : Option (List ℕ)
+  pub faulted : Bool
 
--- the same of a style, and of what it held
+-- an output before its first line
 abbrev pub output : Style → Option (List ℕ) → Output
-output style held = record { style = style; held = held }
+output style held = record { style = style; held = held; faulted = false }
+
+-- the output of a writer, with the lines on their way to it
+abbrev pub output_by : Lines → Option (List ℕ) → Output
+output_by lines held = record { style = lines.style; held = held; faulted = lines.faulted }
+
+-- what a writer holds when its lines end, and whether one of them tells an error of the program that asked
+abbrev pub Written : Type 0
+Written = Option (List ℕ) × Bool
+
+-- the same output, from there on
+abbrev pub output_from : Output → Written → Output
+output_from from is = record { style = from.style; held = is.0; faulted = is.1 }
+
+-- whether one of these lines, or one before, tells an error
+abbrev pub is_faulted : Output → List OutputLine → Bool
+is_faulted from said = from.faulted || list_any is_fault_line said
 
 -- a prefix of what is said of these lines was written
-abbrev pub SaysSome : Output → Option (List ℕ) → List OutputLine → Type 0
-SaysSome from is said = Begins from.held is (said_all from.style said)
+abbrev pub SaysSome : Output → Written → List OutputLine → Type 0
+SaysSome from is said = Begins from.held is.0 (said_all from.style said) × (is.1 ≡ is_faulted from said)
 
 -- all of it was written
-abbrev pub SaysWhole : Output → Option (List ℕ) → List OutputLine → Type 0
-SaysWhole from is said = Appends from.held is (said_all from.style said)
+abbrev pub SaysWhole : Output → Written → List OutputLine → Type 0
+SaysWhole from is said = Appends from.held is.0 (said_all from.style said) × (is.1 ≡ is_faulted from said)
 
 -- no more than the line of a refusal was said
 abbrev pub SaysLast : Output → Option (List ℕ) → Type 0
-SaysLast from is = (last : List OutputLine) × (IsLast last × SaysSome from is last)
+SaysLast from is = (last : List OutputLine) × (IsLast last × Begins from.held is (said_all from.style last))
 
 -- These lines were said: a prefix of that was written, and as long as no write has failed, the rest is kept back.
 pub record Prints (from : Output) (now : Option (List ℕ)) (lines : Lines) (said : List OutputLine) : Type 0 where
   pub styled : lines.style ≡ from.style
+  pub told : lines.faulted ≡ is_faulted from said
   pub printed : Batches from.held now lines.batch (said_all from.style said)
 
 -- no line more

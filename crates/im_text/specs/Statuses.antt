@@ -1,5 +1,5 @@
 -- The exit status of a program that tells its refusals apart. (Own.)
-use Rattle.std.specs.Prelude.{ℕ}
+use Rattle.std.specs.Prelude.{ℕ, Bool, ◌&&◌, if◌then◌else◌, ◌==◌}
 use Rattle.im_types.specs.Types.{Refusal, Gap, Forgotten, WindowFull, Mismatch, NoElement, NotAnswered, JournalFull}
 use Rattle.im_types.specs.Types.{Device, Failed, NoMemory, TraceFull, WrongLength, NoHeader, BadHeader, BadPage}
 use Rattle.im_types.specs.Types.{BadRecord, BadLimits, BadScript, Stalled, OffPlan, OldVersion, NotBlank, BadPlan}
@@ -31,3 +31,7 @@ status_of_image OldVersion = 5
 status_of_image NotBlank = 5
 status_of_image BadPlan = 1
 status_of_image PaneGone = 1
+
+-- the status where it is to tell errors of the program that asked: 6 in the place of 0, if a line told one
+abbrev pub strict_status : Bool → Bool → ℕ → ℕ
+strict_status strict faulted status = if strict && faulted && (status == 0) then 6 else status

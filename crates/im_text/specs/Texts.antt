@@ -1,5 +1,5 @@
 -- The texts that lines are made of: numbers below a bound, kinds, operations, answers. (Own.)
-use Rattle.std.specs.Prelude.{ℕ, zero, suc, List, [], ◌∷◌, ◌++◌, codes, decimal}
+use Rattle.std.specs.Prelude.{ℕ, zero, suc, Bool, true, false, List, [], ◌∷◌, ◌++◌, codes, decimal}
 use Rattle.im_types.specs.Types.{Entry, Kind, Op, Reply, Waiting, Answered, I, M, Alloc, Release, Reset, Fetch, Store}
 use Rattle.im_types.specs.Types.{Take, Put, Base, NoSpace, BadLength, Value, Stored, Clash, NoCell, WrongKind, Released}
 use Rattle.im_types.specs.Types.{NoBlock, StillWaiting, Cleared}
@@ -47,3 +47,23 @@ reply_text Cleared = codes "cleared"
 abbrev pub entry_text : Entry → List ℕ
 entry_text Waiting = codes "waiting"
 entry_text (Answered reply) = reply_text reply
+
+-- whether an answer tells an error of the program that asked
+abbrev pub is_fault_reply : Reply → Bool
+is_fault_reply (Base a) = false
+is_fault_reply NoSpace = true
+is_fault_reply BadLength = true
+is_fault_reply (Value v) = false
+is_fault_reply Stored = false
+is_fault_reply Clash = true
+is_fault_reply NoCell = true
+is_fault_reply WrongKind = true
+is_fault_reply Released = false
+is_fault_reply NoBlock = true
+is_fault_reply StillWaiting = true
+is_fault_reply Cleared = false
+
+-- the same of an entry
+abbrev pub is_fault_entry : Entry → Bool
+is_fault_entry Waiting = false
+is_fault_entry (Answered reply) = is_fault_reply reply

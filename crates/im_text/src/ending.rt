@@ -45,7 +45,8 @@ pub fn finish<W: Write, N: Observer<News>>(
 ) -> u8
     ensures status { result ≤ 1 }
     ensures whole { result ≡ 0 → IsOk done × ((from : Output) (said : List OutputLine)
-        → Prints from (W.contents out.old) lines.old said → SaysWhole from (W.contents out.new) said) }
+        → Prints from (W.contents out.old) lines.old said
+        → SaysWhole from (W.contents out.new, lines.new.faulted) said) }
     ensures last { (from : Output) (said : List OutputLine) → Prints from (W.contents out.old) lines.old said
         → (last : List OutputLine) × (IsLast last × Prints from (W.contents out.new) lines.new (said ++ last)) }
 {

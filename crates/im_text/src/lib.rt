@@ -4,6 +4,7 @@
 mod batches;
 mod diagnosis;
 mod ending;
+mod erring;
 mod faults;
 mod lines;
 mod news;
@@ -22,5 +23,5 @@ pub use news::{News, Progress, Warning};
 pub use objects::{add_number, add_object_start, add_op_members, entry_parts, op_word};
 pub use reasons::Reason;
 pub use replies::{Waited, add_entry, add_op, kind_text};
-pub use said::{OutputLine, Style, make_words};
-pub use statuses::{IN_USE, USELESS};
+pub use said::{OutputLine, Style, make_confirmed, make_words};
+pub use statuses::{FAULTY, IN_USE, USELESS, strict_status};

@@ -3,6 +3,7 @@ ghost use Rattle.std.specs.Prelude.{◌≡◌, false, [], ◌∷◌, IfOk, OnOk}
 ghost use Rattle.im_text.specs.Said.{PrintsOn, Pushes};
 
 use crate::batches::Batch;
+use crate::erring::is_fault_line;
 use crate::reasons::Reason;
 use crate::said::{OutputLine, Style, add_said};
 use std::alloc::{AllocError, Global};
@@ -18,6 +19,8 @@ pub struct Lines {
     batch: Batch,
     /// How they are said.
     style: Style,
+    /// Whether one of them tells an error of the program that asked.
+    faulted: bool,
     /// Room for what is said of a line.
     made: String,
 }
@@ -28,10 +31,12 @@ impl Lines {
         ensures pending { IfOk result (λ lines. lines.batch.pending.items ≡ []) }
         ensures works { IfOk result (λ lines. lines.batch.broken ≡ false) }
         ensures style { IfOk result (λ lines. lines.style ≡ style) }
+        ensures faulted { IfOk result (λ lines. lines.faulted ≡ false) }
     {
         Ok(Lines {
             batch: Batch::new(alloc)?,
             style,
+            faulted: false,
             made: String::with_capacity(alloc, LINE)?,
         })
     }
@@ -42,9 +47,23 @@ impl Lines {
     {
         self.made.clear();
         match add_said(&mut self.made, self.style, line) {
-            Ok(()) => self.batch.push(out, self.made.as_str()),
+            Ok(()) => match self.batch.push(out, self.made.as_str()) {
+                Ok(()) => {
+                    self.faulted |= is_fault_line(line);
+                    Ok(())
+                }
+                Err(reason) => Err(reason),
+            },
             Err(_) => Err(Reason::Memory),
         }
+    }
+
+    /// Returns whether one of the lines tells an error of the program that asked: `nospace`, `badlength`, `clash`,
+    /// `nocell`, `wrongkind`, `noblock` or `stillwaiting`.
+    pub fn faulted(&self) -> bool
+        ensures { result ≡ self.now.faulted }
+    {
+        self.faulted
     }
 
     /// Writes what is kept back, and flushes the writer. After a fault of the writer, nothing more is written.

@@ -47,9 +47,10 @@ impl Display for Warning {
 /// each line of the output written as soon as it is true. Else lines are written in batches.
 #[derive(Clone, Copy, Debug)]
 pub enum News {
-    /// The answer to a request that waited when the image was opened. It is told before the request's entry is
-    /// confirmed, or at the end.
+    /// The answer to a request that waited when the image was opened, and that is kept at the end.
     Answered(Waited),
+    /// An entry of an earlier script that is confirmed next, since a window is full. Nobody may have seen it.
+    Confirmed(Waited),
     /// How far the work has come. It is told before each request.
     Progressed(Progress),
     /// Why the work is refused.

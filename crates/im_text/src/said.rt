@@ -1,5 +1,5 @@
 //! The lines of a script as values, and how each is said.
-ghost use Rattle.std.specs.Prelude.{◌≡◌, ◌++◌, OnOk, Some, string_bytes};
+ghost use Rattle.std.specs.Prelude.{◌≡◌, ◌++◌, OnOk, Some, string_bytes, codes};
 ghost use Rattle.im_text.specs.Objects.{number_of_entry, word_of_entry};
 ghost use Rattle.im_text.specs.Printing.{now_line, refused_line, told_line};
 ghost use Rattle.im_text.specs.Said.{done_text, glance_object, glance_start, glance_text, line_words, object_of};
@@ -287,4 +287,13 @@ pub fn make_words(out: &mut String, line: OutputLine) -> Result<(), AllocError>
 {
     out.clear();
     add_words(out, line)
+}
+
+/// Makes the line `confirmed K.N REPLY`, for an entry of an earlier script that is confirmed.
+pub fn make_confirmed(out: &mut String, it: Waited) -> Result<(), AllocError>
+    ensures { OnOk result (string_bytes out.new ≡ codes "confirmed " ++ told_line it.element it.number it.entry) }
+{
+    out.clear();
+    out.push_str("confirmed ")?;
+    add_line(out, it.element, it.number, it.entry)
 }

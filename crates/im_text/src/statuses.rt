@@ -1,7 +1,7 @@
 //! The exit status of a program that tells its refusals apart.
 ghost use Rattle.std.specs.Prelude.{◌≡◌, ◌⊎◌};
 ghost use Rattle.{im_types.specs.Types.Refusal, im_damage.specs.declared.Damage.Damage};
-ghost use Rattle.im_text.specs.Statuses.{status_of_image};
+ghost use Rattle.im_text.specs.Statuses.{status_of_image, strict_status};
 
 use crate::faults::PathFault;
 use crate::reasons::Reason;
@@ -14,6 +14,22 @@ pub const IN_USE: u8 = 4;
 /// The status of a refusal that stays the same at each try: there is no image, it is damaged or old, or there is no
 /// permission.
 pub const USELESS: u8 = 5;
+
+/// The status of a strict script of which all was served, if a line of it told an error of the program that asked.
+pub const FAULTY: u8 = 6;
+
+/// Returns the status of a script that ended with this one. It is [`FAULTY`] if the script is strict, all was served,
+/// and a line told an error of the program that asked.
+pub fn strict_status(strict: bool, faulted: bool, status: u8) -> u8
+    ensures status { result ≡ strict_status strict faulted status }
+    ensures range { (result ≡ status) ⊎ (result ≡ FAULTY) }
+{
+    if strict && faulted && status == 0 {
+        FAULTY
+    } else {
+        status
+    }
+}
 
 // The status for the refusal of an image.
 fn of_image(refusal: Refusal) -> u8

@@ -109,6 +109,7 @@ texts_in (Serial it) = Serial (record {
   image = it.image.now;
   script = it.script.now;
   once = it.once;
+  strict = it.strict;
   style = it.style;
 })
 texts_in (Run it) = Run (record {
@@ -116,6 +117,7 @@ texts_in (Run it) = Run (record {
   script = it.script.now;
   planned = it.planned;
   once = it.once;
+  strict = it.strict;
   style = it.style;
   trace = option_map (λ path. path.now) it.trace;
 })
@@ -123,9 +125,10 @@ texts_in (Serve it) = Serve (record {
   image = it.image.now;
   watch = it.watch;
   backups = option_map (λ path. path.now) it.backups;
+  verbose = it.verbose;
 })
 texts_in (Inspect it) = Inspect (record { image = it.image.now; look = it.look })
-texts_in (Dump image) = Dump image.now
+texts_in (Dump it) = Dump (record { image = it.image.now; damaged = it.damaged })
 texts_in (Load it) = Load (record { from = it.from.now; new = it.new.now; asked = it.asked })
 texts_in (Migrate it) = Migrate (record { old = it.old.now; new = it.new.now })
 texts_in (Copy it) = Copy (record { from = it.from.now; new = it.new.now; asked = it.asked })
@@ -179,6 +182,7 @@ serial_work rows = option_map (λ style. Serial (record {
   image = path_in rows (codes "IMAGE");
   script = path_in rows (codes "SCRIPT");
   once = is_given rows (codes "once");
+  strict = is_given rows (codes "strict");
   style = style;
 })) (style_given rows)
 
@@ -189,6 +193,7 @@ run_work rows = option_map (λ style. Run (record {
   script = path_in rows (codes "SCRIPT");
   planned = is_given rows (codes "planned");
   once = is_given rows (codes "once");
+  strict = is_given rows (codes "strict");
   style = style;
   trace = first_of (codes "trace") rows;
 })) (style_given rows)
@@ -199,6 +204,7 @@ serve_work rows = Serve (record {
   image = path_in rows (codes "IMAGE");
   watch = is_given rows (codes "watch");
   backups = first_of (codes "backups") rows;
+  verbose = is_given rows (codes "verbose");
 })
 
 -- the addresses that a text gives
@@ -247,13 +253,16 @@ copy_work rows = option_map (λ asked. Copy (record {
   asked = asked;
 })) (sizes_given rows)
 
--- a dump, or one as objects of JSON
-abbrev pub dump_as : Bool → Text → Work Text
-dump_as json image = if json then Inspect (record { image = image; look = DumpJson }) else Dump image
+-- a dump, also of a damaged image, or one as objects of JSON
+abbrev pub dump_as : Bool → Bool → Text → Option (Work Text)
+dump_as false damaged image = Some (Dump (record { image = image; damaged = damaged }))
+dump_as true true image = None
+dump_as true false image = Some (Inspect (record { image = image; look = DumpJson }))
 
--- what dump is asked for
-abbrev pub dump_work : List Row → Work Text
-dump_work rows = dump_as (is_given rows (codes "json")) (path_in rows (codes "IMAGE"))
+-- what dump is asked for, if no damaged image is to be dumped as JSON
+abbrev pub dump_work : List Row → Option (Work Text)
+dump_work rows =
+    dump_as (is_given rows (codes "json")) (is_given rows (codes "damaged")) (path_in rows (codes "IMAGE"))
 
 -- what load is asked for, if each size that is given is in decimal digits below 2^32
 abbrev pub load_work : List Row → Option (Work Text)
@@ -271,13 +280,13 @@ work_in (Some met) =
     then serial_work met.1 else if bytes_eq met.0 (codes "run") then run_work met.1
     else if bytes_eq met.0 (codes "serve") then Some (serve_work met.1) else if bytes_eq met.0 (codes "migrate")
     then Some (migrate_work met.1) else if bytes_eq met.0 (codes "copy") then copy_work met.1
-    else if bytes_eq met.0 (codes "dump") then Some (dump_work met.1) else if bytes_eq met.0 (codes "load")
+    else if bytes_eq met.0 (codes "dump") then dump_work met.1 else if bytes_eq met.0 (codes "load")
     then load_work met.1 else if bytes_eq met.0 (codes "stat") then Some (stat_work met.1) else inspect_work met.1
 
--- whether the exit status of the subcommand that was found tells refusals apart
-abbrev pub has_statuses : Option (Text × List Row) → Bool
-has_statuses None = false
-has_statuses (Some met) = is_given met.1 (codes "statuses")
+-- whether a flag is given to the subcommand that was found
+abbrev pub has_flag : Text → Option (Text × List Row) → Bool
+has_flag id None = false
+has_flag id (Some met) = is_given met.1 id
 
 -- the seconds that a text gives in decimal digits, up to a day
 abbrev pub seconds_of : Text → Option ℕ
@@ -297,9 +306,13 @@ wait_in (Some met) = seconds_in met.1
 abbrev pub asks_wait : List Text → Option ℕ
 asks_wait words = wait_in (subcommand_of imem_app words)
 
--- the same of the words, as clap walks them
+-- whether the exit status of the subcommand that the words name tells refusals apart, as clap walks them
 abbrev pub asks_statuses : List Text → Bool
-asks_statuses words = has_statuses (subcommand_of imem_app words)
+asks_statuses words = has_flag (codes "statuses") (subcommand_of imem_app words)
+
+-- whether it tells its progress to whoever reads standard error
+abbrev pub asks_progress : List Text → Bool
+asks_progress words = has_flag (codes "progress") (subcommand_of imem_app words)
 
 -- what the words ask for, as clap walks them
 abbrev pub asks_work : List Text → Option (Work Text)

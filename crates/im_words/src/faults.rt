@@ -97,6 +97,10 @@ fn bad_given(alloc: Global, name: &str, found: &ArgMatches<'_>) -> Result<Error,
             let why = "the argument '--json' cannot be used with '--quiet'";
             error_of(alloc, name, ErrorKind::ArgumentConflict, why)
         }
+        "dump" => {
+            let why = "the argument '--json' cannot be used with '--damaged'";
+            error_of(alloc, name, ErrorKind::ArgumentConflict, why)
+        }
         "inspect" => bad_filter(alloc, found),
         _ => {
             let (id, text, range) = bad_size(found);

@@ -18,10 +18,10 @@ the same time. The lock is advisory: it doesn't keep another program from writin
 another file of the same name.
 
 Exit status: 0 done; 1 refused, with 'refused N NAME' as the last line; 2 a bad command line; 3 the
-elements of a run wait for each other. With --statuses, which each subcommand takes, some refusals end
-with another status than 1. The status is 4 if a file is in use by another program: another try may
-succeed. It is 5 if there is no image, if the image is damaged or old, or if there is no such file or no
-permission: another try ends the same.
+elements of a run wait for each other; 6 a strict script made an error. With --statuses, which each
+subcommand takes, some refusals end with another status than 1. The status is 4 if a file is in use by
+another program: another try may succeed. It is 5 if there is no image, if the image is damaged or old, or
+if there is no such file or no permission: another try ends the same.
 
 No subcommand opens a file under the descriptor number of a standard stream that is closed.";
 
@@ -73,7 +73,9 @@ file fetch.script, served on the image a.img, and then the rest of it after a st
   imem serial a.img fetch.script --once --json | jq -r 'select(.value).value'
 
 Exit status: 0 all was served; 1 something was refused, with 'refused N NAME' as the last line, or the
-output can't be written; 2 a bad command line. A refusal also has a line on standard error, which says why.";
+output can't be written; 2 a bad command line; with --strict 6 in the place of 0, if a reply is nospace,
+badlength, clash, nocell, wrongkind, noblock or stillwaiting. A refusal also has a line on standard error,
+which says why. So has each reply of an earlier script that is confirmed, 'confirmed K.N REPLY'.";
 
 const RUN: &str =
     "SCRIPT is what 'imem serial' reads, or - for standard input. The setup is served first, and prints its
@@ -115,7 +117,8 @@ file fetch.script, run on the image a.img, as a plan, with a trace, and again af
 
 Exit status: 0 all was answered; 1 something was refused, with 'refused N NAME' as the last line, or the
 output can't be written; 2 a bad command line; 3 the elements wait for each other, with
-'refused 19 Stalled' as the last line. A refusal also has a line on standard error, which says why.";
+'refused 19 Stalled' as the last line; 6 with --strict, as 'imem serial' says. A refusal also has a line on
+standard error, which says why. So has each reply of an earlier script that is confirmed.";
 
 const SERVE: &str =
     "Reads standard input line by line. Prints the answer to each line once what it says is on the disk.
@@ -137,7 +140,9 @@ Each request has a number, and a request that is sent again acts only once:
   help                  these lines, in one
   quit                  the end
 Any other line is answered 'error LINE: ' and what was expected, and changes nothing. With --watch, a
-request that waited prints 'E.N now REPLY' right after the line that brought its answer.
+request that waited prints 'E.N now REPLY' right after the line that brought its answer. With --verbose,
+standard error has a log: the image's sizes and how many commands it has had; each minute in which lines
+were answered, how many; and how many there were at the end.
 
 Example: the lines '1.1 alloc i 1', '1.2 fetch 0' and '2.1 store 0 5' in the file ask.txt
   imem serve a.img < ask.txt
@@ -222,10 +227,17 @@ With --json, a text for other programs, which isn't loaded: first the object {du
 slots}, count} on a line, where dump is 1 and count a string, and then the lines of 'imem inspect --json' for
 blocks, cells, elements and entries. An image that isn't whole is refused: 'refused N NAME' names its first
 fault.
+With --damaged, what the records of such an image still say is printed before that line. It is no dump:
+  imem salvage 1 without the journal, of area A     the area that is read; no command behind it is told
+  cell A of block BASE KIND LENGTH        its record names this block, and the record before it doesn't
+  cell A waits nodes N to M               a list of requests that wait there, by its nodes
+  node N K.R next M, node N K.R last      request R of element K is in a list
+  cell A damaged, node N damaged, element E damaged, and the lines above
 
-Example: a dump of a.img, and the image that is made of it
+Example: a dump of a.img, the image that is made of it, and what a damaged image still says
   imem dump a.img > a.dump
   imem load a.dump b.img
+  imem dump --damaged c.img
 
 Exit status: 0 the whole dump is printed; 1 refused, with 'refused N NAME' as the last line; 2 a bad
 command line. If an image is damaged, standard error says where.";

@@ -14,6 +14,6 @@ mod works;
 
 pub use reading::read_words;
 pub use words::{
-    CommandLine, DEFAULT_CELLS, DEFAULT_ELEMENTS, DEFAULT_SLOTS, Formatting, Inspection, Making,
-    Moving, ScriptRun, Serving, Talking, WordFault, Work,
+    CommandLine, DEFAULT_CELLS, DEFAULT_ELEMENTS, DEFAULT_SLOTS, Dumping, Formatting, Inspection,
+    Making, Moving, ScriptRun, Serving, Talking, WordFault, Work,
 };

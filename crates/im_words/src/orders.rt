@@ -1,7 +1,7 @@
 //! What the words that clap found ask for.
 ghost use Rattle.std.specs.Prelude.{◌≡◌, ◌⊎◌, IfSome, IfNone, Some, None, codes, option_map};
 ghost use Rattle.clap.specs.Words.{subcommand_rows_of};
-ghost use Rattle.im_words.specs.Words.{has_statuses, texts_in, wait_in, work_in};
+ghost use Rattle.im_words.specs.Words.{has_flag, texts_in, wait_in, work_in};
 
 use crate::given::{is_given, seconds_given};
 use crate::words::{CommandLine, Work};
@@ -11,8 +11,8 @@ use crate::works::{
 };
 use clap::ArgMatches;
 
-/// What the command line asks for. Returns `None` if a number is not the decimal number of a u32, if a plan is to be
-/// done once, or if lines are to be said in two ways.
+/// What the command line asks for. Returns `None` if a number is not the decimal number of a u32, if lines are to be
+/// said in two ways, or if a damaged image is to be dumped as JSON.
 fn work_of<'a>(matches: &ArgMatches<'a>) -> Option<Work<&'a str>>
     ensures { option_map texts_in result ≡ work_in (subcommand_rows_of matches.now) }
 {
@@ -32,7 +32,7 @@ fn work_of<'a>(matches: &ArgMatches<'a>) -> Option<Work<&'a str>>
             } else if name == "copy" {
                 copy_work(found)
             } else if name == "dump" {
-                Some(dump_work(found))
+                dump_work(found)
             } else if name == "load" {
                 load_work(found)
             } else if name == "stat" {
@@ -44,13 +44,13 @@ fn work_of<'a>(matches: &ArgMatches<'a>) -> Option<Work<&'a str>>
     }
 }
 
-/// Whether the subcommand's exit status is to tell refusals apart.
-fn statuses_of(matches: &ArgMatches<'_>) -> bool
-    ensures { result ≡ has_statuses (subcommand_rows_of matches.now) }
+/// Whether a flag is given to the subcommand.
+fn has_flag(matches: &ArgMatches<'_>, id: &str) -> bool
+    ensures { result ≡ has_flag id.now (subcommand_rows_of matches.now) }
 {
     match matches.subcommand() {
         None => false,
-        Some((_, found)) => is_given(found, "statuses"),
+        Some((_, found)) => is_given(found, id),
     }
 }
 
@@ -70,14 +70,18 @@ pub(crate) fn line_of<'a>(matches: &ArgMatches<'a>) -> Option<CommandLine<'a>>
     ensures work { IfSome result (λ line. work_in (subcommand_rows_of matches.now) ≡ Some (texts_in line.work)) }
     ensures none { IfNone result ((work_in (subcommand_rows_of matches.now) ≡ None)
         ⊎ (wait_in (subcommand_rows_of matches.now) ≡ None)) }
-    ensures statuses { IfSome result (λ line. line.statuses ≡ has_statuses (subcommand_rows_of matches.now)) }
+    ensures statuses { IfSome result
+        (λ line. line.statuses ≡ has_flag (codes "statuses") (subcommand_rows_of matches.now)) }
+    ensures progress { IfSome result
+        (λ line. line.progress ≡ has_flag (codes "progress") (subcommand_rows_of matches.now)) }
     ensures wait { IfSome result (λ line. wait_in (subcommand_rows_of matches.now) ≡ Some line.wait) }
 {
     let work = work_of(matches)?;
     let wait = wait_of(matches)?;
     Some(CommandLine {
         work,
-        statuses: statuses_of(matches),
+        statuses: has_flag(matches, "statuses"),
+        progress: has_flag(matches, "progress"),
         wait,
     })
 }

@@ -2,7 +2,7 @@
 ghost use Rattle.std.specs.Prelude.{◌≡◌, true, [], IfOk, IfErr, IsSome, IsOk, Some};
 ghost use Rattle.clap.specs.Words.{fault_of, kind_of, takes};
 ghost use Rattle.im_script.specs.Grammar.{texts};
-ghost use Rattle.im_words.specs.Words.{asks_statuses, asks_wait, asks_work, imem_app, texts_in};
+ghost use Rattle.im_words.specs.Words.{asks_progress, asks_statuses, asks_wait, asks_work, imem_app, texts_in};
 
 use crate::commands::imem_command;
 use crate::faults::given_fault;
@@ -32,6 +32,7 @@ fn fault(alloc: Global, words: &[&str], error: Error) -> WordFault
 pub fn read_words<'a>(alloc: Global, words: &'a [&'a str]) -> Result<CommandLine<'a>, WordFault>
     ensures work { IfOk result (λ line. asks_work (texts words.entry.now) ≡ Some (texts_in line.work)) }
     ensures statuses { IfOk result (λ line. line.statuses ≡ asks_statuses (texts words.entry.now)) }
+    ensures progress { IfOk result (λ line. line.progress ≡ asks_progress (texts words.entry.now)) }
     ensures wait { IfOk result (λ line. asks_wait (texts words.entry.now) ≡ Some line.wait) }
     ensures sound { IsOk result → fault_of imem_app (texts words.entry.now) ≡ [] }
     ensures taken { IfErr result (λ fault. takes imem_app (texts words.entry.now) ≡ true →

@@ -10,7 +10,7 @@ pub(crate) type Word = (&'static str, Option<&'static str>, &'static str);
 pub(crate) type Subcommand = (&'static str, &'static str, &'static [Word], &'static [Word]);
 
 /// The options that each subcommand takes.
-pub(crate) const COMMON: [Word; 2] = [
+pub(crate) const COMMON: [Word; 3] = [
     (
         "statuses",
         None,
@@ -20,6 +20,11 @@ pub(crate) const COMMON: [Word; 2] = [
         "wait",
         Some("SECONDS"),
         "Try again for this time if a file is in use, 0 to 86400 seconds [default: 0]",
+    ),
+    (
+        "progress",
+        None,
+        "Report progress on standard error, as on a terminal",
     ),
 ];
 
@@ -67,6 +72,11 @@ pub(crate) const SUBCOMMANDS: [Subcommand; 10] = [
                 None,
                 "Continue a script that was stopped: what the image has of it isn't asked for again",
             ),
+            (
+                "strict",
+                None,
+                "End with 6 if all was served and a reply tells an error of the script, as clash does",
+            ),
         ],
     ),
     (
@@ -98,6 +108,11 @@ pub(crate) const SUBCOMMANDS: [Subcommand; 10] = [
                 None,
                 "Continue a run that was stopped: what the image has of the script isn't asked for again",
             ),
+            (
+                "strict",
+                None,
+                "End with 6 if all was served and a reply tells an error of the script, as clash does",
+            ),
         ],
     ),
     (
@@ -114,6 +129,11 @@ pub(crate) const SUBCOMMANDS: [Subcommand; 10] = [
                 "backups",
                 Some("FOLDER"),
                 "Make a new file in this folder for each line 'backup NAME'",
+            ),
+            (
+                "verbose",
+                None,
+                "Keep a log on standard error: the image, the lines asked each minute, the end",
             ),
         ],
     ),
@@ -171,7 +191,14 @@ pub(crate) const SUBCOMMANDS: [Subcommand; 10] = [
         "dump",
         "Print what an image means as a text, which 'imem load' reads back",
         &[("IMAGE", None, "The image, made by 'imem format'")],
-        &[("json", None, "Print JSON, an object on each line")],
+        &[
+            ("json", None, "Print JSON, an object on each line"),
+            (
+                "damaged",
+                None,
+                "Print what a damaged image still says, and mark the rest",
+            ),
+        ],
     ),
     (
         "load",

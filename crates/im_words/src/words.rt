@@ -29,8 +29,8 @@ pub enum Work<P> {
     Serve(Talking<P>),
     /// Print what an image means, or some numbers of it.
     Inspect(Inspection<P>),
-    /// Print the dump of the image at this path.
-    Dump(P),
+    /// Print the dump of an image.
+    Dump(Dumping<P>),
     /// Make an image of the text of a dump.
     Load(Making<P>),
     /// Move an image of the first layout version, which is only read, to a new file.
@@ -63,6 +63,8 @@ pub struct Serving<P> {
     pub script: P,
     /// Whether what the image has of the script isn't asked anew.
     pub once: bool,
+    /// Whether the exit status tells that a reply was an error of the script.
+    pub strict: bool,
     /// How its lines are said.
     pub style: Style,
 }
@@ -78,6 +80,8 @@ pub struct ScriptRun<P> {
     pub planned: bool,
     /// Whether what the image has of the script isn't asked anew.
     pub once: bool,
+    /// Whether the exit status tells that a reply was an error of the script.
+    pub strict: bool,
     /// How its lines are said.
     pub style: Style,
     /// The path of the new file for the trace, if one is asked for.
@@ -93,6 +97,17 @@ pub struct Talking<P> {
     pub watch: bool,
     /// The path of the folder for backups, if there is one.
     pub backups: Option<P>,
+    /// Whether a log of it is kept on standard error.
+    pub verbose: bool,
+}
+
+/// What is dumped.
+#[derive(Clone, Copy)]
+pub struct Dumping<P> {
+    /// The path of the image.
+    pub image: P,
+    /// Whether what a damaged image still says is printed.
+    pub damaged: bool,
 }
 
 /// What is printed of an image.
@@ -131,6 +146,8 @@ pub struct CommandLine<'a> {
     pub work: Work<&'a str>,
     /// Whether the exit status tells refusals apart.
     pub statuses: bool,
+    /// Whether progress is told as to somebody who watches.
+    pub progress: bool,
     /// How many seconds the opening of a file waits for its lock.
     pub wait: u32,
 }

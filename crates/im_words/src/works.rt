@@ -7,8 +7,8 @@ ghost use Rattle.im_words.specs.Words.{stat_work, texts_in};
 
 use crate::given::{filter_of, is_given, path_if, path_of, sizes_given, style_given};
 use crate::words::{
-    DEFAULT_CELLS, DEFAULT_ELEMENTS, DEFAULT_SLOTS, Formatting, Inspection, Making, Moving,
-    ScriptRun, Serving, Talking, Work,
+    DEFAULT_CELLS, DEFAULT_ELEMENTS, DEFAULT_SLOTS, Dumping, Formatting, Inspection, Making,
+    Moving, ScriptRun, Serving, Talking, Work,
 };
 use clap::ArgMatches;
 use im_report::{Filter, View};
@@ -37,6 +37,7 @@ pub(crate) fn serial_work<'a>(found: &ArgMatches<'a>) -> Option<Work<&'a str>>
         image: path_of(found, "IMAGE"),
         script: path_of(found, "SCRIPT"),
         once: is_given(found, "once"),
+        strict: is_given(found, "strict"),
         style,
     }))
 }
@@ -51,6 +52,7 @@ pub(crate) fn run_work<'a>(found: &ArgMatches<'a>) -> Option<Work<&'a str>>
         script: path_of(found, "SCRIPT"),
         planned: is_given(found, "planned"),
         once: is_given(found, "once"),
+        strict: is_given(found, "strict"),
         style,
         trace: path_if(found, "trace"),
     }))
@@ -63,10 +65,12 @@ pub(crate) fn serve_work<'a>(found: &ArgMatches<'a>) -> Work<&'a str>
     let image = path_of(found, "IMAGE");
     let watch = is_given(found, "watch");
     let backups = path_if(found, "backups");
+    let verbose = is_given(found, "verbose");
     Work::Serve(Talking {
         image,
         watch,
         backups,
+        verbose,
     })
 }
 
@@ -126,24 +130,26 @@ pub(crate) fn copy_work<'a>(found: &ArgMatches<'a>) -> Option<Work<&'a str>>
     Some(Work::Copy(Making { from, new, asked }))
 }
 
-// A dump, in words or as objects of JSON.
-fn dump_as<'a>(json: bool, image: &'a str) -> Work<&'a str>
-    ensures { texts_in result ≡ dump_as json image.now }
+// A dump in words, also of a damaged image, or as objects of JSON. Returns `None` for such objects of a damaged image.
+fn dump_as<'a>(json: bool, damaged: bool, image: &'a str) -> Option<Work<&'a str>>
+    ensures { option_map texts_in result ≡ dump_as json damaged image.now }
 {
-    if json {
-        let look = View::DumpJson;
-        Work::Inspect(Inspection { image, look })
-    } else {
-        Work::Dump(image)
+    if !json {
+        return Some(Work::Dump(Dumping { image, damaged }));
     }
+    if damaged {
+        return None;
+    }
+    let look = View::DumpJson;
+    Some(Work::Inspect(Inspection { image, look }))
 }
 
-/// What `dump` is asked for.
-pub(crate) fn dump_work<'a>(found: &ArgMatches<'a>) -> Work<&'a str>
-    ensures { texts_in result ≡ dump_work (rows_of (found_of found.now)) }
+/// What `dump` is asked for. Returns `None` if a damaged image is to be dumped as JSON.
+pub(crate) fn dump_work<'a>(found: &ArgMatches<'a>) -> Option<Work<&'a str>>
+    ensures { option_map texts_in result ≡ dump_work (rows_of (found_of found.now)) }
 {
     let image = path_of(found, "IMAGE");
-    dump_as(is_given(found, "json"), image)
+    dump_as(is_given(found, "json"), is_given(found, "damaged"), image)
 }
 
 /// What `load` is asked for. Returns `None` if a number is not the decimal number of a u32.

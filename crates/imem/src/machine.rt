@@ -5,12 +5,14 @@ use std::io::{Eprint, Print};
 use std::rt::Files;
 use std::sync::Wait;
 use std::thread::Threads;
+use std::time::Clock;
 
-/// A machine has files, memory, standard streams and threads. Each type that has them is one.
+/// A machine has files, memory, standard streams, a clock and threads. Each type that has them is one.
 pub trait Machine: Files<File = File>
     + AllocGlobal
     + Print
     + Eprint
+    + Clock
     + Threads
     + Wait
     + Copy
@@ -24,6 +26,7 @@ impl<
         + AllocGlobal
         + Print
         + Eprint
+        + Clock
         + Threads
         + Wait
         + Copy

@@ -62,7 +62,7 @@ fn start<
     input: I,
     openings: &M,
 ) -> (ExitCode, W, Option<FileDisk<S>>, Option<FileDisk<T>>)
-    ensures few { exit_status result.0 ≤ 5 }
+    ensures few { exit_status result.0 ≤ 6 }
     ensures ended { EndedBy S.Start T.Start ⟦<FileDisk<S> as Disk>⟧ ⟦<FileDisk<T> as Disk>⟧
         (map string_bytes words.now) (I.remaining input) (W.contents out) (W.contents result.1)
         (exit_status result.0) result.2 result.3 }

@@ -76,19 +76,20 @@ pub(crate) fn work_on<
     starts: (S, T),
 ) -> (u8, W, Option<FileDisk<S>>, Option<FileDisk<T>>)
     requires whole { HasBytes K.whole (I.remaining input) }
-    ensures few { result.0 ≤ 5 }
+    ensures few { result.0 ≤ 6 }
     ensures ended { EndedOn S.Start T.Start ⟦<FileDisk<S> as Disk>⟧ ⟦<FileDisk<T> as Disk>⟧ line.now K.whole
         (W.contents out) (W.contents result.1) result.0 result.2 result.3 }
 {
     let rt = place.rt;
     tell_help(rt, line, place.terminals);
     let heard: Listener<R, I, K> = listen(rt, rt.alloc(), input, line);
-    let prompter = Prompter::new(rt, heard, prompts(line, place.terminals));
+    let is_typed = prompts(line, place.terminals);
+    let prompter = Prompter::new(rt, heard, is_typed, &line.work);
     let Ok(mut input) = BufReader::new(rt.alloc(), prompter) else {
         let status = refuse(rt.alloc(), Style::Text, Refusal::NoMemory, &mut out);
         return (status, out, None, None);
     };
-    let mut console = Console::new(rt, place.held, &line.work, place.terminals);
+    let mut console = Console::new(rt, place.held, line, place.terminals);
     let hand = AtHand {
         rt,
         held: place.held,
@@ -96,6 +97,7 @@ pub(crate) fn work_on<
         observer: &mut console,
     };
     let (status, disk, old) = act(hand, line, &mut out, starts);
+    input.get_ref().tell_end();
     let ends = status_for(status, line.statuses, console.reason());
     (ends, out, disk, old)
 }

@@ -121,6 +121,33 @@ printed 0 = refused 18 BadScript
 remove s = removed
 remove a.img = removed
 
+# A strict script ends with 6 if a reply is an error of it
+run imem format a.img = 0
+script setup / alloc x i 2 / element 1 / fetch x+1 / store x+0 42 / fetch x+0 / = 6 lines
+save s = 61 bytes
+run imem serial a.img s --strict = 0
+script element 2 / store 0 43 / = 2 lines
+save s = 21 bytes
+run imem serial a.img s = 0
+run imem serial a.img s --strict = 6
+printed = 1 lines
+printed 0 = 2.2 clash
+run imem serial a.img s --strict --quiet = 6
+printed = 0 lines
+-- So it does if the image had that reply.
+run imem format b.img = 0
+run imem serial b.img s --once --strict = 6
+run imem serial b.img s --once --strict = 6
+printed = 1 lines
+printed 0 = 2.1 nocell
+-- A refusal has its own status.
+script element 2 / store 0 43 / element 20 / fetch 0 / = 4 lines
+save s = 40 bytes
+run imem serial a.img s --strict = 1
+remove s = removed
+remove a.img = removed
+remove b.img = removed
+
 # A refusal has its number and its name
 refuse no memory = 1
 printed = 1 lines

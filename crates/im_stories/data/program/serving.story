@@ -270,11 +270,41 @@ read = 0 blocks, 2 parts, 65 requests
 serve = 0
 printed = 65 lines
 told = 1 lines
-told 0 = 1.1 now value 42
+told 0 = confirmed 1.1 value 42
 -- Two commands of the script before, 64 of this one and a confirmation.
 progress = 64 served, room 189, 0 checkpoints
--- Once.
+-- Once. The same script again finds the last answer of the one before.
 serve = 0
+told = 1 lines
+told 0 = confirmed 1.65 nocell
+
+# Answers that an earlier script left are named before they are confirmed
+disk 450560 = 450560 bytes
+format 4096 16 256 = formatted
+read setup / alloc x m 1 / element 1 / put x 42 / take x / = 1 blocks, 1 parts, 2 requests
+serve = 0
+told = 0 lines
+script element 1 / = 1 lines
+repeat 63 fetch 9 / = 64 lines
+read = 0 blocks, 1 parts, 63 requests
+serve = 0
+printed = 63 lines
+told = 2 lines
+told 0 = confirmed 1.1 stored
+told 1 = confirmed 1.2 value 42
+
+# What a script that goes on prints again isn't named
+disk 450560 = 450560 bytes
+format 4096 16 256 = formatted
+script element 1 / = 1 lines
+repeat 64 fetch 9 / = 65 lines
+read = 0 blocks, 1 parts, 64 requests
+serve once = 0
+script element 1 / = 1 lines
+repeat 66 fetch 9 / = 67 lines
+read = 0 blocks, 1 parts, 66 requests
+serve once = 0
+printed = 66 lines
 told = 0 lines
 
 # It is told by the script that answers it, at the end at the latest

@@ -21,6 +21,7 @@ imem serial a.img s --once = serve s on a.img, once
 imem serial --once a.img - = serve - on a.img, once
 imem serial --quiet a.img s = serve s on a.img, quietly
 imem serial a.img s --json --once = serve s on a.img, once, as JSON
+imem serial a.img s --strict = serve s on a.img, strictly
 imem run a.img s --json --planned = run s on a.img, planned, as JSON
 imem run a.img s --quiet --trace t = run s on a.img, traced to t, quietly
 imem run a.img s = run s on a.img
@@ -30,11 +31,14 @@ imem run a.img s --once = run s on a.img, once
 imem run a.img s --planned --once = run s on a.img, planned, once
 imem run --once a.img s --trace t --planned = run s on a.img, planned, once, traced to t
 imem run --once a.img - --trace t = run - on a.img, once, traced to t
+imem run --strict a.img s --once = run s on a.img, once, strictly
 imem run a.img s --trace t = run s on a.img, traced to t
 imem run --trace=t --planned a.img s --statuses = run s on a.img, planned, traced to t, by statuses
 imem serve a.img = talk on a.img, unwatched
 imem serve a.img --watch = talk on a.img, watched
 imem serve --watch a.img = talk on a.img, watched
+imem serve a.img --verbose = talk on a.img, unwatched, with a log
+imem serve --verbose a.img --watch --statuses = talk on a.img, watched, with a log, by statuses
 imem inspect a.img = tell of a.img
 imem migrate a.img b.img = move a.img on to b.img
 -- A size that isn't given is that of before.
@@ -43,6 +47,8 @@ imem copy a.img b.img --cells 8192 --slots=0032 --statuses = copy a.img to b.img
 imem copy --elements 65536 a.img b.img = copy a.img to b.img, 65536 elements
 imem dump a.img = dump a.img
 imem dump --statuses a.img = dump a.img, by statuses
+imem dump --damaged a.img = dump a.img, damaged too
+imem dump a.img --damaged --progress = dump a.img, damaged too, with progress
 imem load a.dump b.img = load a.dump into b.img
 imem load - b.img --slots 16 --cells 0 --elements 3 = load - into b.img, 0 cells, 3 elements, 16 slots
 -- Each subcommand may wait, for whole seconds up to a day.
@@ -136,6 +142,12 @@ imem dump = status 2
 says IMAGE = yes
 imem dump a.img b.img = status 2
 imem dump a.img --cells 5 = status 2
+imem dump a.img --json --damaged = status 2
+says the argument '--json' cannot be used with '--damaged' = yes
+says Usage: imem dump [OPTIONS] <IMAGE> = yes
+imem inspect a.img --damaged = status 2
+imem run a.img s --verbose = status 2
+imem --progress = status 2
 imem load a.dump = status 2
 says NEW = yes
 imem load a.dump b.img --count 5 = status 2

@@ -58,6 +58,14 @@ held 2 was held until 1 was answered
 new
 run glances
 
+# strictly: a clash ends it with status 6
+new
+strict glances
+
+# strictly, where no reply is an error
+new
+strict first
+
 # a glance behind a confirmed fetch, beside the writer
 new
 run reads

@@ -18,12 +18,17 @@ returns-clause-ran g c = record {
   read = text_as _ c.in_ok-text.text.items c.in_ok-script.script
       (c.in_ok-script.ensures.text ∙ c.as_slice.ensures.value)
       (rw c.parts-input.ensures.input at c.in_ok-text.ensures.text);
-  run = c.run_task.ensures.run;
+  run = record {
+    faulted = c.run_task-status.result.3;
+    plain = c.run_task-status.result.0;
+    done = c.run_task-status.ensures.run;
+    status_is = c.strict_status.ensures.status;
+  };
 }
 
 pub returns-clause-named : goal.returns-clause-named
-returns-clause-named g c = λ honest. c.in_ok-disk.ensures.named (c.run_task.ensures.run.honest honest)
+returns-clause-named g c = λ honest. c.in_ok-disk.ensures.named (c.run_task-status.ensures.run.honest honest)
 
 pub returns-clause-recorded : goal.returns-clause-recorded
 returns-clause-recorded g c = λ asked.
-    c.run_task.ensures.recorded (c.new-context.ensures.recorded ∙ c.is_some.ensures ∙ asked)
+    c.run_task-status.ensures.recorded (c.new-context.ensures.recorded ∙ c.is_some.ensures ∙ asked)

@@ -11,7 +11,12 @@ returns-then-once-clause-served g c = λ honest. rw c.if-once.true (record {
   read = text_as _ c.in_ok-text.text.items c.in_ok-script.script
       (c.in_ok-script.ensures.text ∙ c.as_slice.ensures.value)
       (rw c.parts-input.ensures.input at c.in_ok-text.ensures.text);
-  served = c.serial_once_on.ensures.served honest;
+  served = record {
+    faulted = c.serial_once_on-status.result.2;
+    plain = c.serial_once_on-status.result.0;
+    done = c.serial_once_on-status.ensures.served honest;
+    status_is = c.strict_status.ensures.status;
+  };
 })
 
 pub returns-clause-served : goal.returns-clause-served
@@ -23,5 +28,10 @@ returns-clause-served g c = λ honest. rw c.if-once.false (record {
   read = text_as _ c.in_ok-text.text.items c.in_ok-script.script
       (c.in_ok-script.ensures.text ∙ c.as_slice.ensures.value)
       (rw c.parts-input.ensures.input at c.in_ok-text.ensures.text);
-  served = c.serial_on.ensures.served honest;
+  served = record {
+    faulted = c.serial_on-status.result.2;
+    plain = c.serial_on-status.result.0;
+    done = c.serial_on-status.ensures.served honest;
+    status_is = c.strict_status.ensures.status;
+  };
 })

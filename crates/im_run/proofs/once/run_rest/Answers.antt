@@ -33,7 +33,7 @@ returns-in-Ok-clause-ends g c =
     let r = c.run_server in
     inr (rest_by g.D.Disk (wanted_of c.args.asked.script.now) old mid was.bases.items c.requires.ready s.bases.items
     c.in-Ok.ensures.shown c.args.asked.planned c.args.asked.script.now refl c.in-Ok.ensures.fit r.result.1
-    (g.W.Write.contents r.new.out) r.result.2 r.result.0 r.ensures.run)
+    (g.W.Write.contents r.new.out, r.result.3) r.result.2 r.result.0 r.ensures.run)
 
 pub returns-in-Err-clause-ends : goal.returns-in-Err-clause-ends
 returns-in-Err-clause-ends g c =
@@ -45,4 +45,5 @@ returns-in-Err-clause-ends g c =
     let k = c.refuse_rest-status in
     inl (unrun_by g.D.Disk (wanted_of c.args.asked.script.now) old mid was.bases.items c.requires.ready
     c.show_past.ensures.session k.ensures.kept c.in-Err.ensures.shown c.in-Err.ensures.fit k.result.1
-    (g.W.Write.contents k.new.out) c.new.result k.result.0 k.ensures.status k.ensures.disk k.ensures.last c.new.ensures)
+    (g.W.Write.contents k.new.out, k.result.2) c.new.result k.result.0 k.ensures.status k.ensures.disk k.ensures.last
+    c.new.ensures)

@@ -1,6 +1,6 @@
-use Rattle.std.proofs.Common.{ap, ◌∙◌}
-use Rattle.im_session.specs.Kept.{SessionState}
-use Rattle.{im_text.specs.declared.Lines.Lines, im_serial.proofs.OnceLemmas.ready_of}
+use Rattle.std.proofs.Common.{Bool, ap, ◌∙◌, ap₂}
+use Rattle.{im_session.specs.Kept.SessionState, im_serial.proofs.OnceLemmas.ready_of}
+use Rattle.im_text.specs.{declared.Lines.Lines, declared.Style.Style, Said.output_by}
 use Rattle.im_run.proofs.opening.open_server.Goals as goal
 
 pub returns-in-Ok-open-clause-nothing : goal.returns-in-Ok-open-clause-nothing
@@ -15,5 +15,9 @@ pub returns-in-Ok-open-clause-opened : goal.returns-in-Ok-open-clause-opened
 returns-in-Ok-open-clause-opened g c = ap (λ (s : SessionState g.row.D.Denot). s.start.disk)
     c.new-server.ensures.session ∙ c.in-Ok-open.ensures.opened
 
-pub returns-in-Ok-open-clause-style : goal.returns-in-Ok-open-clause-style
-returns-in-Ok-open-clause-style g c = ap (λ (l : Lines). l.style) c.new-server.ensures.lines ∙ c.in-Ok.ensures.style
+pub returns-in-Ok-open-clause-output : goal.returns-in-Ok-open-clause-output
+returns-in-Ok-open-clause-output g c =
+    let was = g.W.Write.contents c.args.out.now in
+    ap (λ (l : Lines). output_by l was) c.new-server.ensures.lines
+    ∙ ap₂ (λ (s : Style) (f : Bool). record { style = s; held = was; faulted = f }) c.in-Ok.ensures.style
+    c.in-Ok.ensures.faulted

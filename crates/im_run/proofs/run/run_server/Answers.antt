@@ -1,6 +1,6 @@
 use Rattle.std.proofs.Common.{Bool, [], ◌++◌, map, Some, sym, refl, ap, ◌∙◌, subst}
 use Rattle.im_session.specs.Kept.{SessionStart, SessionState, start_at}
-use Rattle.im_text.specs.{declared.Lines.Lines, Said.output}
+use Rattle.im_text.specs.{declared.Lines.Lines, Said.output_by, Said.Written}
 use Rattle.im_serial.proofs.{AskedLemmas.named_here, AskedLemmas.stands_here, ScriptedLemmas.as_of}
 use Rattle.im_serial.specs.{Asked.standing, Noted.notes}
 use Rattle.im_serial.specs.Serving.{EndedAt, GoingAt, seen_by, server_of}
@@ -17,7 +17,7 @@ returns-in-Ok-clause-run g c =
     let m = server.session.engine.memory in
     let start = start_at server.session.start.disk server.session.engine in
     let at = ap (λ (x : SessionState g.row.D.Denot). x.start) c.requires.ready.fresh in
-    let held = output server.lines.style (g.W.Write.contents c.args.out.now) in
+    let held = output_by server.lines (g.W.Write.contents c.args.out.now) in
     let once = c.args.asked.once in
     let planned = c.args.asked.planned in
     let script = c.args.asked.script.now in
@@ -38,7 +38,7 @@ returns-in-Ok-clause-run g c =
     let whole = asks_in c.in-Ok.work.whole in
     let same = if_ok_at _ r.result.0 c.in-Ok.work c.in-Ok.is r.ensures.planned in
     let s = c.serve_on-status in
-    let is = g.W.Write.contents s.new.out in
+    let is : Written = (g.W.Write.contents s.new.out, s.result.3) in
     let calls : TraceState =
     record { setup = r.result.1.items; served = s.result.2.items; recorded = s.result.2.recorded } in
     subst (λ (x : SessionStart g.row.D.Denot). RunWhen d once planned script x s.result.1 held is calls s.result.0) (sym
@@ -60,7 +60,7 @@ returns-in-Err-clause-run g c =
     let m = server.session.engine.memory in
     let start = start_at server.session.start.disk server.session.engine in
     let at = ap (λ (x : SessionState g.row.D.Denot). x.start) c.requires.ready.fresh in
-    let held = output server.lines.style (g.W.Write.contents c.args.out.now) in
+    let held = output_by server.lines (g.W.Write.contents c.args.out.now) in
     let once = c.args.asked.once in
     let planned = c.args.asked.planned in
     let script = c.args.asked.script.now in
@@ -73,7 +73,7 @@ returns-in-Err-clause-run g c =
     let k = c.close-status in
     let t = n.result.session in
     let from = g.W.Write.contents r.new.out in
-    let is = g.W.Write.contents k.new.out in
+    let is : Written = (g.W.Write.contents k.new.out, k.result.2) in
     let w = r.new.server.waited.items in
     let marks = r.new.server.places.marks.items in
     let lines = v.result.1 in

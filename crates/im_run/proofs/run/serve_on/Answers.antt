@@ -1,6 +1,6 @@
 use Rattle.std.proofs.Common.{◌≡◌, map, IsOk, sym, ◌∙◌, subst, inr}
-use Rattle.{im_types.specs.Types.IsLegal, im_text.specs.declared.Lines.Lines}
-use Rattle.im_session.specs.Kept.{Kept, SessionState}
+use Rattle.{im_types.specs.Types.IsLegal, im_session.specs.Kept.Kept, im_session.specs.Kept.SessionState}
+use Rattle.im_text.specs.{declared.Lines.Lines, Said.Written}
 use Rattle.im_run.proofs.{DoingLemmas.none_of_all, RunningLemmas.ended_weaker, RunningLemmas.kept_as}
 use Rattle.im_run.specs.{Orders.ask_of, Orders.asks_in, Running.Closes, Running.EndedOn, Running.ServersEnded}
 use Rattle.im_run.specs.Planned.{FitsIfNew, plan_of, planned_orders}
@@ -41,8 +41,8 @@ returns-in-Ok-clause-ended g c =
           (k.result.0 ≡ 0) k.ensures.done
           (subst (λ (x : SessionState g.row.D.Denot). ServersEnded d planned whole orders x engine trace did
           (IsOk s.result.0.done)) (c.in-Ok.ensures.found ∙ v.ensures.session) s.ensures.ended);
-      printed = subst (λ (l : Lines). Closes (g.W.Write.contents c.args.out.now) l (g.W.Write.contents k.new.out)
-          engine.memory did k.result.0) v.ensures.lines k.ensures.printed;
+      printed = subst (λ (l : Lines). Closes (g.W.Write.contents c.args.out.now) l
+          (g.W.Write.contents k.new.out, k.result.2) engine.memory did k.result.0) v.ensures.lines k.ensures.printed;
     }
 
 pub returns-in-Err-clause-ended : goal.returns-in-Err-clause-ended
@@ -52,7 +52,7 @@ returns-in-Err-clause-ended g c =
     let k = c.close-status-in-Err in
     let t = n.result.session in
     let was = g.W.Write.contents c.args.out.now in
-    let is = g.W.Write.contents k.new.out in
+    let is : Written = (g.W.Write.contents k.new.out, k.result.2) in
     let orders = map ask_of c.args.work.orders.items in
     let whole = asks_in c.args.work.whole in
     let trace = c.new.result.items in

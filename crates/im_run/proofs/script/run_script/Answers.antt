@@ -1,5 +1,5 @@
-use Rattle.std.proofs.Common.{subst, ap₂, inl, inr}
-use Rattle.im_text.specs.Said.{Output, output}
+use Rattle.std.proofs.Common.{subst, inl, inr}
+use Rattle.im_text.specs.Said.{Output, output_by, Written}
 use Rattle.im_run.{proofs.RestLemmas.ends_honest, specs.Once.EndsWhen}
 use Rattle.im_run.proofs.script.run_script.Goals as goal
 
@@ -7,8 +7,8 @@ pub returns-in-Ok-clause-run : goal.returns-in-Ok-clause-run
 returns-in-Ok-clause-run g c =
     let r = c.run_opened in
     let start = c.in-Ok.server.session.start in
-    let is = g.W.Write.contents r.new.out in
-    let was = output c.in-Ok.server.lines.style (g.W.Write.contents c.open_server.new.out) in
+    let is : Written = (g.W.Write.contents r.new.out, r.result.3) in
+    let was = output_by c.in-Ok.server.lines (g.W.Write.contents c.open_server.new.out) in
     let asked = c.args.asked in record {
       honest = λ honest. subst g.D.Disk.honest c.in-Ok.ensures.opened (ends_honest g.D.Disk asked.once asked.planned
           asked.script.now start r.result.1 was is r.result.2 r.result.0 r.ensures.ends honest);
@@ -17,7 +17,7 @@ returns-in-Ok-clause-run g c =
         (
           c.in-Ok.ensures.opened,
           subst (λ (w : Output). EndsWhen g.D.Disk asked.once asked.planned asked.script.now start r.result.1 w is
-              r.result.2 r.result.0) (ap₂ output c.in-Ok.ensures.style c.in-Ok.ensures.same) r.ensures.ends,
+              r.result.2 r.result.0) c.in-Ok.ensures.output r.ensures.ends,
         ),
       );
     }

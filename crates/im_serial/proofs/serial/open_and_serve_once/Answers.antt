@@ -1,6 +1,6 @@
-use Rattle.std.proofs.Common.{ap, ◌∙◌, subst, inr}
+use Rattle.std.proofs.Common.{Bool, ap, ◌∙◌, subst, ap₂, inr}
 use Rattle.im_session.specs.Kept.{SessionState}
-use Rattle.im_text.specs.{declared.Lines.Lines, declared.Style.Style, Said.output}
+use Rattle.im_text.specs.{declared.Lines.Lines, declared.Style.Style, Said.Output, Said.output, Said.output_by}
 use Rattle.im_serial.{proofs.OnceLemmas.ready_of, specs.Once.ServedOnce}
 use Rattle.im_serial.proofs.serial.open_and_serve_once.Goals as goal
 
@@ -22,10 +22,15 @@ returns-in-Ok-open-clause-served g c = λ honest.
     let is = g.W.Write.contents c.serve_once_on.new.out in
     let r = c.serve_once_on.result in
     let n = c.new-server in
-    inr (subst (λ (d : g.row.D.Denot). ServedOnce g.D.Disk script d r.1 (output c.args.styled.now.style was) is r.0)
+    inr (subst (λ (d : g.row.D.Denot). ServedOnce g.D.Disk script d r.1 (output c.args.styled.now.style was) (is, r.2)
+    r.0)
     (ap (λ (s : SessionState g.row.D.Denot). s.start.disk) n.ensures.session ∙ c.in-Ok-open.ensures.opened)
-    (subst (λ (s : Style). ServedOnce g.D.Disk script n.result.session.start.disk r.1 (output s was) is r.0)
-    (ap (λ (l : Lines). l.style) n.ensures.lines ∙ c.in-Ok.ensures.style) c.serve_once_on.ensures.served))
+    (subst (λ (o : Output). ServedOnce g.D.Disk script n.result.session.start.disk r.1 o (is, r.2) r.0)
+    (ap (λ (l : Lines). output_by l was) n.ensures.lines ∙ ap₂ (λ (s : Style) (f : Bool). record {
+      style = s;
+      held = was;
+      faulted = f;
+    }) c.in-Ok.ensures.style c.in-Ok.ensures.faulted) c.serve_once_on.ensures.served))
 
 pub returns-in-Ok-open-clause-honest : goal.returns-in-Ok-open-clause-honest
 returns-in-Ok-open-clause-honest g c = λ honest.

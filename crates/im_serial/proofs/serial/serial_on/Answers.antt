@@ -1,5 +1,5 @@
-use Rattle.std.proofs.Common.{subst, inr}
-use Rattle.im_text.specs.{declared.Style.Style, Said.output}
+use Rattle.std.proofs.Common.{Bool, subst, ap₂, inr}
+use Rattle.im_text.specs.{declared.Style.Style, Said.Output, Said.output}
 use Rattle.im_serial.specs.Serving.{ServedScript}
 use Rattle.im_serial.proofs.serial.serial_on.Goals as goal
 
@@ -9,10 +9,11 @@ returns-in-Ok-open-clause-served g c = λ honest.
     let was = g.W.Write.contents c.args.out.now in
     let is = g.W.Write.contents c.serve_on.new.out in
     let r = c.serve_on.result in
-    inr (subst (λ (d : g.row.D.Denot). ServedScript g.D.Disk script d r.1 (output c.args.styled.now.style was) is r.0)
-    c.in-Ok-open.ensures.opened
-    (subst (λ (s : Style). ServedScript g.D.Disk script c.in-Ok-open.session.start.disk r.1 (output s was) is r.0)
-    c.in-Ok.ensures.style c.serve_on.ensures.served))
+    inr (subst (λ (d : g.row.D.Denot). ServedScript g.D.Disk script d r.1 (output c.args.styled.now.style was) (is, r.2)
+    r.0) c.in-Ok-open.ensures.opened
+    (subst (λ (o : Output). ServedScript g.D.Disk script c.in-Ok-open.session.start.disk r.1 o (is, r.2) r.0)
+    (ap₂ (λ (s : Style) (f : Bool). record { style = s; held = was; faulted = f }) c.in-Ok.ensures.style
+    c.in-Ok.ensures.faulted) c.serve_on.ensures.served))
 
 pub returns-in-Ok-open-clause-honest : goal.returns-in-Ok-open-clause-honest
 returns-in-Ok-open-clause-honest g c = λ honest.

@@ -1,7 +1,7 @@
-use Rattle.std.proofs.Common.{[], length, Some, sym, refl, ap, ◌∙◌, subst}
+use Rattle.std.proofs.Common.{Bool, [], length, Some, sym, refl, ap, ◌∙◌, subst}
 use Rattle.{im_engine.specs.State.EngineState, im_text.proofs.PrintingLemmas.on_ok_by}
 use Rattle.im_session.specs.Kept.{SessionStart, SessionState}
-use Rattle.im_text.specs.{declared.Lines.Lines, Said.nows, Said.output, Said.PrintsMore, Said.PrintsNows}
+use Rattle.im_text.specs.{declared.Lines.Lines, Said.nows, Said.output_by, Said.PrintsMore, Said.PrintsNows}
 use Rattle.im_serial.proofs.ScriptedLemmas.{as_of, closed, ends_served, going_first}
 use Rattle.im_serial.specs.Asked.{standing, wanted_of, whole_course}
 use Rattle.im_serial.specs.Serving.{EndedAt, GoingAt, ServedScript, server_of}
@@ -9,13 +9,13 @@ use Rattle.im_serial.specs.Serving.{EndedAt, GoingAt, ServedScript, server_of}
 pub returns-clause-served : Rattle.im_serial.proofs.serial.serve_on.Goals.returns-clause-served
 returns-clause-served g c =
     let was = c.args.session in
-    let held = output c.args.desk.lines.style (g.W.Write.contents c.args.out.now) in
+    let held = output_by c.args.desk.lines (g.W.Write.contents c.args.out.now) in
     let script = wanted_of c.args.script.now in
     let course = whole_course script in
     let n = c.new-server in
-    let first = going_first script was n.result.session held c.args.desk.lines n.result.lines n.result.waited.items
+    let first = going_first script was n.result.session held.held c.args.desk.lines n.result.lines n.result.waited.items
     n.result.places.marks.items n.result.bases.items c.requires.fresh c.requires.works n.ensures.memory
-    refl c.requires.pending n.ensures.waited n.ensures.bases n.ensures.session n.ensures.lines in
+    c.requires.pending n.ensures.waited n.ensures.bases n.ensures.session n.ensures.lines in
     let s = c.serve-served in
     let l = c.learn_all in
     let v = c.leave-session in
@@ -33,8 +33,10 @@ returns-clause-served g c =
     let begun = ended.over.start_is in
     let failed = ap (λ (e : EngineState g.row.D.Denot). e.failed) (sym c.engine.ensures.state)
     ∙ sym c.failed-failed.ensures.failed in
-    subst (λ (x : SessionStart g.row.D.Denot). ServedScript g.D.Disk c.args.script.now x.disk c.close.result held is
-    c.status_at.result) begun
+    subst (λ (x : SessionStart g.row.D.Denot). ServedScript g.D.Disk c.args.script.now x.disk c.close.result held
+    (is, c.faulted.result) c.status_at.result) begun
+    (subst (λ (f : Bool). ServedScript g.D.Disk c.args.script.now t.start.disk c.close.result held (is, f)
+    c.status_at.result) (sym c.faulted.ensures)
     (closed g.D.Disk c.args.script.now bases t c.close.result c.status_at.result from mid is held l.new.self.lines
     v.result.1 c.finish-status.new.lines w l.new.self.waited.items marks c.close.ensures.kept
     c.close.ensures.state (λ zero. failed ∙ c.status_at.ensures.works zero)
@@ -53,4 +55,4 @@ returns-clause-served g c =
     (λ zero. subst (λ (x : Lines). PrintsMore from l.new.self.lines mid x (nows l.new.self.waited.items (length
     l.new.self.waited.items))) (sym v.ensures.lines) (on_ok_by c.tell-told.result _ c.tell-told.ensures.all
     (c.both.ensures.told (c.finish-status.ensures.whole (c.status_at.ensures.status zero)).0)))
-    c.finish-status.ensures.last (λ zero. (c.finish-status.ensures.whole (c.status_at.ensures.status zero)).1))
+    c.finish-status.ensures.last (λ zero. (c.finish-status.ensures.whole (c.status_at.ensures.status zero)).1)))

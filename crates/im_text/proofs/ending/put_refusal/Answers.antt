@@ -1,6 +1,6 @@
 use Rattle.std.proofs.Common.{ℕ, List, [], ◌∷◌, ◌++◌, refl, ap, ◌∙◌, subst, inr}
 use Rattle.im_text.proofs.SaidLemmas.{nothing_said, said_last}
-use Rattle.im_text.specs.{declared.said.OutputLine.TheVariants.Refused, Printing.Begins, Said.said_in}
+use Rattle.im_text.specs.{declared.said.OutputLine.TheVariants.Refused, Printing.Begins, Said.output, Said.said_in}
 use Rattle.im_text.proofs.ending.put_refusal.Goals as goal
 
 pub returns : goal.returns
@@ -17,4 +17,4 @@ returns g c =
     )
 
 pub returns-in_default : goal.returns-in_default
-returns-in_default g c = nothing_said _
+returns-in_default g c = nothing_said (output c.args.style (g.W.Write.contents c.args.out.now))

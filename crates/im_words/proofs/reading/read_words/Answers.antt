@@ -1,8 +1,8 @@
-use Rattle.std.proofs.Common.{◌≡◌, true, [], IsSome, None, Option, sym, refl, ap, ◌∙◌, subst, ⊎_elim, rules}
+use Rattle.std.proofs.Common.{◌≡◌, true, [], IsSome, None, codes, Option, sym, refl, ap, ◌∙◌, subst, ⊎_elim, rules}
 use Rattle.clap.specs.Simple.{is_simple, subcommand_of}
 use Rattle.clap.specs.Words.{App, app_of, fault_of, is_simple_and_free, takes}
 use Rattle.im_script.specs.Grammar.{texts}
-use Rattle.im_words.specs.Words.{asks_wait, asks_work, has_statuses, imem_app, wait_in, with_subcommands, with_words}
+use Rattle.im_words.specs.Words.{asks_wait, asks_work, has_flag, imem_app, wait_in, with_subcommands, with_words}
 use Rattle.im_words.specs.Words.{work_in}
 use Rattle.im_words.proofs.reading.read_words.Goals as goal
 
@@ -37,7 +37,14 @@ returns-in-Some-clause-statuses c =
     let app : app_of c.in-Ok.command ≡ imem_app = c.in-Ok.ensures.app in
     let met = c.in-Ok-try_get_matches_from.ensures.matches (ap is_simple app ∙ simple) in
     let same = met.1 ∙ ap (λ (a : App). subcommand_of a (texts c.args.words.now)) app in
-    c.in-Some.ensures.statuses ∙ ap has_statuses same
+    c.in-Some.ensures.statuses ∙ ap (has_flag (codes "statuses")) same
+
+pub returns-in-Some-clause-progress : goal.returns-in-Some-clause-progress
+returns-in-Some-clause-progress c =
+    let app : app_of c.in-Ok.command ≡ imem_app = c.in-Ok.ensures.app in
+    let met = c.in-Ok-try_get_matches_from.ensures.matches (ap is_simple app ∙ simple) in
+    let same = met.1 ∙ ap (λ (a : App). subcommand_of a (texts c.args.words.now)) app in
+    c.in-Some.ensures.progress ∙ ap (has_flag (codes "progress")) same
 
 pub returns-in-Some-clause-wait : goal.returns-in-Some-clause-wait
 returns-in-Some-clause-wait c =

@@ -1,9 +1,11 @@
 use Rattle.std.proofs.Common.{map, length, sym, ap, ◌∙◌, subst}
-use Rattle.im_text.specs.Said.{who_of}
-use Rattle.im_serial.{proofs.NotedLemmas.noted_from, proofs.NotedLemmas.written_back, specs.Noted.AreNoted}
+use Rattle.{im_types.specs.Types.Contents, im_text.specs.Said.who_of}
+use Rattle.im_serial.proofs.NotedLemmas.{noted_from, written_back}
 use Rattle.im_serial.proofs.{PlaceLemmas.due_bounds, ScriptedLemmas.drops_then, ScriptedLemmas.learns}
+use Rattle.im_serial.specs.{Had.left_of, Named.AreNamed, Noted.AreNoted}
+use Rattle.im_serial.proofs.server.Server.make_place.Goals as goal
 
-pub returns-clause-goes : Rattle.im_serial.proofs.server.Server.make_place.Goals.returns-clause-goes
+pub returns-clause-goes : goal.returns-clause-goes
 returns-clause-goes g c =
     let was = c.args.self.now in
     let marks = was.places.marks.items in
@@ -24,3 +26,9 @@ returns-clause-goes g c =
     found.from m put (c.memory.ensures ∙ same) memory
     (subst (AreNoted m put element base marks) (sym value) (noted_from m put element base found.next marks
     was.waited.items there noted)))) s text serving) c.serve_one.ensures.served c.serve_one.ensures.refused
+
+pub returns-clause-named : goal.returns-clause-named
+returns-clause-named g c =
+    let was = c.args.self.now in
+    subst (λ (m : Contents). AreNamed m (left_of was.earlier.last.items c.args.element) c.args.element
+    c.args.numbers.0 c.args.numbers.1 c.name_all.new.self.named) c.memory-2.ensures c.name_all.ensures.named
