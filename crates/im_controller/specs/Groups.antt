@@ -1,16 +1,35 @@
--- Groups of commands under the lock: what lending a group does. (Own.)
-use Rattle.std.specs.Prelude.{◌≡◌, ℕ, ◌+◌, ◌<◌, ◌≤◌, Bool, true, false, List, [], ◌∷◌, ◌++◌, map, length, if◌then◌else◌}
-use Rattle.std.specs.Prelude.{Some, None, Option, Result}
-use Rattle.im_types.specs.Types.{Request, Command, Outcome, Line, Commands, Served, Refusal, TraceFull, Contents}
-use Rattle.im_types.specs.Types.{answer_to, Change}
-use Rattle.{im_disk.specs.declared.Disk.Ghosts, im_groups.specs.Commands.places_behind}
-use Rattle.im_engine.specs.{Commands.CommandsAnswered, Commands.each_refused, State.EngineState}
-use Rattle.im_session.specs.{Keeping.KeepsPut, Keeping.MakesFewCalls, Kept.SessionState}
-use Rattle.im_session.specs.Serving.{served_answer, served_together}
+-- What is asked under the lock: how it comes out of the inbox, which commands are one group, and what serving them does.
+-- (Own.)
+use Rattle.std.specs.Prelude.{◌≡◌, ℕ, ◌+◌, ◌<◌, ◌≤◌, Bool, true, false, ◌⊎◌, List, [], ◌∷◌, ◌++◌, map, length}
+use Rattle.std.specs.Prelude.{if◌then◌else◌, slice_get, slice_set, Some, None, Err, Option, Result}
+use Rattle.std.specs.List.{AllByRecursion}
+use Rattle.im_types.specs.Types.{Request, Command, Outcome, Line, Commands, Refusal, NoMemory, Failed, TraceFull, OffPlan}
+use Rattle.im_types.specs.Types.{Contents, answer_to, Change}
+use Rattle.{im_disk.specs.declared.Disk.Ghosts, im_groups.specs.Commands.places, im_groups.specs.Commands.places_behind}
+use Rattle.im_session.specs.{Keeping.KeepsPut, Keeping.MakesFewCalls, Serving.served_answer}
+use Rattle.im_front.specs.declared.{asked.AskedCommand.AskedCommand, asked.ToldAnswer.ToldAnswer}
+use Rattle.im_front.specs.Lists.{answers_told, commands_told, with_ticket}
+use Rattle.im_front.specs.State.{Advanced, front_of, FrontState}
 use Rattle.im_trace.specs.Lines.{counts_after, leaves_line, left_lines, LineCounts, memory_after}
-use Rattle.im_trace.specs.Log.{IsOf, LogState, plain, ReceiptState, with_unclaimed}
-use Rattle.im_controller.specs.Admitted.{Admits, free_lines, is_asked, places_with}
-use Rattle.im_controller.specs.{Lends.changes_put, State.SharedState}
+use Rattle.im_trace.specs.Log.{IsOf, LogState, plain, ReceiptState, sender_of, UnclaimedState, with_unclaimed}
+use Rattle.{im_trace.specs.Origin.Origin, im_queue.specs.Places.IsAskedAt}
+use Rattle.im_queue.specs.Members.{AreFreeFor, AreOneOfEach, AreSureBehind, IsApartFrom, IsCut, IsSureBehind, MayJoin}
+use Rattle.im_controller.specs.{Lends.changes_put, Planned.has_command, State.SharedState}
+
+-- ---- out of the inbox
+
+-- what an element asks is taken out, and asked of the front
+pub record TakesOne {D : Type 0} (element : ℕ) (places : List (Option Command)) (f : FrontState D)
+    (places' : List (Option Command)) (f' : FrontState D) : Type 0 where
+  pub one : Command
+  pub is_asked : IsAskedAt places element one
+  pub left : places' ≡ slice_set places element None
+  pub joined : f' ≡ front_of f.session (f.asked ++ with_ticket element one ∷ [])
+
+-- the same, or nothing is taken
+abbrev pub TakesIn : {D : Type 0} → ℕ → List (Option Command) → FrontState D → List (Option Command) → FrontState D
+    → Type 0
+TakesIn element places f places' f' = ((places' ≡ places) × (f' ≡ f)) ⊎ TakesOne element places f places' f'
 
 -- ---- what the members are answered
 
@@ -42,53 +61,78 @@ abbrev pub lines_left : List (Result Outcome Refusal) → ℕ
 lines_left [] = 0
 lines_left (answer ∷ answers) = (if leaves_line answer then 1 else 0) + lines_left answers
 
--- The members' answers, given the lines that the trace has room for. They are `TraceFull` if it has room for none,
--- unless the engine has failed, and else the engine's.
-pub record MembersAnswered {D : Type 0} (old : EngineState D) (room : ℕ) (members : List Command)
-    (answers : List Served) (new : EngineState D) : Type 0 where
-  pub full : old.failed ≡ false → room ≡ 0 → (answers ≡ each_refused TraceFull members) × (new ≡ old)
-  pub dead : old.failed ≡ true → CommandsAnswered old members answers new
-  pub served : 0 < room → CommandsAnswered old members answers new
+-- what they are answered, as outcomes
+abbrev pub outcomes_told : List ToldAnswer → List (Result Outcome Refusal)
+outcomes_told told = map served_answer (answers_told told)
 
--- What a session puts of the members, given the lines that the trace has room for: nothing if it has room for none, or
--- if the engine has failed.
-pub record MembersPut {D : Type 0} (old : SessionState D) (room : ℕ) (members : List Command)
-    (new : SessionState D) : Type 0 where
-  pub full : old.engine.failed ≡ false → room ≡ 0 → new ≡ old
-  pub dead : old.engine.failed ≡ true → new ≡ old
-  pub put : 0 < room → new ≡ served_together old members new.engine
+-- ---- which commands are one group
 
--- ---- what a group comes to
+-- A command may be the next one of a group after these: the plan has it, there is a free place for its answer, it is of
+-- another element, and whether it is accepted and what it changes is known before they act.
+pub record IsNext (plan : Option (List Request)) (places : List (Option UnclaimedState)) (m : Contents)
+    (command : Command) (cs : List Command) : Type 0 where
+  pub planned : has_command plan command ≡ true
+  pub free : slice_get places (sender_of command) ≡ Some None
+  pub apart : IsApartFrom command cs
+  pub joins : MayJoin command cs
+  pub sure : IsSureBehind m command cs
+
+-- commands that may be one group
+pub record IsGroup (plan : Option (List Request)) (places : List (Option UnclaimedState)) (m : Contents)
+    (cs : List Command) : Type 0 where
+  pub planned : AllByRecursion (λ (c : Command). has_command plan c ≡ true) cs
+  pub free : AreFreeFor places cs
+  pub apart : AreOneOfEach cs
+  pub cut : IsCut cs
+  pub sure : AreSureBehind m cs
+
+-- why the first of these isn't served, if the engine works and there is room for its line
+abbrev pub first_refusal : Option (List Request) → List Command → Refusal
+first_refusal plan [] = NoMemory
+first_refusal plan (c ∷ cs) = if has_command plan c then NoMemory else OffPlan
+
+-- ---- what serving them does
 
 -- what these commands change, by the memory before all of them
 abbrev pub changes_put_all : Contents → ℕ → List Command → List Change
 changes_put_all m left [] = []
 changes_put_all m left (c ∷ cs) = changes_put m left c ++ changes_put_all m (places_behind m left c) cs
 
--- A group whose members the session is lent to, one after another, but for those that are refused before. Their ports
--- take the answers later, and count the lines then.
-pub record LendsGroup {D : Type 0} (disk : Ghosts D) (plan : Option (List Request)) (s : SharedState D)
-    (members : List Command) (s' : SharedState D) : Type 0 where
-  -- the members that are lent, and the log with the answers to the others: `OffPlan`, or `NoMemory` if the pane has no
-  -- room for a member's change
-  pub lent : List Command
-  pub refused : LogState
-  pub admits : Admits plan s.session.engine s.log members lent refused
-  -- if the engine has failed or the trace is full, all are lent
-  pub all : is_asked s.session.engine (free_lines s.log) ≡ false → lent ≡ members
-  -- what those that are lent are answered, and what is put of them
-  pub answers : List Served
-  pub answered : MembersAnswered s.session.engine (free_lines s.log) lent answers s'.session.engine
-  pub put : MembersPut s.session (free_lines s.log) lent s'.session
-  pub log : s'.log ≡ with_all_unclaimed refused lent (map served_answer answers)
+-- The first commands that are asked are served as one group. Their ports take the answers later, and count the lines
+-- then.
+pub record ServesFirst {D : Type 0} (disk : Ghosts D) (origin : Origin) (s s' : SharedState D) : Type 0 where
+  -- what was asked first is told first, and answered as by the engine
+  pub told : List ToldAnswer
+  pub some : 0 < length told
+  pub advanced : Advanced (front_of s.session s.asked) told (front_of s'.session s'.asked)
+  -- the plan has each of them
+  pub planned : AllByRecursion (λ (c : Command). has_command origin.plan c ≡ true) (commands_told told)
+  pub works : s.session.engine.failed ≡ false
+  -- the log has what was told: a line of each answer that is an outcome or a refusal of numbers
+  pub log : s'.log ≡ with_all_unclaimed s.log (commands_told told) (outcomes_told told)
   pub servers : s'.servers ≡ s.servers
   -- all that the group changed is shown then, or nothing if the engine has failed
-  pub shown : s'.session.engine.failed ≡ false → s'.shown
-      ≡ s.shown ++ changes_put_all s.session.engine.memory (places_with s.session.engine (free_lines s.log)) lent
+  pub shown : s'.session.engine.failed ≡ false → let e = s.session.engine in
+      s'.shown ≡ s.shown ++ changes_put_all e.memory (places e.count e.room) (commands_told told)
   pub hidden : s'.session.engine.failed ≡ true → s'.shown ≡ s.shown
   -- each file left since then has all that was put before
   pub keeps : KeepsPut disk s.session s'.session
-  pub few : MakesFewCalls disk s.session lent s'.session
+  pub few : MakesFewCalls disk s.session (commands_told told) s'.session
+
+-- Why the first command that is asked isn't served: the engine has failed; then the trace is full; then there is a plan
+-- that doesn't have it with its operation under its number; then the pane has no room for its change.
+pub record IsRefusedFor {D : Type 0} (plan : Option (List Request)) (s : SharedState D)
+    (refusal : Refusal) : Type 0 where
+  pub dead : s.session.engine.failed ≡ true → refusal ≡ Failed
+  pub full : s.session.engine.failed ≡ false → s.log.limit ≤ length s.log.trace → refusal ≡ TraceFull
+  pub other : s.session.engine.failed ≡ false → length s.log.trace < s.log.limit
+      → refusal ≡ first_refusal plan (map (λ (a : AskedCommand). a.command) s.asked)
+
+-- The first command that is asked is refused, and its refusal waits for its port. All else stays.
+pub record RefusesFirst {D : Type 0} (s : SharedState D) (refusal : Refusal) (s' : SharedState D) : Type 0 where
+  pub first : AskedCommand
+  pub asked : s.asked ≡ first ∷ s'.asked
+  pub same : s' ≡ record s { asked = s'.asked; log = with_unclaimed s.log first.command (Err refusal) }
 
 -- what a port gets while it holds the lock once: nothing yet, or the answer to its command, and then the line is
 -- counted

@@ -25,43 +25,6 @@ pub record LeavesLine {D : Type 0} (s : SharedState D) (call : Call) (answer : R
 abbrev pub changes_put : Contents → ℕ → Command → List Change
 changes_put m left command = if takes_place m left command then change_by m command ∷ [] else []
 
--- what is shown of a command that has this answer
-abbrev pub shows : Contents → Command → Result Outcome Refusal → List Change
-shows m command (Ok outcome) = changes_at m command
-shows m command (Err refusal) = []
-
--- the pane has no room for the change of a command that would be put on the disk: nothing is changed
-pub record IsRoomless {D : Type 0} (s : SharedState D) (command : Command) (answer : Result ReceiptState Refusal)
-    (s' : SharedState D) : Type 0 where
-  pub accepted : takes_place s.session.engine.memory s.session.engine.room command ≡ true
-  pub refused : answer ≡ Err NoMemory
-  pub same : s' ≡ s
-
--- A command that is lent to the engine, with its answer. It is refused first if the engine has failed, and then if the
--- trace is full.
-pub record Lends {D : Type 0} (disk : Ghosts D) (origin : Origin) (s : SharedState D) (t : LineCounts)
-    (command : Command)
-    (answer : Result ReceiptState Refusal) (s' : SharedState D) (t' : LineCounts) : Type 0 where
-  pub dead : s.session.engine.failed ≡ true → (answer ≡ Err Failed) × (s' ≡ s)
-  pub full : s.session.engine.failed ≡ false → s.log.limit ≤ length s.log.trace → (answer ≡ Err TraceFull) × (s' ≡ s)
-  -- then if there is a plan that doesn't have its operation under its number
-  pub off : s.session.engine.failed ≡ false → length s.log.trace < s.log.limit → has_command origin.plan command ≡ false
-      → (answer ≡ Err OffPlan) × (s' ≡ s)
-  -- Else the engine answers it, and its line is left if the answer is an outcome or a refusal of numbers. Or the pane
-  -- has no room for its change.
-  pub served : s.session.engine.failed ≡ false → length s.log.trace < s.log.limit
-      → has_command origin.plan command ≡ true →
-      (Answered s.session.engine command (plain answer) s'.session.engine
-      × LeavesLine s (Commands command) (plain answer) s')
-      ⊎ IsRoomless s command answer s'
-  -- its port has counted the line, if there is one; an outcome has the trace that ends in the line
-  pub tally : t' ≡ counts_after origin.marks t (left_lines (Commands command) (plain answer))
-  -- The change of an accepted command is shown if it has an outcome. The outcome has what is shown then, and the time:
-  -- how many moments the disk had had.
-  pub shown : s'.shown ≡ s.shown ++ shows s.session.engine.memory command (plain answer)
-  pub receipt : answer
-      ≡ receipt_for s'.log.trace (length (disk.past s'.session.engine.disk)) s'.shown command (plain answer)
-
 -- A collect, with the refusals in the same order. The session stays, and the line is left.
 pub record Looks {D : Type 0} (marks : Line → Bool) (s : SharedState D) (t : LineCounts) (element number : ℕ)
     (answer : Result Entry Refusal) (s' : SharedState D) (t' : LineCounts) : Type 0 where
@@ -101,7 +64,7 @@ standing_in s = record { waits = count_by is_waiting_server s.servers; room = s.
 -- what lies under the lock after an element's server, if it is active or waits, does something else
 abbrev pub with_server_at : {D : Type 0} → SharedState D → ℕ → ServerState → SharedState D
 with_server_at s element server =
-    record { session = s.session; log = s.log; servers = with_server s.servers element server; shown = s.shown }
+    record s { servers = with_server s.servers element server }
 
 -- An element's port is made exactly if its server had none yet. It was told no line, and the server is active. Else all
 -- is as it was.
@@ -110,7 +73,7 @@ pub record MakesPort {D : Type 0} (s : SharedState D) (element : ℕ) (answer : 
   pub made : slice_get s.servers element ≡ Some Unmade
       → answer ≡ Ok (record { element = element; told = record { lines = 0; marked = 0 }; history = s.log.trace })
   pub active : slice_get s.servers element ≡ Some Unmade
-      → s' ≡ record { session = s.session; log = s.log; servers = slice_set s.servers element Active; shown = s.shown }
+      → s' ≡ record s { servers = slice_set s.servers element Active }
   pub none : slice_get s.servers element ≢ Some Unmade → answer ≡ Err NoElement
   pub same : slice_get s.servers element ≢ Some Unmade → s' ≡ s
 

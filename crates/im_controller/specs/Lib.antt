@@ -11,5 +11,4 @@ pub mod Groups
 pub mod Kept
 pub mod Ends
 pub mod Planned
-pub mod Admitted
 pub mod Stops

@@ -2,11 +2,14 @@
 use Rattle.std.specs.Prelude.{◌≡◌, ℕ, Bool, true, false, List, Some, None, Option}
 use Rattle.im_types.specs.Types.{Request, Line, Change}
 use Rattle.{im_session.specs.Kept.SessionState, im_queue.specs.declared.ServerState.ServerState}
+use Rattle.im_front.specs.declared.asked.AskedCommand.{AskedCommand}
 use Rattle.im_trace.specs.{Books.BookNames, Lines.LineCounts, Log.LogState}
 
--- what lies under the lock: the session, its log, what each element's server does, and the changes that are shown
+-- what lies under the lock: the session, what is asked of it and not told yet, its log, what each element's server
+-- does, and the changes that are shown
 pub record SharedState (D : Type 0) : Type 0 where
   pub session : SessionState D
+  pub asked : List AskedCommand
   pub log : LogState
   pub servers : List ServerState
   pub shown : List Change

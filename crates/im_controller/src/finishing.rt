@@ -82,7 +82,7 @@ pub fn finish_kept<D: Disk, K: Name, R: Wait>(
     ensures came { HaveCome K.origin result.trace ports.items result.left result.came result.claimed }
 {
     let Shared {
-        session,
+        front,
         log,
         pane,
         watched: _,
@@ -100,7 +100,7 @@ pub fn finish_kept<D: Disk, K: Name, R: Wait>(
     take_all_back(&mut log, ports);
     let (trace, claimed) = log.close();
     Finished {
-        session,
+        session: front.into_session(),
         trace,
         came: came == all - left,
         left,

@@ -45,7 +45,7 @@ fn enough_for(asked: u32, slots: u32) -> u32 {
 // Returns whether the journal is short of room, given how many elements ask. As the number of its slots it takes the
 // most room that it was seen to have.
 fn is_pressed<D: Disk, K: Name>(shared: &mut Shared<D, K>, asked: u32) -> bool {
-    let room = shared.session.engine().room();
+    let room = shared.front.engine().room();
     shared.most_room = max(shared.most_room, room);
     room < enough_for(asked, shared.most_room)
 }

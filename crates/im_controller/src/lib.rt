@@ -1,15 +1,16 @@
-//! One lock round a session and its trace: the ports by which elements reach it, the thread that keeps checkpoints,
+//! One lock round a front and its trace: the ports by which elements reach it, the thread that keeps checkpoints,
 //! and what a caller knows of the trace at the end.
 //!
-//! The crate stands on `im_session`, on `im_trace` (the trace, its books and receipts) and on `im_queue` (the queue
+//! The crate stands on `im_front`, on `im_trace` (the trace, its books and receipts) and on `im_queue` (the queue
 //! before the lock, the inbox and the bells). Contracts see what lies under the lock by `specs/State.antt`, and traces
 //! by the definitions of `im_types`.
 #![tactic(auto)]
 
-mod admitting; // Which members of a group are lent.
 mod controller; // The lock, and the loop of the keeper.
 mod finishing; // Its end.
-mod groups; // Groups of commands that the session is lent to.
+mod gathering; // Which of the commands that are asked are the next group.
+mod groups; // What is asked is served from the front, in groups.
+mod inboxes; // What is asked comes out of the inbox.
 mod keeper; // Checkpoints, and who makes room.
 mod looks; // What is looked up under the lock.
 mod members; // What the members of a group are answered.
@@ -25,6 +26,7 @@ mod stops; // Laws of planned runs that are stopped.
 
 pub use controller::Controller;
 pub use finishing::{Finished, finish, finish_kept};
+pub use groups::serve_first;
 pub use im_queue::{Ask, ServerState, stuck_is_each};
 pub use im_trace::{
     Found, LineLedger, Marked, Name, Prefix, Receipt, Recording, Shown, Since, Tally, Traced, When,
@@ -32,7 +34,7 @@ pub use im_trace::{
 pub use looks::{begin_wait, look};
 pub use opening::Opening;
 pub use ports::Port;
-pub use shared::{Shared, lend, lend_turn};
+pub use shared::{Shared, lend_turn};
 pub use standing::Standing;
 pub use starts::{
     resume_planned, resume_planned_unrecorded, start, start_planned, start_planned_unrecorded,

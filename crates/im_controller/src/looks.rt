@@ -64,7 +64,7 @@ pub fn look<D: Disk, K: Name>(
     ensures last { IfOk result (λ entry. EndsIn shared.new.log.trace
         (line_of (Collect element number) (Ok (Tells entry)))) }
 {
-    let engine = shared.session.engine();
+    let engine = shared.front.engine();
     if engine.failed() {
         return Err(Refusal::Failed);
     }
@@ -94,17 +94,17 @@ pub fn begin_wait<D: Disk, K: Name>(
 ) -> Result<Ask, Refusal>
     ensures begins { BeginsWait shared.old element number result shared.new }
 {
-    if shared.session.engine().failed() {
+    if shared.front.engine().failed() {
         shared.servers.change(element, ServerState::Active);
         return Err(Refusal::Failed);
     }
-    match shared.session.memory().collect(element, number) {
+    match shared.front.memory().collect(element, number) {
         Ok(Entry::Answered(_)) => {
             shared.servers.change(element, ServerState::Active);
             Ok(Ask::Go)
         }
         Ok(Entry::Waiting) => {
-            if shared.servers.are_stuck(shared.session.memory(), element) {
+            if shared.servers.are_stuck(shared.front.memory(), element) {
                 shared.servers.change(element, ServerState::Active);
                 return Err(Refusal::Stalled);
             }

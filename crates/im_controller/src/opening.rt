@@ -10,6 +10,7 @@ use crate::keeper::Keeper;
 use crate::shared::Shared;
 use im_changes::full_cells;
 use im_disk::Disk;
+use im_front::Front;
 use im_glass::{Unnamed, open};
 use im_memory::Memory;
 use im_planning::{Plan, fits, is_under_way};
@@ -228,7 +229,7 @@ impl<D: Disk> Opening<D> {
         let (log, reserve) = log.named::<K>();
         let pane = pane.named::<Shown<K>>();
         let shared = Shared {
-            session,
+            front: Front::of(session),
             log,
             pane,
             watched,

@@ -21,7 +21,7 @@ fn stands<D: Disk, K: Name>(shared: &Shared<D, K>) -> Standing
 {
     Standing {
         waits: shared.servers.waiting(),
-        room: shared.session.engine().room(),
+        room: shared.front.engine().room(),
     }
 }
 
@@ -59,10 +59,10 @@ pub(crate) struct Sleepers {
 // failed.
 pub(crate) fn who_sleeps<D: Disk, K: Name>(shared: &mut Shared<D, K>) -> Sleepers {
     let keeper = wake_keeper(&mut shared.keeper);
-    let ports = if shared.session.engine().failed() {
+    let ports = if shared.front.engine().failed() {
         shared.servers.asleep()
     } else {
-        shared.servers.answered(shared.session.memory())
+        shared.servers.answered(shared.front.memory())
     };
     Sleepers { keeper, ports }
 }

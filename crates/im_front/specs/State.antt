@@ -1,9 +1,10 @@
 -- A front: a session, and what is asked of it in order. (Own.)
-use Rattle.std.specs.Prelude.{◌≡◌, ◌<◌, ◌≤◌, max, List, ◌++◌, length}
+use Rattle.std.specs.Prelude.{◌≡◌, ℕ, ◌<◌, ◌≤◌, min, max, List, ◌++◌, length, take}
+use Rattle.im_types.specs.Types.{Command, MAX_GROUP}
 use Rattle.{im_groups.specs.Commands.places, im_engine.specs.Commands.CommandsAnswered}
 use Rattle.im_session.specs.{Kept.SessionState, Serving.Rests, Serving.served_together}
 use Rattle.im_front.specs.declared.asked.{AskedCommand.AskedCommand, ToldAnswer.ToldAnswer}
-use Rattle.im_front.specs.Lists.{answers_told, asks_told, commands_told}
+use Rattle.im_front.specs.Lists.{answers_told, asks_told, commands_asked, commands_told}
 
 -- a session, and what is asked of it and not told yet, the oldest command first
 pub record FrontState (D : Type 0) : Type 0 where
@@ -13,6 +14,12 @@ pub record FrontState (D : Type 0) : Type 0 where
 -- a front of these
 abbrev pub front_of : {D : Type 0} → SessionState D → List AskedCommand → FrontState D
 front_of session asked = record { session = session; asked = asked }
+
+-- the first commands that are asked, as many as may be one group: no more than this, than a group has, and than there
+-- are places for; or one, if there is none
+abbrev pub next_group : {D : Type 0} → ℕ → FrontState D → List Command
+next_group most f = let e = f.session.engine in
+    take (min (min most (max 1 (places e.count e.room))) (min MAX_GROUP (length f.asked))) (commands_asked f.asked)
 
 -- nothing was put, and nothing was told
 pub record FrontRests {D : Type 0} (old new : FrontState D) : Type 0 where

@@ -8,7 +8,6 @@ use crate::front::Front;
 use arrayvec::ArrayVec;
 use im_disk::Disk;
 use im_types::MAX_GROUP;
-use std::cmp::{max, min};
 
 impl<D: Disk> Front<D> {
     /// Serves the first commands that are asked as one group, at most `most` of them, and tells their answers. They
@@ -26,11 +25,6 @@ impl<D: Disk> Front<D> {
         ensures advanced { Advanced self.old told.new.items self.new }
         ensures few { length told.new.items ≤ min most MAX_GROUP }
     {
-        let places = self.session.engine().places() as usize;
-        let members = self.asks.group(min(most, max(1, places)));
-        let mut served = ArrayVec::new();
-        // A crash in this call leaves all of the group on the disk, or nothing of it. No answer is told before.
-        self.session.serve_commands(&members, &mut served);
-        self.asks.tell(served.as_slice(), told);
+        self.advance_kept(most, told);
     }
 }

@@ -1,5 +1,5 @@
 //! The queue of what is asked. It goes out in groups, from the front, and each answer goes with its ticket.
-ghost use Rattle.std.specs.Prelude.{◌≡◌, ◌<◌, ◌≤◌, min, [], ◌∷◌, ◌++◌, length, take, drop, ◌==◌};
+ghost use Rattle.std.specs.Prelude.{◌≡◌, ◌<◌, ◌≤◌, min, [], ◌∷◌, ◌++◌, length, take, drop, ◌==◌, IfSome, None};
 ghost use Rattle.im_types.specs.Types.{MAX_GROUP};
 ghost use Rattle.im_front.specs.declared.asks.TheConstants.{MOST_ASKED};
 ghost use Rattle.im_front.specs.Lists.{answers_told, asks_told, commands_asked, with_ticket};
@@ -93,6 +93,17 @@ impl Asks {
             });
         }
         self.take_out(served.len());
+    }
+
+    /// Takes out the oldest command that is asked, if there is one.
+    pub fn withdraw(&mut self) -> Option<AskedCommand>
+        ensures none { result ≡ None → self.old ≡ [] }
+        ensures some { IfSome result (λ first. self.old ≡ first ∷ self.new) }
+        ensures rest { self.new ≡ drop 1 self.old }
+    {
+        let first = *self.queue.first()?;
+        self.take_out(1);
+        Some(first)
     }
 
     // Takes out this many of what is asked, the oldest.

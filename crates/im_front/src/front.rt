@@ -1,5 +1,5 @@
 //! A session with its queue: who asks, and what is looked at.
-ghost use Rattle.std.specs.Prelude.{◌≡◌, ◌<◌, ◌≤◌, [], ◌∷◌, ◌++◌, length, ◌==◌};
+ghost use Rattle.std.specs.Prelude.{◌≡◌, ◌<◌, ◌≤◌, [], ◌∷◌, ◌++◌, length, drop, ◌==◌, IfSome, None};
 ghost use Rattle.im_session.specs.Kept.{Kept};
 ghost use Rattle.im_front.specs.{declared.asks.TheConstants.MOST_ASKED, Lists.with_ticket, State.front_of};
 
@@ -102,5 +102,14 @@ impl<D: Disk> Front<D> {
             ≡ front_of self.old.session (self.old.asked ++ with_ticket ticket command.now ∷ []) }
     {
         self.asks.submit(ticket, command);
+    }
+
+    /// Takes the oldest command that is asked out of the queue, if there is one. It isn't served.
+    pub fn withdraw(&mut self) -> Option<AskedCommand>
+        ensures none { result ≡ None → self.old.asked ≡ [] }
+        ensures some { IfSome result (λ first. self.old.asked ≡ first ∷ self.new.asked) }
+        ensures same { self.new ≡ front_of self.old.session (drop 1 self.old.asked) }
+    {
+        self.asks.withdraw()
     }
 }

@@ -11,6 +11,7 @@ mod advancing;
 mod asked;
 mod asks;
 mod front;
+mod keeping;
 mod room;
 mod turning;
 

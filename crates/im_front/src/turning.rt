@@ -13,6 +13,6 @@ impl<D: Disk> Front<D> {
         ensures answered { TurnAnswered self.old.session.engine result self.new.session.engine }
         ensures same { FrontRests self.old self.new }
     {
-        self.session.turn()
+        self.turn_kept()
     }
 }

@@ -87,19 +87,10 @@ AreSureBehind m (c ∷ cs) = AreSure m cs
 abbrev pub IsSureBehind : Contents → Command → List Command → Type 0
 IsSureBehind m command cs = (cs ≡ []) ⊎ IsSure m command
 
--- each of the commands is of an element below this one
-abbrev pub AreBelow : ℕ → List Command → Type 0
-AreBelow element cs = AllByRecursion (λ (c : Command). sender_of c < element) cs
+-- none of the commands is of this command's element
+abbrev pub IsApartFrom : Command → List Command → Type 0
+IsApartFrom command cs = AllByRecursion (λ (c : Command). sender_of c ≢ sender_of command) cs
 
 -- the place of each command's element is free
 abbrev pub AreFreeFor : List (Option UnclaimedState) → List Command → Type 0
 AreFreeFor places cs = AllByRecursion (λ (c : Command). slice_get places (sender_of c) ≡ Some None) cs
-
--- a group of commands of elements below this one; their answers have free places
-pub record Gathers (places : List (Option UnclaimedState)) (m : Contents) (element : ℕ)
-    (cs : List Command) : Type 0 where
-  pub apart : AreOneOfEach cs
-  pub free : AreFreeFor places cs
-  pub below : AreBelow element cs
-  pub cut : IsCut cs
-  pub sure : AreSureBehind m cs

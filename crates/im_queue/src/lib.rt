@@ -3,11 +3,13 @@
 #![tactic(auto)]
 
 mod bell; // Who sleeps is woken by a bell.
-mod inbox; // A place for each element's command, and the groups that are taken out.
+mod inbox; // A place for each element's command.
+mod joining; // Which commands may be one group.
 mod servers; // What each element's server does, and which ports sleep.
 mod turns; // Who goes next.
 
 pub use bell::{Bell, Bells};
-pub use inbox::{Inbox, NextGroup};
+pub use inbox::Inbox;
+pub use joining::may_be_next;
 pub use servers::{Ask, ServerState, Servers, stuck_is_each};
 pub use turns::{Turn, Turns};
