@@ -1,9 +1,9 @@
 -- The answers to a group's members are the memory's, one after another, and come to the engine's memory.
 use Rattle.std.proofs.Common.{◌≡◌, ℕ, zero, suc, ◌<◌, ◌≤◌, Bool, true, false, ◌&&◌, ◌⊎◌, List, [], ◌∷◌, map, length}
-use Rattle.std.proofs.Common.{if◌then◌else◌, nat_lt, ◌==◌, Ok, Err, Result, sym, refl, ap, ◌∙◌, subst, inl, inr, ⊎_elim}
+use Rattle.std.proofs.Common.{if◌then◌else◌, IsOk, nat_lt, ◌==◌, Ok, Err, Result, sym, refl, ap, ◌∙◌, subst, inl, inr, ⊎_elim}
 use Rattle.std.proofs.Common.{arith}
 use Rattle.std.proofs.lemmas.Bool.Decides.{nat_tests}
-use Rattle.im_types.specs.Types.{Command, Outcome, Commands, Served, Refusal, JournalFull, Device, Failed, TraceFull}
+use Rattle.im_types.specs.Types.{Command, Outcome, Commands, Served, Refusal, JournalFull, Device}
 use Rattle.im_types.specs.Types.{Contents, step, is_accepted, after, as_served}
 use Rattle.im_laws.proofs.{AcceptLemmas.accepted-ok, AcceptLemmas.unaccepted-leaves, Tests.true_false}
 use Rattle.{im_groups.proofs.CommandLemmas.at-after, im_engine.specs.State.EngineState}
@@ -12,8 +12,15 @@ use Rattle.im_groups.specs.Commands.{places_behind}
 use Rattle.im_engine.specs.Commands.{after_commands, answers_in_turn, commands_put, CommandsAnswered, each_refused}
 use Rattle.im_session.{proofs.GroupLemmas.served_back, specs.Serving.served_answer}
 use Rattle.im_trace.specs.Lines.{leaves_line, memory_after}
-use Rattle.im_controller.proofs.LendLemmas.{ok-leaves, same_by}
-use Rattle.im_controller.specs.Groups.{AreAnswersTo, IsAnswerTo, lines_left, MembersAnswered, memory_after_all}
+use Rattle.im_controller.specs.Groups.{AreAnswersTo, IsAnswerTo, lines_left, memory_after_all}
+
+pub ok-leaves : (answer : Result Outcome Refusal) → IsOk answer → leaves_line answer ≡ true
+ok-leaves (Ok outcome) is = refl
+ok-leaves (Err refusal) is = absurd (true_false (sym is))
+
+same_by : (b : Bool) (m n : Contents) → n ≡ m → m ≡ (if b then n else m)
+same_by true m n is = sym is
+same_by false m n is = refl
 
 -- what the log asks of the answers to a group, from one memory to another
 pub record Fits (m : Contents) (rs : List Command) (ss : List Served) (n : Contents) : Type 0 where
@@ -166,33 +173,5 @@ module _ {D : Type 0} (e f : EngineState D) (rs : List Command) (ss : List Serve
       (λ doubt. fits_alike Device refl doubt.0 (memory-of doubt.1))
       (a.put alive (omega (arith, ap length put)))
 
-  fits_by : (b : Bool) → e.failed ≡ b → CommandsAnswered e rs ss f → Fits e.memory rs ss f.memory
-  fits_by true dead a = let is = a.dead dead in fits_alike Failed refl is.0 (memory-of is.1)
-  fits_by false alive a = fits_alive a alive (commands_put e rs) refl
-
-  -- whichever way a group is answered
-  members_by : (b : Bool) (room n : ℕ) → e.failed ≡ b → room ≡ n → MembersAnswered e room rs ss f
-      → Fits e.memory rs ss f.memory
-  members_by true room n dead is a = fits_by true dead (a.dead dead)
-  members_by false room zero alive is a = let full = a.full alive is in fits_alike TraceFull refl full.0
-      (memory-of full.1)
-  members_by false room (suc n) alive is a = fits_by false alive (a.served (omega (arith, is)))
-
-  pub members-fit : (room : ℕ) → MembersAnswered e room rs ss f → Fits e.memory rs ss f.memory
-  members-fit room a = members_by e.failed room room refl refl a
-
-  none_left : (refusal : Refusal) → leaves_line (Err refusal) ≡ false → ss ≡ each_refused refusal rs
-      → lines_left (map served_answer ss) ≡ 0
-  none_left refusal lineless same = ap (λ ts. lines_left (map served_answer ts)) same ∙ alike_none refusal lineless rs
-
-  room_by : (b : Bool) (room n : ℕ) → e.failed ≡ b → room ≡ n → MembersAnswered e room rs ss f
-      → (lines_left (map served_answer ss) ≡ 0) ⊎ ((0 < room) × (lines_left (map served_answer ss) ≤ length rs))
-  room_by true room n dead is a = inl (none_left Failed refl ((a.dead dead).dead dead).0)
-  room_by false room zero alive is a = inl (none_left TraceFull refl (a.full alive is).0)
-  room_by false room (suc n) alive is a = inr
-      (omega (arith, is), (fits_by false alive (a.served (omega (arith, is)))).few)
-
-  -- no line is left, or there is room for as many as there are members
-  pub members-room : (room : ℕ) → MembersAnswered e room rs ss f → (lines_left (map served_answer ss) ≡ 0)
-      ⊎ ((0 < room) × (lines_left (map served_answer ss) ≤ length rs))
-  members-room room a = room_by e.failed room room refl refl a
+  pub members-fit : CommandsAnswered e rs ss f → e.failed ≡ false → Fits e.memory rs ss f.memory
+  members-fit a alive = fits_alive a alive (commands_put e rs) refl

@@ -9,7 +9,9 @@ use Rattle.im_trace.proofs.LogLemmas.{end-lines, lines_by}
 use Rattle.im_trace.specs.Lines.{leaves_line, left_lines}
 use Rattle.im_trace.specs.Log.{LogState, sender_of, UnclaimedState, with_unclaimed}
 use Rattle.im_queue.specs.Members.{AreFreeFor, AreOfOthers, AreOneOfEach}
-use Rattle.im_controller.specs.Groups.{AreAnswersTo, lines_left, memory_after_all, with_all_unclaimed}
+use Rattle.im_front.{specs.declared.ToldAnswer.ToldAnswer, specs.Lists.commands_told}
+use Rattle.im_session.specs.Serving.{served_answer}
+use Rattle.im_controller.specs.Groups.{AreAnswersTo, lines_left, memory_after_all, outcomes_told, with_all_unclaimed}
 
 get-set_other : {X : Type 0} (xs : List X) (i j : ℕ) (x y : X) → i ≢ j → slice_get xs j ≡ Some y
     → slice_get (slice_set xs i x) j ≡ Some y
@@ -19,7 +21,7 @@ get-set_other xs i j x y apart there =
     ∙ ap Some (get_or-set_other xs i j x y (λ e. apart (sym e)) ∙ get_or_from_slice_get xs j y y there)
 
 -- another place stays free
-pub free_other : (places : List (Option UnclaimedState)) (e element : ℕ) (w : Option UnclaimedState) → e ≢ element
+free_other : (places : List (Option UnclaimedState)) (e element : ℕ) (w : Option UnclaimedState) → e ≢ element
     → slice_get places element ≡ Some None → slice_get (slice_set places e w) element ≡ Some None
 free_other places e element w apart free = get-set_other places e element w None apart free
 
@@ -50,7 +52,7 @@ pub record Keeps (m : Contents) (l0 : LogState) (rs0 : List Command) (xs0 : List
   pub room : length l.trace + lines_left xs ≤ l.limit
 
 module _ (m : Contents) (l0 : LogState) (rs0 : List Command) (xs0 : List (Result Outcome Refusal)) where
-  pub keeps_next : (l : LogState) (r : Command) (x : Result Outcome Refusal) (rs : List Command)
+  keeps_next : (l : LogState) (r : Command) (x : Result Outcome Refusal) (rs : List Command)
       (xs : List (Result Outcome Refusal)) → Keeps m l0 rs0 xs0 l (r ∷ rs) (x ∷ xs)
       → Keeps m l0 rs0 xs0 (with_unclaimed l r x) rs xs
   keeps_next l r x rs xs k =
@@ -65,13 +67,13 @@ module _ (m : Contents) (l0 : LogState) (rs0 : List Command) (xs0 : List (Result
       }
 
   -- the same, by the place of the next member
-  pub keeps_cons : {X : Type 0} (f : X → Result Outcome Refusal) (l : LogState) (rs : List Command) (ss : List X)
-      (i : ℕ) (d : Command) (e : X) → i < length rs → i < length ss
-      → Keeps m l0 rs0 xs0 l (drop i rs) (map f (drop i ss))
-      → Keeps m l0 rs0 xs0 l (get_or rs i d ∷ drop (i + 1) rs) (f (get_or ss i e) ∷ map f (drop (i + 1) ss))
-  keeps_cons {X = X} f l rs ss i d e within there k =
-      let next : suc i ≡ i + 1 = omega arith in
-      let these = drop-cons rs i d within ∙ ap (λ n. get_or rs i d ∷ drop n rs) next in
-      let those = drop-cons ss i e there ∙ ap (λ n. get_or ss i e ∷ drop n ss) next in
-      subst (λ (qs : List Command). Keeps m l0 rs0 xs0 l qs (f (get_or ss i e) ∷ map f (drop (i + 1) ss))) these
-      (subst (λ (ts : List X). Keeps m l0 rs0 xs0 l (drop i rs) (map f ts)) those k)
+  pub keeps_at : (l : LogState) (told : List ToldAnswer) (i : ℕ) (d : ToldAnswer) → i < length told
+      → Keeps m l0 rs0 xs0 l (commands_told (drop i told)) (outcomes_told (drop i told))
+      → Keeps m l0 rs0 xs0 (with_unclaimed l (get_or told i d).asked.command (served_answer (get_or told i d).served))
+      (commands_told (drop (i + 1) told)) (outcomes_told (drop (i + 1) told))
+  keeps_at l told i d within k =
+      let one = get_or told i d in let next : suc i ≡ i + 1 = omega arith in
+      let these = drop-cons told i d within ∙ ap (λ n. one ∷ drop n told) next in
+      keeps_next l one.asked.command (served_answer one.served) (commands_told (drop (i + 1) told))
+      (outcomes_told (drop (i + 1) told))
+      (subst (λ (ts : List ToldAnswer). Keeps m l0 rs0 xs0 l (commands_told ts) (outcomes_told ts)) these k)

@@ -23,10 +23,9 @@ use Rattle.im_session.specs.Serving.{Rests, served_answer, served_one, served_to
 use Rattle.im_trace.proofs.TimeLemmas.{more-back, none-back, time-later, time-new}
 use Rattle.im_trace.specs.Lines.{leaves_line, left_lines, line_of, NeverGoBack, time_at, times_of}
 use Rattle.im_trace.specs.{Log.GoesOnAt, Log.TimedLog, Origin.Origin}
-use Rattle.im_controller.proofs.{GroupLemmas.answers_served, LendLemmas.ok-leaves}
-use Rattle.im_controller.proofs.PutLemmas.{lines_all, one-end, refused-lines}
-use Rattle.im_controller.specs.{Groups.MembersAnswered, Groups.MembersPut, Lends.IsTurnFault, Lends.told_turn}
-use Rattle.im_controller.specs.{Planned.AreOnPlan, Planned.IsOnPlan, State.OpeningState}
+use Rattle.im_controller.proofs.{GroupLemmas.answers_served, GroupLemmas.ok-leaves, PutLemmas.lines_all}
+use Rattle.im_controller.proofs.{PutLemmas.one-end, PutLemmas.refused-lines}
+use Rattle.im_controller.specs.{Lends.IsTurnFault, Lends.told_turn, Planned.AreOnPlan, State.OpeningState}
 use Rattle.im_controller.specs.Kept.{accepted_in, begun_by, IsLeftAt, IsOriginOf, IsSessionOf, KeepsSince}
 use mathlib.Core.List.{IsPrefix}
 
@@ -121,28 +120,6 @@ put_on_plan plan (r ∷ rs) m left on = by_test (takes_place m left r)
 
 -- ---- what is put of an answer, and of a group's
 
--- a command: its line, if it leaves one, is accepted just if it is put
-line_put : {D : Type 0} (e f : EngineState D) (c : Command) (a : Result Outcome Refusal) → Answered e c a f
-    → e.failed ≡ false → accepted_in e.memory (left_lines (Commands c) a) ≡ sure_by e.memory c a
-line_put e f c a answered alive = ⊎_elim
-    (λ is. ⊎_elim
-    (λ none. refused JournalFull refl (answered.full alive is none).0)
-    (λ some. ⊎_elim
-    (λ done.
-    let ok = accepted_answers e.memory c is in
-    let told : a ≡ Ok ok.0 = done.0 ∙ ok.1 in
-    lined e.memory c a (ap leaves_line told) is
-    ∙ sym (ap (sure_by e.memory c) told ∙ ap (λ b. if b then c ∷ [] else []) is))
-    (λ doubt. refused Device refl doubt.0)
-    (answered.put alive is some))
-    (none_or_some e.room))
-    (λ un. unaccepted e.memory c a un ∙ sym (unsure e.memory c a un))
-    (true_or_false (is_accepted e.memory c))
-  where
-    refused : (r : Refusal) → leaves_line (Err r) ≡ false → a ≡ Err r
-        → accepted_in e.memory (left_lines (Commands c) a) ≡ sure_by e.memory c a
-    refused r none is = lineless e.memory c a (ap leaves_line is ∙ none) ∙ sym (ap (sure_by e.memory c) is)
-
 -- a group: the lines of its answers are accepted just if they are put
 module _ {D : Type 0} (e f : EngineState D) (rs : List Command) (ss : List Served) where
   abbrev put_in : List Command
@@ -189,11 +166,6 @@ on_if : (plan : Option (List Request)) (b : Bool) (cs : List Command) → AreOnP
 on_if plan true cs on = on
 on_if plan false cs on = tt
 
-one_doubted : (plan : Option (List Request)) (m : Contents) (c : Command) (a : Result Outcome Refusal)
-    → IsOnPlan plan (Commands c) → AreOnPlan plan (doubted_by m c a)
-one_doubted plan m c (Ok outcome) on = tt
-one_doubted plan m c (Err refusal) on = on_if plan (is_accepted m c && is_device refusal) (c ∷ []) (on, tt)
-
 -- ---- the session of a trace
 
 module _ {D : Type 0} (disk : Ghosts D) (k : Origin) where
@@ -232,60 +204,22 @@ module _ {D : Type 0} (disk : Ghosts D) (k : Origin) where
         (ap (λ (s : SessionState D). s.doubt) rests.same ∙ sym (append-nil old.doubt))
         (sym (append-nil (accepted_in k.memory trace))) tt
 
-    -- a command is served, and leaves its line
-    pub session_lent : (trace' : List Line) (c : Command) (a : Result Outcome Refusal)
-        → Answered old.engine c a new.engine → old.engine.failed ≡ false → new ≡ served_one old c a new.engine
-        → end_of k.memory trace ≡ old.engine.memory → trace' ≡ trace ++ left_lines (Commands c) a
-        → IsOnPlan k.plan (Commands c) → IsSessionOf disk k trace' new
-    session_lent trace' c a answered alive put ends lines planned =
-        let m = old.engine.memory in
-        session_more trace' (sure_by m c a) (doubted_by m c a)
-        (ap (λ (s : SessionState D). s.put) put) (ap (λ (s : SessionState D). s.doubt) put)
-        (ap (accepted_in k.memory) lines ∙ accepted-more k.memory m trace (left_lines (Commands c) a) ends
-        ∙ ap (λ l. accepted_in k.memory trace ++ l) (line_put old.engine new.engine c a answered alive))
-        (one_doubted k.plan m c a planned)
-
     -- a group is served, and leaves its lines
     module _ (trace' : List Line) (rs : List Command) (ss : List Served)
         (ends : end_of k.memory trace ≡ old.engine.memory)
         (lines : trace' ≡ trace ++ lines_all rs (map served_answer ss)) where
-      group_by : (sure more : List Command) → new.put ≡ old.put ++ sure → new.doubt ≡ old.doubt ++ more
-          → put_in old.engine new.engine rs ss ≡ sure → AreOnPlan k.plan more → IsSessionOf disk k trace' new
-      group_by sure more put doubt is planned = session_more trace' sure more put doubt
+      pub session_group : CommandsAnswered old.engine rs ss new.engine → old.engine.failed ≡ false
+          → new ≡ served_together old rs new.engine → AreOnPlan k.plan rs → IsSessionOf disk k trace' new
+      session_group answered alive put planned =
+          let cs = commands_put old.engine rs in
+          session_more trace' (sure_of new.engine.failed cs)
+          (doubted_of old.engine.failed new.engine.failed cs)
+          (ap (λ (s : SessionState D). s.put) put) (ap (λ (s : SessionState D). s.doubt) put)
           (ap (accepted_in k.memory) lines
           ∙ accepted-more k.memory old.engine.memory trace (lines_all rs (map served_answer ss)) ends
-          ∙ ap (λ l. accepted_in k.memory trace ++ l) is)
-          planned
-
-      group_none : (r : Refusal) → leaves_line (Err r) ≡ false → ss ≡ each_refused r rs → new ≡ old
-          → IsSessionOf disk k trace' new
-      group_none r none is same = group_by [] []
-          (ap (λ (s : SessionState D). s.put) same ∙ sym (append-nil old.put))
-          (ap (λ (s : SessionState D). s.doubt) same ∙ sym (append-nil old.doubt))
-          (none_put old.engine new.engine rs ss r none is) tt
-
-      group_served : CommandsAnswered old.engine rs ss new.engine → old.engine.failed ≡ false
-          → new ≡ served_together old rs new.engine → AreOnPlan k.plan rs → IsSessionOf disk k trace' new
-      group_served answered alive put planned =
-          let cs = commands_put old.engine rs in
-          group_by (sure_of new.engine.failed cs) (doubted_of old.engine.failed new.engine.failed cs)
-          (ap (λ (s : SessionState D). s.put) put) (ap (λ (s : SessionState D). s.doubt) put)
-          (group_put old.engine new.engine rs ss answered alive)
+          ∙ ap (λ l. accepted_in k.memory trace ++ l) (group_put old.engine new.engine rs ss answered alive))
           (on_if k.plan (new.engine.failed && not old.engine.failed) cs
           (put_on_plan k.plan rs old.engine.memory (places old.engine.count old.engine.room) planned))
-
-      by_room : (dead : Bool) (room n : ℕ) → old.engine.failed ≡ dead → room ≡ n
-          → MembersAnswered old.engine room rs ss new.engine → MembersPut old room rs new
-          → (old.engine.failed ≡ false → 0 < room → AreOnPlan k.plan rs) → IsSessionOf disk k trace' new
-      by_room true room n dead is a put planned = group_none Failed refl ((a.dead dead).dead dead).0 (put.dead dead)
-      by_room false room zero alive is a put planned = group_none TraceFull refl (a.full alive is).0
-          (put.full alive is)
-      by_room false room (suc n) alive is a put planned = group_served (a.served (omega (arith, is))) alive
-          (put.put (omega (arith, is))) (planned alive (omega (arith, is)))
-
-      pub session_group : (room : ℕ) → MembersAnswered old.engine room rs ss new.engine → MembersPut old room rs new
-          → (old.engine.failed ≡ false → 0 < room → AreOnPlan k.plan rs) → IsSessionOf disk k trace' new
-      session_group room a put planned = by_room old.engine.failed room room refl refl a put planned
 
 -- a question puts nothing
 pub looked-same : (m : Contents) (trace trace' : List Line) (element number : ℕ) (a : Result Outcome Refusal)

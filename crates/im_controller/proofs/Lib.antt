@@ -1,13 +1,12 @@
 pub mod SeenLemmas
-pub mod LendLemmas
 pub mod ShownLemmas
 pub mod PutLemmas
 pub mod WaitLemmas
 pub mod SureLemmas
 pub mod Keeping
+pub mod Gathering
 pub mod GroupLemmas
 pub mod Lending
 pub mod KeptLemmas
 pub mod PlannedLemmas
-pub mod AdmitLemmas
 pub mod StopLemmas

@@ -9,7 +9,7 @@ use Rattle.im_plans.{proofs.UnderWayLemmas.goes-on, specs.Runs.IsPlannedCall, sp
 use Rattle.im_trace.{proofs.LogLemmas.lines_by, specs.Lines.leaves_line, specs.Lines.left_lines, specs.Lines.line_of}
 use Rattle.im_trace.specs.Log.{IsOfTrace, IsProof, ReceiptState}
 use Rattle.im_planning.proofs.MakingLemmas.{in_plan}
-use Rattle.im_controller.specs.Planned.{EndsAsPlanned, EndsBy, has_command, has_request, IsOnPlan, KeepsTo, StartsBy}
+use Rattle.im_controller.specs.Planned.{AreOnPlan, EndsAsPlanned, EndsBy, has_command, has_request, IsOnPlan, KeepsTo, StartsBy}
 use Rattle.im_controller.specs.Planned.{TellsBy, TellsOf}
 use mathlib.Core.List.{IsPrefix}
 
@@ -106,3 +106,8 @@ pub on-command : (m : Contents) (plan : Option (List Request)) (command : Comman
 on-command m plan (Asks r) s has = on-request m plan r s has
 on-command m None (Confirm element upto) s has = tt
 on-command m (Some plan) (Confirm element upto) s has = tt
+
+pub on-all : (m : Contents) (plan : Option (List Request)) (rs : List Command) → StartsBy m plan
+    → AllByRecursion (λ (c : Command). has_command plan c ≡ true) rs → AreOnPlan plan rs
+on-all m plan [] s has = tt
+on-all m plan (r ∷ rs) s has = (on-command m plan r s has.0, on-all m plan rs s has.1)

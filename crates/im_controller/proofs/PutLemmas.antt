@@ -1,23 +1,22 @@
 -- What the members of a group change is known before it: it is what their lines show.
-use Rattle.std.proofs.Common.{◌≡◌, ℕ, zero, suc, ◌-◌, Bool, true, false, ◌&&◌, List, [], ◌∷◌, ◌++◌, map, length}
+use Rattle.std.proofs.Common.{◌≡◌, ℕ, ◌-◌, Bool, true, false, ◌&&◌, List, [], ◌∷◌, ◌++◌, map, length}
 use Rattle.std.proofs.Common.{if◌then◌else◌, IsOk, nat_lt, ◌==◌, Err, Result, sym, refl, ap, ◌∙◌, subst, ⊎_elim}
 use Rattle.std.proofs.Common.{append_assoc, append-nil, arith}
 use Rattle.std.proofs.lemmas.Bool.Decides.{nat_tests}
-use Rattle.im_types.specs.Types.{Command, Outcome, Line, Commands, Served, Refusal, JournalFull, Device, Failed}
-use Rattle.im_types.specs.Types.{TraceFull, Contents, WaitingAgrees, step, is_accepted, end_of, change_by, changes_of}
+use Rattle.im_types.specs.Types.{Command, Outcome, Line, Commands, Served, Refusal, JournalFull, Device}
+use Rattle.im_types.specs.Types.{Contents, WaitingAgrees, step, is_accepted, end_of, change_by, changes_of}
 use Rattle.im_types.specs.Types.{Change}
-use Rattle.im_laws.proofs.{AcceptLemmas.accepted-ok, Tests.and_false, Tests.true_false}
+use Rattle.im_laws.proofs.{AcceptLemmas.accepted-ok, Tests.true_false}
 use Rattle.im_groups.specs.Commands.{answer_with, answers_with, contents_with, places, places_behind, takes_place}
 use Rattle.im_engine.specs.Commands.{answers_in_turn, commands_put, CommandsAnswered, each_refused}
 use Rattle.{im_engine.specs.State.EngineState, im_session.specs.Serving.served_answer}
 use Rattle.im_trace.proofs.{LogLemmas.end-lines, ToldLemmas.changes-append}
 use Rattle.im_trace.specs.{Lines.leaves_line, Lines.left_lines, Lines.line_of, Log.LogState, Log.with_unclaimed}
 use Rattle.im_queue.specs.Members.{AreOneOfEach, AreSureBehind, IsCut}
-use Rattle.im_controller.proofs.{GroupLemmas.answers_served, GroupLemmas.member-after, LendLemmas.ok-leaves}
+use Rattle.im_controller.proofs.GroupLemmas.{answers_served, member-after, ok-leaves}
 use Rattle.im_controller.proofs.ShownLemmas.{lined-lines, lineless-lines, unaccepted-lines}
 use Rattle.im_controller.proofs.SureLemmas.{AreLike, IsLike, like-after, like-self, sure-behind, with-agrees}
-use Rattle.im_controller.specs.{Admitted.places_with, Lends.changes_put}
-use Rattle.im_controller.specs.Groups.{changes_put_all, MembersAnswered, with_all_unclaimed}
+use Rattle.im_controller.specs.{Groups.changes_put_all, Groups.with_all_unclaimed, Lends.changes_put}
 
 -- the lines of answers to commands
 abbrev pub lines_all : List Command → List (Result Outcome Refusal) → List Line
@@ -99,18 +98,6 @@ refused-lines e lineless (r ∷ rs) = ap
     (λ b. (if b then line_of (Commands r) (Err e) ∷ [] else []) ++ lines_all rs
     (map served_answer (each_refused e rs))) lineless ∙ refused-lines e lineless rs
 
-pub left-none : (m : Contents) (r : Command) → places_behind m 0 r ≡ 0
-left-none m r = ap (λ (b : Bool). if b then 0 - 1 else 0) (and_false (is_accepted m r))
-
-pub taken-none : (m : Contents) (r : Command) → takes_place m 0 r ≡ false
-taken-none m r = and_false (is_accepted m r)
-
-put-none : (m : Contents) (rs : List Command) → changes_put_all m 0 rs ≡ []
-put-none m [] = refl
-put-none m (r ∷ rs) =
-    ap (λ b. (if b then change_by m r ∷ [] else []) ++ changes_put_all m (places_behind m 0 r) rs) (taken-none m r)
-    ∙ ap (λ n. changes_put_all m n rs) (left-none m r) ∙ put-none m rs
-
 -- what a group shows, by what the engine comes to
 pub record GroupShows (m : Contents) (lines : List Line) (changes : List Change) (failed : Bool) : Type 0 where
   pub alive : failed ≡ false → changes ≡ changes_of m lines
@@ -118,9 +105,9 @@ pub record GroupShows (m : Contents) (lines : List Line) (changes : List Change)
 
 module _ {D : Type 0} (e f : EngineState D) (rs : List Command) (ss : List Served) (agrees : WaitingAgrees e.memory)
     (cut : IsCut rs) (apart : AreOneOfEach rs) (sure : AreSureBehind e.memory rs) where
-  abbrev Shows : ℕ → Type 0
-  Shows room = GroupShows e.memory (lines_all rs (map served_answer ss))
-      (changes_put_all e.memory (places_with e room) rs) f.failed
+  abbrev Shows : Type 0
+  Shows = GroupShows e.memory (lines_all rs (map served_answer ss))
+      (changes_put_all e.memory (places e.count e.room) rs) f.failed
 
   none-shown : (refusal : Refusal) → leaves_line (Err refusal) ≡ false → ss ≡ each_refused refusal rs
       → changes_of e.memory (lines_all rs (map served_answer ss)) ≡ []
@@ -130,55 +117,25 @@ module _ {D : Type 0} (e f : EngineState D) (rs : List Command) (ss : List Serve
   failed-of : {a b : EngineState D} → a ≡ b → a.failed ≡ b.failed
   failed-of same = ap (λ (x : EngineState D). x.failed) same
 
-  places-full : (room : ℕ) → e.failed ≡ false → room ≡ 0 → places_with e room ≡ 0
-  places-full room alive none =
-      ap (λ (b : Bool). if b then 0 else if room == 0 then 0 else places e.count e.room) alive
-      ∙ ap (λ (n : ℕ). if n == 0 then 0 else places e.count e.room) none
-
-  places-some : (room n : ℕ) → e.failed ≡ false → room ≡ suc n → places_with e room ≡ places e.count e.room
-  places-some room n alive some =
-      let not : (room == 0) ≡ false = grind (arith, nat_tests) in
-      ap (λ (b : Bool). if b then 0 else if room == 0 then 0 else places e.count e.room) alive
-      ∙ ap (λ (b : Bool). if b then 0 else places e.count e.room) not
-
-  done-shown : (room n : ℕ) → e.failed ≡ false → room ≡ suc n → ss ≡ answers_in_turn e rs → f.failed ≡ false
-      → Shows room
-  done-shown room n alive some is lives = record {
+  done-shown : ss ≡ answers_in_turn e rs → f.failed ≡ false → Shows
+  done-shown is lives = record {
     alive = λ _.
-        ap (λ k. changes_put_all e.memory k rs) (places-some room n alive some)
-        ∙ sym (group-lines e.memory e.memory (places e.count e.room) rs agrees cut apart sure (like-self e.memory rs))
+        sym (group-lines e.memory e.memory (places e.count e.room) rs agrees cut apart sure (like-self e.memory rs))
         ∙ sym (ap (λ xs. changes_of e.memory (lines_all rs (map served_answer xs))) is
         ∙ ap (λ xs. changes_of e.memory (lines_all rs xs))
         (answers_served (answers_with e.memory (places e.count e.room) rs)));
     dead = λ dead. absurd (true_false (sym dead ∙ lives));
   }
 
-  alive-shown : (room n : ℕ) → e.failed ≡ false → room ≡ suc n → CommandsAnswered e rs ss f → (puts : List Command)
-      → commands_put e rs ≡ puts → Shows room
-  alive-shown room n alive some a [] none = let is = a.none alive none in done-shown room n alive some is.0
-      (failed-of is.1 ∙ alive)
-  alive-shown room n alive some a (command ∷ commands) put = ⊎_elim
-      (λ done. done-shown room n alive some done.0 (failed-of done.1 ∙ alive))
+  shown-by : CommandsAnswered e rs ss f → e.failed ≡ false → (puts : List Command) → commands_put e rs ≡ puts → Shows
+  shown-by a alive [] none = let is = a.none alive none in done-shown is.0 (failed-of is.1 ∙ alive)
+  shown-by a alive (command ∷ commands) put = ⊎_elim
+      (λ done. done-shown done.0 (failed-of done.1 ∙ alive))
       (λ doubt. record {
         alive = λ lives. absurd (true_false (sym (failed-of doubt.1) ∙ lives));
         dead = λ _. none-shown Device refl doubt.0;
       })
       (a.put alive (omega (arith, ap length put)))
 
-  shown-by : (b : Bool) (room n : ℕ) → e.failed ≡ b → room ≡ n → MembersAnswered e room rs ss f → Shows room
-  shown-by true room n dead is a =
-      let it = (a.dead dead).dead dead in record {
-        alive = λ lives. absurd (true_false (sym dead ∙ (sym (failed-of it.1) ∙ lives)));
-        dead = λ _. none-shown Failed refl it.0;
-      }
-  shown-by false room zero alive is a =
-      let it = a.full alive is in record {
-        alive = λ _. ap (λ k. changes_put_all e.memory k rs) (places-full room alive is) ∙ put-none e.memory rs
-            ∙ sym (none-shown TraceFull refl it.0);
-        dead = λ _. none-shown TraceFull refl it.0;
-      }
-  shown-by false room (suc n) alive is a = alive-shown room n alive is (a.served (omega (arith, is)))
-      (commands_put e rs) refl
-
-  pub members-shown : (room : ℕ) → MembersAnswered e room rs ss f → Shows room
-  members-shown room a = shown-by e.failed room room refl refl a
+  pub members-shown : CommandsAnswered e rs ss f → e.failed ≡ false → Shows
+  members-shown a alive = shown-by a alive (commands_put e rs) refl

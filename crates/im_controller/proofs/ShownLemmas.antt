@@ -40,10 +40,6 @@ module _ (m : Contents) (command : Command) (answer : Result Outcome Refusal) wh
   unaccepted-lines true un = append-nil (changes_at m command) ∙ unaccepted-none un
   unaccepted-lines false un = refl
 
-  unaccepted-shows : (a : Result Outcome Refusal) → is_accepted m command ≡ false → shows m command a ≡ []
-  unaccepted-shows (Ok outcome) un = unaccepted-none un
-  unaccepted-shows (Err refusal) un = refl
-
   pub lineless-lines : leaves_line answer ≡ false → changes_of m (left_lines (Commands command) answer) ≡ []
   lineless-lines none = ap (λ b. changes_of m (if b then line_of (Commands command) answer ∷ [] else [])) none
 
@@ -51,78 +47,6 @@ module _ (m : Contents) (command : Command) (answer : Result Outcome Refusal) wh
       → changes_of m (left_lines (Commands command) answer) ≡ changes_at m command
   lined-lines some = ap (λ b. changes_of m (if b then line_of (Commands command) answer ∷ [] else [])) some
       ∙ append-nil (changes_at m command)
-
-  pub ok-shows : IsOk answer → shows m command answer ≡ changes_at m command
-  ok-shows is = by_answer answer is
-    where
-      by_answer : (a : Result Outcome Refusal) → IsOk a → shows m command a ≡ changes_at m command
-      by_answer (Ok outcome) is = refl
-      by_answer (Err refusal) is = absurd (true_false (sym is))
-
--- what is shown of a command, by what the engine comes to
-pub record IsShownOf (m : Contents) (room : ℕ) (command : Command) (answer : Result Outcome Refusal)
-    (failed : Bool) : Type 0 where
-  pub lines : changes_of m (left_lines (Commands command) answer) ≡ shows m command answer
-  pub alive : failed ≡ false → changes_put m room command ≡ shows m command answer
-  pub dead : failed ≡ true → shows m command answer ≡ []
-
-module _ {D : Type 0} (old new : EngineState D) (command : Command) (answer : Result Outcome Refusal)
-    (a : Answered old command answer new) (living : old.failed ≡ false) where
-  put-is : (b c : Bool) → is_accepted old.memory command ≡ b → nat_lt 0 old.room ≡ c
-      → changes_put old.memory old.room command ≡ (if b && c then change_by old.memory command ∷ [] else [])
-  put-is b c accepted some = ap
-      (λ x. if x && nat_lt 0 old.room then change_by old.memory command ∷ [] else []) accepted
-      ∙ ap (λ x. if b && x then change_by old.memory command ∷ [] else []) some
-
-  at-is : is_accepted old.memory command ≡ true → changes_at old.memory command ≡ change_by old.memory command ∷ []
-  at-is accepted = ap (λ b. if b then change_by old.memory command ∷ [] else []) accepted
-
-  shows-err : (r : Refusal) → answer ≡ Err r → shows old.memory command answer ≡ []
-  shows-err r is = ap (shows old.memory command) is
-
-  none-put : is_accepted old.memory command ≡ true → old.room ≡ 0 → changes_put old.memory old.room command ≡ []
-  none-put accepted none = put-is true false accepted (ap (λ n. nat_lt 0 n) none)
-
-  shown-put : is_accepted old.memory command ≡ true → (n : ℕ) → old.room ≡ n
-      → IsShownOf old.memory old.room command answer new.failed
-  shown-put accepted zero room =
-      let is = a.full living accepted room in
-      let err = shows-err _ is.0 in record {
-        lines = lineless-lines old.memory command answer (ap leaves_line is.0) ∙ sym err;
-        alive = λ _. none-put accepted room ∙ sym err;
-        dead = λ _. err;
-      }
-  shown-put accepted (suc n) room = ⊎_elim
-      (λ done.
-      let ok = subst (λ (x : Result Outcome Refusal). IsOk x) (sym done.0) (accepted-ok old.memory command accepted) in
-      let shown = ok-shows old.memory command answer ok in
-      let put : nat_lt 0 old.room ≡ true = grind (arith, nat_tests) in record {
-        lines = lined-lines old.memory command answer (ok-leaves answer ok) ∙ sym shown;
-        alive = λ _. put-is true true accepted put ∙ sym (at-is accepted) ∙ sym shown;
-        dead = λ dead. absurd (true_false (sym dead ∙ ap (λ (e : EngineState D). e.failed) done.1 ∙ living));
-      })
-      (λ doubt.
-      let err = shows-err _ doubt.0 in record {
-        lines = lineless-lines old.memory command answer (ap leaves_line doubt.0) ∙ sym err;
-        alive = λ alive. absurd (true_false (sym (ap (λ (e : EngineState D). e.failed) doubt.1) ∙ alive));
-        dead = λ _. err;
-      })
-      (a.put living accepted (omega (arith, room)))
-
-  shown-by : (b : Bool) → is_accepted old.memory command ≡ b → IsShownOf old.memory old.room command answer new.failed
-  shown-by true accepted = shown-put accepted old.room refl
-  shown-by false un =
-      let none = unaccepted-shows old.memory command answer answer un in record {
-        lines = unaccepted-lines old.memory command answer (leaves_line answer) un ∙ sym none;
-        alive = λ _. put-none un ∙ sym none;
-        dead = λ _. none;
-      }
-    where
-      put-none : is_accepted old.memory command ≡ false → changes_put old.memory old.room command ≡ []
-      put-none un = ap (λ x. if x && nat_lt 0 old.room then change_by old.memory command ∷ [] else []) un
-
-  pub answered-shown : IsShownOf old.memory old.room command answer new.failed
-  answered-shown = shown-by (is_accepted old.memory command) refl
 
 -- what a pane shows after a show: all that was put ahead, or nothing where the engine has failed
 pub record PaneShows (old new : PaneView) (failed : Bool) (shown : List Change) : Type 0 where
@@ -158,63 +82,6 @@ module _ (old mid new : PaneView) (changes shown : List Change)
 -- what is shown is told of its trace
 pub told-all : (m : Contents) (trace : List Line) (told : List Change) → told ≡ shown_by m trace → IsToldOf m trace told
 told-all m trace told is = ([], append-nil (shown_by m trace) ∙ sym is)
-
--- a command that the engine was lent to
-module _ {D : Type 0} (disk : Ghosts D) (k : Origin) (s s' : SharedState D) (t t' : LineCounts) (command : Command)
-    (a : Result Outcome Refusal) (answer : Result ReceiptState Refusal) where
-  abbrev time : ℕ
-  time = length (disk.past s'.session.engine.disk)
-
-  pub lends-served : answer ≡ receipt_for s'.log.trace time s'.shown command a → s.session.engine.failed ≡ false
-      → length s.log.trace < s.log.limit → has_command k.plan command ≡ true
-      → Answered s.session.engine command a s'.session.engine
-      → s'.log ≡ with_line s.log (Commands command) a → s'.servers ≡ s.servers
-      → t' ≡ counts_after k.marks t (left_lines (Commands command) a) → s'.shown
-      ≡ s.shown ++ shows s.session.engine.memory command a → Lends disk k s t command answer s' t'
-  lends-served is alive room has answered log servers tally shown =
-      let same : a ≡ plain answer = sym (ap plain is ∙ plain-receipt s'.log.trace time s'.shown command a) in record {
-        dead = λ dead. absurd (true_false (sym dead ∙ alive));
-        full = λ _ over. absurd (omega (arith, over, room));
-        off = λ _ _ lacks. absurd (true_false (sym has ∙ lacks));
-        served = λ _ _ _. inl (
-          subst (λ (x : Result Outcome Refusal). Answered s.session.engine command x s'.session.engine) same
-              answered,
-          record { log = log ∙ ap (with_line s.log (Commands command)) same; servers = servers },
-        );
-        tally = tally ∙ ap (λ x. counts_after k.marks t (left_lines (Commands command) x)) same;
-        shown = shown ∙ ap (λ x. s.shown ++ shows s.session.engine.memory command x) same;
-        receipt = is ∙ ap (receipt_for s'.log.trace time s'.shown command) same;
-      }
-
-pub some_room : (room limit lines : ℕ) → (room ≡ 0 → ⊥) → room ≡ limit - lines → lines < limit
-some_room zero limit lines some is = absurd (some refl)
-some_room (suc n) limit lines some is = omega (arith, is)
-
--- a command that the engine was lent to, and what is shown then
-pub record ShowsLent (m : Contents) (trace : List Line) (old new : PaneView) (failed : Bool)
-    (shown : List Change) : Type 0 where
-  pub pane : PaneShows old new failed shown
-  pub ends : new.shown ≡ shown_by m trace
-
-module _ {D : Type 0} (m : Contents) (old new : EngineState D) (command : Command) (a : Result Outcome Refusal)
-    (answered : Answered old command a new) (living : old.failed ≡ false) where
-  pub lend-shown : (contents : Contents) (left : ℕ) → contents ≡ old.memory → left ≡ old.room
-      → (p q r : PaneView) → p.ahead ≡ [] → q ≡ record p { ahead = p.ahead ++ changes_put contents left command }
-      → (failed : Bool) → failed ≡ new.failed
-      → (failed ≡ false → r ≡ record q { shown = q.shown ++ q.ahead; ahead = [] }) → (failed ≡ true → r ≡ q)
-      → (trace trace' : List Line) → end_of m trace ≡ old.memory → p.shown ≡ shown_by m trace → trace'
-      ≡ trace ++ left_lines (Commands command) a
-      → ShowsLent m trace' p r failed (shows old.memory command a)
-  lend-shown contents left same room p q r none put failed is all hidden trace trace' ends shown grows =
-      let it = answered-shown old new command a answered living in
-      let changes = ap (λ (n : Contents). changes_put n left command) same
-      ∙ ap (λ (n : ℕ). changes_put old.memory n command) room in
-      let pane = pane-shows p q r _ (shows old.memory command a) put failed (λ _. none) all hidden
-      (λ alive. changes ∙ it.alive (sym is ∙ alive)) (λ dead. it.dead (sym is ∙ dead)) in
-      record {
-        pane = pane;
-        ends = pane.is ∙ shown-grows m old.memory trace _ p.shown _ ends shown it.lines ∙ ap (shown_by m) (sym grows);
-      }
 
 -- a glance that has seen what is shown has seen the full cells that were opened
 pub opened-glance : (m : Contents) (trace : List Line) (shown : List Change) (glance : Option (List Change)) → shown

@@ -66,7 +66,7 @@ sure-at m (d ∷ cs) zero c all at = subst (λ (x : Command). IsSure m x) (same 
 sure-at m (d ∷ cs) (suc i) c all at = sure-at m cs i c all.1 at
 
 -- all members are served
-served-all : (m : Contents) (put cs : List Command) (many : ℕ) (next : Option Command) → AreSureBehind m cs
+pub served-all : (m : Contents) (put cs : List Command) (many : ℕ) (next : Option Command) → AreSureBehind m cs
     → ServesPrefix m put cs many → slice_get cs many ≡ next → many ≡ length cs
 served-all m put [] many next sure it at = omega (arith, it.within)
 served-all m put (c ∷ cs) zero next sure it at = absurd (omega (arith, it.some (omega arith)))
@@ -78,12 +78,6 @@ served-all m put (c ∷ cs) (suc i) None sure it at = omega (arith, it.within, p
     past (d ∷ ds) (suc j) at = omega (arith, past ds j at)
 served-all m put (c ∷ cs) (suc i) (Some d) sure it at = absurd
     (known-behind m put d (sure-at m cs i d sure at) (it.stops d at))
-
-pub all-served : (m : Contents) (put cs : List Command) (many : ℕ) → AreSureBehind m cs → ServesPrefix m put cs many
-    → take many cs ≡ cs
-all-served m put cs many sure it =
-    let whole = served-all m put cs many (slice_get cs many) sure it refl in
-    take_all many cs (omega (arith, whole))
 
 -- ---- after a command of another element
 

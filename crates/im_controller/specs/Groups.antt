@@ -7,7 +7,7 @@ use Rattle.im_types.specs.Types.{Request, Command, Outcome, Line, Commands, Refu
 use Rattle.im_types.specs.Types.{Contents, answer_to, Change}
 use Rattle.{im_disk.specs.declared.Disk.Ghosts, im_groups.specs.Commands.places, im_groups.specs.Commands.places_behind}
 use Rattle.im_session.specs.{Keeping.KeepsPut, Keeping.MakesFewCalls, Serving.served_answer}
-use Rattle.im_front.specs.declared.{asked.AskedCommand.AskedCommand, asked.ToldAnswer.ToldAnswer}
+use Rattle.im_front.specs.declared.{AskedCommand.AskedCommand, ToldAnswer.ToldAnswer}
 use Rattle.im_front.specs.Lists.{answers_told, commands_told, with_ticket}
 use Rattle.im_front.specs.State.{Advanced, front_of, FrontState}
 use Rattle.im_trace.specs.Lines.{counts_after, leaves_line, left_lines, LineCounts, memory_after}

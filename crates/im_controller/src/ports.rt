@@ -54,8 +54,8 @@ impl<K: Name> Port<K> {
     /// This port serves it, or another port serves it in a group. If this port serves while the journal is short of
     /// room, it makes room in the keeper's place.
     ///
-    /// It is refused as by [`lend`](crate::lend): `Failed`, `TraceFull`, `OffPlan`, `NoMemory`, a refusal of numbers,
-    /// `JournalFull`, `Device`.
+    /// It is refused as by [`serve_first`](crate::serve_first): `Failed`, `TraceFull`, `OffPlan`, `NoMemory`, a refusal
+    /// of numbers, `JournalFull`, `Device`.
     ///
     /// Ensures, in words:
     ///
@@ -97,8 +97,8 @@ impl<K: Name> Port<K> {
     }
 
     /// Confirms this element's entries below a number: they are forgotten. This port serves it, or another port serves
-    /// it in a group, as [`Port::submit`] has it. It is refused as by [`lend`](crate::lend): `Failed`, `TraceFull`,
-    /// `NoMemory`, `NoElement`, `Gap`, `NotAnswered`, `JournalFull`, `Device`.
+    /// it in a group, as [`Port::submit`] has it. It is refused as by [`serve_first`](crate::serve_first): `Failed`,
+    /// `TraceFull`, `NoMemory`, `NoElement`, `Gap`, `NotAnswered`, `JournalFull`, `Device`.
     pub fn confirm<D: Disk, R: Wait>(
         &mut self,
         rt: &R,

@@ -1,3 +1,2 @@
 pub mod StuckLemmas
-pub mod Gathering
 pub mod Taking

@@ -1,12 +1,9 @@
 -- What is asked, and taken out, element by element.
-use Rattle.std.proofs.Common.{◌≡◌, ℕ, zero, suc, ◌≤◌, ◌≢◌, ◌⊎◌, List, [], ◌∷◌, ◌++◌, length, IfSome, slice_get}
-use Rattle.std.proofs.Common.{slice_set, Some, None, Option, unwrap_or, sym, refl, ap, ◌∙◌, subst, inl, inr, ⊎_elim}
-use Rattle.std.proofs.Common.{arith}
+use Rattle.std.proofs.Common.{◌≡◌, ℕ, zero, suc, ◌≤◌, ◌⊎◌, List, [], ◌∷◌, length, IfSome, slice_get, slice_set, Some}
+use Rattle.std.proofs.Common.{None, Option, unwrap_or, sym, refl, ap, ◌∙◌, inl, inr, ⊎_elim}
 use Rattle.std.proofs.lemmas.List.{set_past}
 use Rattle.{im_types.specs.Types.Command, im_trace.proofs.LogLemmas.all-get, im_trace.specs.Log.sender_of}
-use Rattle.im_queue.proofs.Gathering.{all_push}
-use Rattle.im_queue.specs.{Members.AreBelow, Places.AreInPlace, Places.AreTakenOut, Places.AskNothing, Places.EachAsked}
-use Rattle.im_queue.specs.{Places.IsAskedAt, Places.placed_at, Places.placed_in, Places.taken_out, Places.TakesAt}
+use Rattle.im_queue.specs.Places.{AreInPlace, AskNothing, IsAskedAt, placed_at, placed_in}
 
 module _ {X : Type 0} where
   -- what stands in a list of which one place was set is that, or stood there before
@@ -18,15 +15,6 @@ module _ {X : Type 0} where
   get-either (x ∷ xs) (suc i) zero y z there = inr there
   get-either (x ∷ xs) (suc i) (suc j) y z there =
       ⊎_elim (λ same. inl (ap suc same.0, same.1)) (λ before. inr before) (get-either xs i j y z there)
-
--- what other elements ask stays
-others-stay : (places : List (Option Command)) (i j : ℕ) → i ≢ j
-    → slice_get (slice_set places i None) j ≡ slice_get places j
-others-stay [] i j apart = refl
-others-stay (place ∷ places) zero zero apart = absurd (apart refl)
-others-stay (place ∷ places) zero (suc j) apart = refl
-others-stay (place ∷ places) (suc i) zero apart = refl
-others-stay (place ∷ places) (suc i) (suc j) apart = others-stay places i j (λ same. apart (ap suc same))
 
 differ : (c : Command) → Some c ≢ None
 differ c same = absurd (cc)
@@ -67,32 +55,3 @@ pub asked_placed : (places : List (Option Command)) (element : ℕ) (asked : Opt
 asked_placed places element None in_place is = tt
 asked_placed places element (Some c) in_place is =
     let there = asked_place (slice_get places element) c (sym is) in (in_place element c there, there)
-
-above : (places : List (Option Command)) (element : ℕ) (cs : List Command) → AreBelow element cs
-    → slice_get (taken_out places cs) element ≡ slice_get places element
-above places element [] below = refl
-above places element (c ∷ cs) below =
-    above (slice_set places (sender_of c) None) element cs below.1
-    ∙ others-stay places (sender_of c) element (λ same. absurd (omega (arith, below.0, same)))
-
-taken_out-push : (places : List (Option Command)) (cs : List Command) (c : Command)
-    → taken_out places (cs ++ c ∷ []) ≡ slice_set (taken_out places cs) (sender_of c) None
-taken_out-push places [] c = refl
-taken_out-push places (d ∷ cs) c = taken_out-push (slice_set places (sender_of d) None) cs c
-
-module _ (start : List (Option Command)) (element : ℕ) (cs : List Command) (places : List (Option Command)) where
-  pub taken_next : (cs' : List Command) (places' : List (Option Command)) → AreTakenOut start cs places
-      → AreBelow element cs → TakesAt places element cs places' cs' → AreTakenOut start cs' places'
-  taken_next cs' places' t below (inl same) = record {
-    asked = subst (λ (l : List Command). EachAsked start l) (sym same.1) t.asked;
-    rest = same.0 ∙ t.rest ∙ ap (λ l. taken_out start l) (sym same.1);
-  }
-  taken_next cs' places' t below (inr it) = record {
-    asked = subst (λ (l : List Command). EachAsked start l) (sym it.joined)
-        (all_push (λ (c : Command). slice_get start (sender_of c) ≡ Some (Some c)) cs it.one t.asked
-        (ap (λ n. slice_get start n) it.asked.0 ∙ sym (above start element cs below)
-        ∙ ap (λ p. slice_get p element) (sym t.rest) ∙ it.asked.1));
-    rest = it.left ∙ ap (λ p. slice_set p element None) t.rest
-        ∙ ap (λ n. slice_set (taken_out start cs) n None) (sym it.asked.0) ∙ sym (taken_out-push start cs it.one)
-        ∙ ap (λ l. taken_out start l) (sym it.joined);
-  }

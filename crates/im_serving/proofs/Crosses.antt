@@ -14,6 +14,8 @@ use Rattle.im_memory.specs.contracts.memory.Memory as Memory
 use Rattle.im_checkpoint.specs.contracts.checkpoint.Checkpoint as Checkpoint
 use Rattle.im_engine.specs.contracts.engine.Engine as Engine
 use Rattle.im_session.specs.contracts.session.Session as Session
+use Rattle.im_front.specs.contracts.asks.Asks as Asks
+use Rattle.im_front.specs.contracts.front.Front as Front
 use Rattle.im_noted.proofs.NoteList.TheLaws.TheKnot as noted
 use Rattle.im_trace.specs.contracts.books.Books as Books
 use Rattle.im_trace.specs.contracts.log.Unclaimed as Unclaimed
@@ -48,6 +50,9 @@ Memory-send = search (sendable, crosses) depth 40 fits 30000
 pub Checkpoint-send : IsSend Checkpoint.the_field.row
 Checkpoint-send = search (sendable, crosses) depth 40
 
+pub Asks-send : IsSend Asks.the_field.row
+Asks-send = search (sendable, crosses) depth 40 fits 30000
+
 module _ (D : RattleType) (d : disk.Ghosts D.Denot) where
   pub Engine-send : IsSend D → IsSend (Engine.the_field D d).row
   Engine-send s = let m = Memory-send in let k = Checkpoint-send in search
@@ -55,6 +60,9 @@ module _ (D : RattleType) (d : disk.Ghosts D.Denot) where
 
   pub Session-send : IsSend D → IsSend (Session.the_field D d).row
   Session-send s = let e = Engine-send s in search (sendable, crosses, snapshot_send, noted.crosses) depth 40
+
+  pub Front-send : IsSend D → IsSend (Front.the_field D d).row
+  Front-send s = let e = Session-send s in let a = Asks-send in search (sendable, crosses) depth 40
 
 pub Unclaimed-send : IsSend Unclaimed.the_field.row
 Unclaimed-send = search (sendable, crosses) depth 40 fits 30000
@@ -113,7 +121,7 @@ Bell-sync = search (sendable, crosses) depth 40
 
 module _ (D K : RattleType) (d : disk.Ghosts D.Denot) (n : name.Ghosts K.Denot) where
   pub Shared-send : IsSend D → IsSend (Shared.the_field D K d n).row
-  Shared-send s = let e = Session-send D d s in let l = Log-send K n in let r = Reserve-send K n in let v = Servers-send in search (sendable, crosses, pane_send, plan_send) depth 40
+  Shared-send s = let e = Front-send D d s in let l = Log-send K n in let r = Reserve-send K n in let v = Servers-send in search (sendable, crosses, pane_send, plan_send) depth 40
 
   pub Controller-sync : IsSend D → IsSync (Controller.the_field D K d n).row
   Controller-sync s = let e = Shared-send s in let i = Inbox-send in let t = Turns-sync in let b = Bell-sync in search (sendable, crosses) depth 40

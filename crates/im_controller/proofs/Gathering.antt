@@ -1,0 +1,95 @@
+-- A group, with one command after another.
+use Rattle.std.proofs.Common.{◌≡◌, ℕ, suc, ◌+◌, ◌<◌, ◌≤◌, max, true, ◌≢◌, List, [], ◌∷◌, ◌++◌, map, length, take, drop}
+use Rattle.std.proofs.Common.{get_or, slice_get, Some, None, Option, sym, refl, ap, ◌∙◌, subst, inl, inr}
+use Rattle.std.proofs.Common.{append_assoc, append-nil, arith, length-append}
+use Rattle.std.specs.List.{AllByRecursion}
+use Rattle.im_types.specs.Types.{Request, Command, Contents}
+use Rattle.im_groups.specs.Commands.{places_behind}
+use Rattle.im_glass.specs.Panes.{PaneView}
+use Rattle.im_trace.specs.Log.{sender_of, UnclaimedState}
+use Rattle.im_queue.specs.Members.{are_joined, AreOneOfEach, AreSureBehind, IsApartFrom, IsCut, IsSure, IsSureBehind}
+use Rattle.im_queue.specs.Members.{MayJoin}
+use Rattle.im_controller.specs.Groups.{changes_put_all, IsGroup, IsNext}
+use Rattle.im_controller.specs.{Lends.changes_put, Planned.has_command}
+
+-- ---- one more
+
+module _ (P : Command → Type 0) where
+  all_push : (rs : List Command) (r : Command) → AllByRecursion P rs → P r → AllByRecursion P (rs ++ r ∷ [])
+  all_push [] r all is = (is, tt)
+  all_push (q ∷ rs) r all is = (all.0, all_push rs r all.1 is)
+
+apart_push : (rs : List Command) (r : Command) → AreOneOfEach rs → IsApartFrom r rs → AreOneOfEach (rs ++ r ∷ [])
+apart_push [] r apart others = (tt, tt)
+apart_push (q ∷ rs) r apart others = (
+  all_push (λ (c : Command). sender_of q ≢ sender_of c) rs r apart.0 others.0,
+  apart_push rs r apart.1 others.1,
+)
+
+cut_push : (rs : List Command) (r : Command) → IsCut rs → MayJoin r rs → IsCut (rs ++ r ∷ [])
+cut_push [] r cut may = (tt, tt)
+cut_push (q ∷ rs) r cut may = (
+  all_push (λ (c : Command). are_joined q c ≡ true) rs r cut.0 may.0,
+  cut_push rs r cut.1 may.1,
+)
+
+behind_push : (m : Contents) (rs : List Command) (r : Command) → AreSureBehind m rs → IsSureBehind m r rs
+    → AreSureBehind m (rs ++ r ∷ [])
+behind_push m [] r sure is = tt
+behind_push m (q ∷ rs) r sure (inl none) = absurd (cc)
+behind_push m (q ∷ rs) r sure (inr is) = all_push (IsSure m) rs r sure is
+
+module _ (plan : Option (List Request)) (places : List (Option UnclaimedState)) (m : Contents) where
+  group-none : IsGroup plan places m []
+  group-none = record { planned = tt; free = tt; apart = tt; cut = tt; sure = tt }
+
+  group_push : (rs : List Command) (r : Command) → IsGroup plan places m rs → IsNext plan places m r rs
+      → IsGroup plan places m (rs ++ r ∷ [])
+  group_push rs r g is = record {
+    planned = all_push (λ (c : Command). has_command plan c ≡ true) rs r g.planned is.planned;
+    free = all_push (λ (c : Command). slice_get places (sender_of c) ≡ Some None) rs r g.free is.free;
+    apart = apart_push rs r g.apart is.apart;
+    cut = cut_push rs r g.cut is.joins;
+    sure = behind_push m rs r g.sure is.sure;
+  }
+
+  -- a group so far, with what it changes put ahead, and so many places left behind it
+  pub record Gathering (first : ℕ) (p0 : PaneView) (rs : List Command) (left : ℕ) (p : PaneView) : Type 0 where
+    pub group : IsGroup plan places m rs
+    pub puts : (qs : List Command) → p.ahead ++ changes_put_all m left qs
+        ≡ p0.ahead ++ changes_put_all m first (rs ++ qs)
+    pub pane : p ≡ record p0 { ahead = p.ahead }
+
+  pub gathering-none : (first : ℕ) (p0 : PaneView) → Gathering first p0 [] first p0
+  gathering-none first p0 = record { group = group-none; puts = λ qs. refl; pane = refl }
+
+  module _ (first : ℕ) (p0 : PaneView) (rs : List Command) (left : ℕ) (p : PaneView)
+      (k : Gathering first p0 rs left p) where
+    pub gathering-more : (r : Command) → IsNext plan places m r rs → (now : ℕ) → now ≡ places_behind m left r
+        → (q : PaneView) → q ≡ record p { ahead = p.ahead ++ changes_put m left r }
+        → Gathering first p0 (rs ++ r ∷ []) now q
+    gathering-more r is now left_is q put =
+        let ahead : q.ahead ≡ p.ahead ++ changes_put m left r = ap (λ (v : PaneView). v.ahead) put in
+        record {
+          group = group_push rs r k.group is;
+          puts = λ qs. ap (λ xs. xs ++ changes_put_all m now qs) ahead
+              ∙ ap (λ n. (p.ahead ++ changes_put m left r) ++ changes_put_all m n qs) left_is
+              ∙ append_assoc p.ahead (changes_put m left r) (changes_put_all m (places_behind m left r) qs)
+              ∙ k.puts (r ∷ qs)
+              ∙ ap (λ cs. p0.ahead ++ changes_put_all m first cs) (sym (append_assoc rs (r ∷ []) qs));
+          pane = put ∙ ap (λ (v : PaneView). record v { ahead = p.ahead ++ changes_put m left r }) k.pane
+              ∙ ap (λ xs. record p0 { ahead = xs }) (sym ahead);
+        }
+
+    -- what is on the pane then
+    pub gathering-ahead : p ≡ record p0 { ahead = p0.ahead ++ changes_put_all m first rs }
+    gathering-ahead = k.pane ∙ ap (λ xs. record p0 { ahead = xs })
+        (sym (append-nil p.ahead) ∙ k.puts [] ∙ ap (λ cs. p0.ahead ++ changes_put_all m first cs) (append-nil rs))
+
+-- the first ones of a list
+pub first-ones : {X : Type 0} (xs ys all : List X) → xs ++ ys ≡ all → xs ≡ take (length xs) all
+first-ones xs ys all is = sym (taken xs) ∙ ap (take (length xs)) is
+  where
+    taken : (zs : List X) → take (length zs) (zs ++ ys) ≡ zs
+    taken [] = refl
+    taken (z ∷ zs) = ap (λ ws. z ∷ ws) (taken zs)
