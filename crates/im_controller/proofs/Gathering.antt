@@ -15,7 +15,7 @@ use Rattle.im_controller.specs.{Lends.changes_put, Planned.has_command}
 -- ---- one more
 
 module _ (P : Command → Type 0) where
-  all_push : (rs : List Command) (r : Command) → AllByRecursion P rs → P r → AllByRecursion P (rs ++ r ∷ [])
+  pub all_push : (rs : List Command) (r : Command) → AllByRecursion P rs → P r → AllByRecursion P (rs ++ r ∷ [])
   all_push [] r all is = (is, tt)
   all_push (q ∷ rs) r all is = (all.0, all_push rs r all.1 is)
 

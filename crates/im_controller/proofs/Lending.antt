@@ -5,7 +5,8 @@ use Rattle.std.proofs.{lemmas.List.length-map, lemmas.List.length-take, lemmas.L
 use Rattle.im_types.specs.Types.{Request, Command, MAX_GROUP, Contents, WaitingAgrees, end_of, changes_of, shown_by}
 use Rattle.im_types.specs.Types.{Change}
 use Rattle.{im_disk.specs.declared.Disk.Ghosts, im_groups.specs.Ahead.ServesPrefix, im_groups.specs.Commands.places}
-use Rattle.{im_engine.specs.Commands.CommandsAnswered, im_engine.specs.State.EngineState, im_glass.specs.Panes.PaneView}
+use Rattle.im_engine.specs.{Commands.commands_put, Commands.CommandsAnswered, State.EngineState}
+use Rattle.im_glass.specs.Panes.{PaneView}
 use Rattle.im_session.specs.{Keeping.KeepsPut, Keeping.MakesFewCalls, Kept.SessionState}
 use Rattle.im_front.specs.declared.{AskedCommand.AskedCommand, ToldAnswer.ToldAnswer}
 use Rattle.im_front.specs.Lists.{answers_told, asks_told, commands_asked, commands_told}
@@ -70,6 +71,32 @@ pub record Group {D : Type 0} (plan : Option (List Request)) (s : SharedState D)
   pub agrees : WaitingAgrees s.session.engine.memory
   pub group : IsGroup plan s.log.places s.session.engine.memory (commands_told told)
   pub lines : length s.log.trace + length (commands_told told) ≤ s.log.limit
+
+-- from what is called
+pub group-is : {D : Type 0} (plan p : Option (List Request)) (s : SharedState D) (x : EngineState D) (n : Contents)
+    (members : List Command) (most : ℕ) (told : List ToldAnswer) (t : FrontState D) → p ≡ plan → most ≡ length members
+    → members ≡ take (length members) (commands_asked s.asked)
+    → length members ≤ max 1 (places s.session.engine.count s.session.engine.room) → length members ≤ MAX_GROUP
+    → length s.log.trace + length members ≤ s.log.limit
+    → IsGroup p s.log.places s.session.engine.memory members
+    → ServesPrefix s.session.engine.memory (commands_put s.session.engine (commands_told told))
+    (next_group most (front_of s.session s.asked)) (length told)
+    → Advanced (front_of s.session s.asked) told t → x ≡ s.session.engine → s.session.engine.failed ≡ false
+    → n ≡ x.memory → WaitingAgrees n → Group plan s t.session.engine told
+group-is {D = D} plan p s x n members most told t planned many first room few lines group begins advanced looked alive
+    memory agrees =
+    let all = all-told (front_of s.session s.asked) members (commands_put s.session.engine (commands_told told)) told
+    t.asked first room few group.sure advanced.order
+    (subst (λ (k : ℕ). ServesPrefix s.session.engine.memory (commands_put s.session.engine (commands_told told))
+    (next_group k (front_of s.session s.asked)) (length told)) many begins) in
+    record {
+      answered = advanced.answered;
+      alive = alive;
+      agrees = subst WaitingAgrees (memory ∙ ap (λ (y : EngineState D). y.memory) looked) agrees;
+      group = subst (λ (q : Option (List Request)). IsGroup q s.log.places s.session.engine.memory (commands_told told))
+          planned (subst (λ (cs : List Command). IsGroup p s.log.places s.session.engine.memory cs) (sym all) group);
+      lines = omega (arith, lines, ap length all);
+    }
 
 module _ {D : Type 0} (plan : Option (List Request)) (s : SharedState D) (f : EngineState D) (told : List ToldAnswer)
     (it : Group plan s f told) where

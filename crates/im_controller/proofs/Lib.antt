@@ -5,6 +5,7 @@ pub mod WaitLemmas
 pub mod SureLemmas
 pub mod Keeping
 pub mod Gathering
+pub mod TakingLemmas
 pub mod GroupLemmas
 pub mod Lending
 pub mod KeptLemmas

@@ -1,6 +1,6 @@
 -- Traces that keep to a plan, and what their answers are by it.
 use Rattle.std.proofs.Common.{◌≡◌, ℕ, Bool, true, false, List, [], ◌∷◌, ◌++◌, IfSome, Some, None, Ok, Err, Option}
-use Rattle.std.proofs.Common.{Result, sym, subst, append-nil}
+use Rattle.std.proofs.Common.{Result, sym, subst, append_assoc, append-nil}
 use Rattle.std.specs.List.{AllByRecursion}
 use Rattle.im_types.specs.Types.{Request, Command, Outcome, Call, Line, Asks, Confirm, Commands, Collect, Refusal}
 use Rattle.im_types.specs.Types.{Contents, IsLegal, end_of}
@@ -9,6 +9,7 @@ use Rattle.im_plans.{proofs.UnderWayLemmas.goes-on, specs.Runs.IsPlannedCall, sp
 use Rattle.im_trace.{proofs.LogLemmas.lines_by, specs.Lines.leaves_line, specs.Lines.left_lines, specs.Lines.line_of}
 use Rattle.im_trace.specs.Log.{IsOfTrace, IsProof, ReceiptState}
 use Rattle.im_planning.proofs.MakingLemmas.{in_plan}
+use Rattle.im_controller.proofs.PutLemmas.{lines_all}
 use Rattle.im_controller.specs.Planned.{AreOnPlan, EndsAsPlanned, EndsBy, has_command, has_request, IsOnPlan, KeepsTo, StartsBy}
 use Rattle.im_controller.specs.Planned.{TellsBy, TellsOf}
 use mathlib.Core.List.{IsPrefix}
@@ -111,3 +112,14 @@ pub on-all : (m : Contents) (plan : Option (List Request)) (rs : List Command) �
     → AllByRecursion (λ (c : Command). has_command plan c ≡ true) rs → AreOnPlan plan rs
 on-all m plan [] s has = tt
 on-all m plan (r ∷ rs) s has = (on-command m plan r s has.0, on-all m plan rs s has.1)
+
+-- the lines of members
+pub keeps-all : (m : Contents) (plan : Option (List Request)) (trace : List Line) (rs : List Command)
+    (xs : List (Result Outcome Refusal)) → KeepsTo m plan trace → AreOnPlan plan rs
+    → KeepsTo m plan (trace ++ lines_all rs xs)
+keeps-all m plan trace [] xs k on = subst (λ (ls : List Line). KeepsTo m plan ls) (sym (append-nil trace)) k
+keeps-all m plan trace (r ∷ rs) [] k on = subst (λ (ls : List Line). KeepsTo m plan ls) (sym (append-nil trace)) k
+keeps-all m plan trace (r ∷ rs) (x ∷ xs) k on =
+    subst (λ (ls : List Line). KeepsTo m plan ls)
+    (append_assoc trace (left_lines (Commands r) x) (lines_all rs xs))
+    (keeps-all m plan (trace ++ left_lines (Commands r) x) rs xs (keeps-line m trace (Commands r) x plan k on.0) on.1)

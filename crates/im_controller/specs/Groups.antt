@@ -12,7 +12,7 @@ use Rattle.im_front.specs.Lists.{answers_told, commands_told, with_ticket}
 use Rattle.im_front.specs.State.{Advanced, front_of, FrontState}
 use Rattle.im_trace.specs.Lines.{counts_after, leaves_line, left_lines, LineCounts, memory_after}
 use Rattle.im_trace.specs.Log.{IsOf, LogState, plain, ReceiptState, sender_of, UnclaimedState, with_unclaimed}
-use Rattle.{im_trace.specs.Origin.Origin, im_queue.specs.Places.IsAskedAt}
+use Rattle.{im_trace.specs.Origin.Origin, im_queue.specs.Places.AreTakenOut, im_queue.specs.Places.IsAskedAt}
 use Rattle.im_queue.specs.Members.{AreFreeFor, AreOneOfEach, AreSureBehind, IsApartFrom, IsCut, IsSureBehind, MayJoin}
 use Rattle.im_controller.specs.{Lends.changes_put, Planned.has_command, State.SharedState}
 
@@ -30,6 +30,17 @@ pub record TakesOne {D : Type 0} (element : ℕ) (places : List (Option Command)
 abbrev pub TakesIn : {D : Type 0} → ℕ → List (Option Command) → FrontState D → List (Option Command) → FrontState D
     → Type 0
 TakesIn element places f places' f' = ((places' ≡ places) × (f' ≡ f)) ⊎ TakesOne element places f places' f'
+
+-- commands with their elements as tickets
+abbrev pub with_elements : List Command → List AskedCommand
+with_elements cs = map (λ (c : Command). with_ticket (sender_of c) c) cs
+
+-- Commands were taken out of the inbox, each of which its element asked, and are asked of the front in this order.
+pub record TakesInAll {D : Type 0} (places : List (Option Command)) (f : FrontState D)
+    (places' : List (Option Command)) (f' : FrontState D) : Type 0 where
+  pub taken : List Command
+  pub found : AreTakenOut places taken places'
+  pub asked : f' ≡ front_of f.session (f.asked ++ with_elements taken)
 
 -- ---- what the members are answered
 

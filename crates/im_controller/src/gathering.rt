@@ -70,7 +70,8 @@ pub(crate) fn gather<D: Disk, K: Name, J: PaneName>(
     let mut left = engine.places();
     let most = min(min(log.room(), MAX_GROUP), max(1, left) as usize);
     let mut members = ArrayVec::new();
-    for one in front.asked() {
+    let asked = front.asked();
+    for one in asked {
         let command = one.command;
         if members.len() >= most {
             break;

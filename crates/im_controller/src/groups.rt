@@ -52,6 +52,8 @@ pub fn serve_first<D: Disk, K: Name, R: Wait>(
         return Err(Refusal::TraceFull);
     }
     let count = engine.count();
+    let memory = engine.memory();
+    let _cells = memory.cells(); // So that it is known that its lists of waiters agree with what waits.
     let members = gather(
         &shared.front,
         &shared.plan,

@@ -1,6 +1,5 @@
 //! What the elements ask comes out of the inbox, in order of element, and is asked of the front.
-ghost use Rattle.std.specs.Prelude.{◌≡◌};
-ghost use Rattle.im_controller.specs.Groups.{TakesIn};
+ghost use Rattle.im_controller.specs.Groups.{TakesIn, TakesInAll};
 
 use im_disk::Disk;
 use im_front::Front;
@@ -24,7 +23,7 @@ fn take_in<D: Disk, K: Name>(inbox: &mut Inbox, log: &Log<K>, front: &mut Front<
 
 // Does so for each element, in order.
 pub(crate) fn take_in_all<D: Disk, K: Name>(inbox: &mut Inbox, log: &Log<K>, front: &mut Front<D>)
-    ensures { front.new.session ≡ front.old.session }
+    ensures { TakesInAll inbox.old front.old inbox.new front.new }
 {
     for element in 0..log.elements() {
         take_in(inbox, log, front, element);

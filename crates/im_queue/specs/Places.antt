@@ -24,3 +24,18 @@ IsAskedAt places element c = (sender_of c ≡ element) × (slice_get places elem
 -- no element asks
 abbrev pub AskNothing : List (Option Command) → Type 0
 AskNothing places = AllByRecursion (λ (place : Option Command). place ≡ None) places
+
+-- each of the commands is what its element asks
+abbrev pub EachAsked : List (Option Command) → List Command → Type 0
+EachAsked places cs = AllByRecursion (λ (c : Command). slice_get places (sender_of c) ≡ Some (Some c)) cs
+
+-- the places after these commands are taken out
+abbrev pub taken_out : List (Option Command) → List Command → List (Option Command)
+taken_out places [] = places
+taken_out places (c ∷ cs) = taken_out (slice_set places (sender_of c) None) cs
+
+-- from these places these commands were taken, each of which was asked
+pub record AreTakenOut (start : List (Option Command)) (cs : List Command)
+    (places : List (Option Command)) : Type 0 where
+  pub asked : EachAsked start cs
+  pub rest : places ≡ taken_out start cs
