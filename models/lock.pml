@@ -255,7 +255,9 @@ inline make_room() {
      :: else -> break od;
   did = false
 }
-/* of im_controller::lend_group 0eee93976627
+/* of im_controller::serve_first SUM
+   of im_controller::refuse_first SUM
+   of im_front::Front::advance_kept SUM
    of im_engine::Engine::serve_commands b7eb8decfe98: the fault may fall before each member, which begins a group then. */
 inline serve_member(m) {
   may_fail();
@@ -271,9 +273,12 @@ inline serve_member(m) {
 }
 /* of im_controller::hold 44a87d44aac3
    of im_controller::claim 2b1067bb12ec
-   of im_controller::serve_asked 4f1532716bd3
-   of im_queue::Inbox::next_group 3fd542d6b6aa
-   of im_queue::Inbox::gather 6f9a915f7dc6
+   of im_controller::serve_inbox SUM
+   of im_controller::take_in_all SUM
+   of im_controller::take_in SUM
+   of im_controller::serve_asked SUM
+   of im_controller::serve_or_refuse SUM
+   of im_queue::Inbox::take SUM
    of im_trace::Log::claim f63c5cb84308 */
 inline hold(e) {
   if :: unclaimed[e] != Nothing -> skip

@@ -1,13 +1,13 @@
 -- The members of a group whose answers are still to be kept.
-use Rattle.std.proofs.Common.{◌≡◌, ℕ, suc, ◌+◌, ◌<◌, ◌≤◌, Bool, true, false, ◌≢◌, List, [], ◌∷◌, map, length, get_or}
-use Rattle.std.proofs.Common.{drop, if◌then◌else◌, slice_get, slice_set, Some, None, Option, Result, sym, refl, ap, ◌∙◌}
-use Rattle.std.proofs.Common.{subst, arith, length-append, length-set, get_or-set_other}
+use Rattle.std.proofs.Common.{◌≡◌, ℕ, suc, ◌+◌, ◌<◌, ◌≤◌, Bool, true, false, ◌≢◌, List, [], ◌∷◌, ◌++◌, length, get_or}
+use Rattle.std.proofs.Common.{drop, if◌then◌else◌, slice_get, slice_set, Some, None, Err, Option, Result, sym, refl, ap, ◌∙◌}
+use Rattle.std.proofs.Common.{subst, append-nil, arith, length-append, length-set, get_or-set_other}
 use Rattle.std.proofs.lemmas.Option.{get_or_from_slice_get, slice_get-get_or, slice_get_within}
 use Rattle.std.proofs.Math.Seq.{drop-cons}
-use Rattle.im_types.specs.Types.{Command, Outcome, Commands, Refusal, Contents, end_of}
+use Rattle.im_types.specs.Types.{Command, Outcome, Line, Commands, Refusal, Contents, end_of}
 use Rattle.im_trace.proofs.LogLemmas.{end-lines, lines_by}
-use Rattle.im_trace.specs.Lines.{leaves_line, left_lines}
-use Rattle.im_trace.specs.Log.{LogState, sender_of, UnclaimedState, with_unclaimed}
+use Rattle.im_trace.specs.Lines.{leaves_line, left_lines, line_of, times_of}
+use Rattle.im_trace.specs.Log.{GoesOnAt, LogState, sender_of, TimedLog, UnclaimedState, with_unclaimed}
 use Rattle.im_queue.specs.Members.{AreFreeFor, AreOfOthers, AreOneOfEach}
 use Rattle.im_front.{specs.declared.ToldAnswer.ToldAnswer, specs.Lists.commands_told}
 use Rattle.im_session.specs.Serving.{served_answer}
@@ -77,3 +77,29 @@ module _ (m : Contents) (l0 : LogState) (rs0 : List Command) (xs0 : List (Result
       keeps_next l one.asked.command (served_answer one.served) (commands_told (drop (i + 1) told))
       (outcomes_told (drop (i + 1) told))
       (subst (λ (ts : List ToldAnswer). Keeps m l0 rs0 xs0 l (commands_told ts) (outcomes_told ts)) these k)
+
+-- ---- a refusal that leaves no line
+
+pub lineless-trace : (l : LogState) (c : Command) (e : Refusal) → leaves_line (Err e) ≡ false
+    → (with_unclaimed l c (Err e)).trace ≡ l.trace
+lineless-trace l c e none = ap (λ b. l.trace ++ (if b then line_of (Commands c) (Err e) ∷ [] else [])) none
+    ∙ append-nil l.trace
+
+-- no line more, and no time more
+pub still : (time : ℕ) (old new : TimedLog) → GoesOnAt time old new → new.state.trace ≡ old.state.trace
+    → new.times ≡ old.times
+still time old new goes same = goes.times
+    ∙ ap (λ ls. old.times ++ times_of time ls) (no_more old.state.trace goes.more (sym same ∙ goes.lines))
+    ∙ append-nil old.times
+  where
+    no_more : (xs more : List Line) → xs ≡ xs ++ more → more ≡ []
+    no_more xs [] is = refl
+    no_more xs (x ∷ more) is = absurd (omega (arith, ap length is, length-append xs (x ∷ more)))
+
+-- the first one that is asked, and the others
+pub first-rest : {X : Type 0} (xs : List X) (x : X) → slice_get xs 0 ≡ Some x → xs ≡ x ∷ drop 1 xs
+first-rest [] x is = absurd (cc)
+first-rest (y ∷ xs) x is = ap (λ z. z ∷ xs) (same is)
+  where
+    same : Some y ≡ Some x → y ≡ x
+    same e = cc
