@@ -1,6 +1,6 @@
 -- The answers to a group's members are the memory's, one after another, and come to the engine's memory.
-use Rattle.std.proofs.Common.{◌≡◌, ℕ, zero, suc, ◌<◌, ◌≤◌, Bool, true, false, ◌&&◌, ◌⊎◌, List, [], ◌∷◌, map, length}
-use Rattle.std.proofs.Common.{if◌then◌else◌, IsOk, nat_lt, ◌==◌, Ok, Err, Result, sym, refl, ap, ◌∙◌, subst, inl, inr, ⊎_elim}
+use Rattle.std.proofs.Common.{◌≡◌, ℕ, ◌≤◌, Bool, true, false, ◌&&◌, ◌⊎◌, List, [], ◌∷◌, map, length}
+use Rattle.std.proofs.Common.{if◌then◌else◌, IsOk, nat_lt, ◌==◌, Ok, Err, Result, sym, refl, ap, ◌∙◌, subst, ⊎_elim}
 use Rattle.std.proofs.Common.{arith}
 use Rattle.std.proofs.lemmas.Bool.Decides.{nat_tests}
 use Rattle.im_types.specs.Types.{Command, Outcome, Commands, Served, Refusal, JournalFull, Device}

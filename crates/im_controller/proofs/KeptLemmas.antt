@@ -5,21 +5,21 @@ use Rattle.std.proofs.Common.{refl, ap, ◌∙◌, subst, inl, inr, ⊎_elim, ap
 use Rattle.std.proofs.Common.{take-append-drop, length-take-le}
 use Rattle.std.proofs.lemmas.{Bool.Decides.nat_tests, List.length-map}
 use Rattle.im_types.specs.Types.{Request, Command, Outcome, Line, Commands, Collect, Served, Refusal, JournalFull}
-use Rattle.im_types.specs.Types.{Device, Failed, TraceFull, Contents, step, is_accepted, after, accepted, end_of}
+use Rattle.im_types.specs.Types.{Device, Failed, Contents, step, is_accepted, after, accepted, end_of}
 use Rattle.im_laws.proofs.{AcceptLemmas.accepted-ok, RunLemmas.accepted-append, RunLemmas.after-accepted}
-use Rattle.im_laws.proofs.{Tests.below_or_from, Tests.true_false, Tests.true_or_false, TraceLemmas.end_of-commands}
+use Rattle.im_laws.proofs.{Tests.below_or_from, Tests.true_or_false, TraceLemmas.end_of-commands}
 use Rattle.{im_laws.specs.Traces.commands_of, im_laws.specs.Traces.commands_of_call, im_disk.specs.declared.Disk.Ghosts}
-use Rattle.{im_engine.proofs.Accepting.accepted_answers, im_glass.proofs.PrefixLemmas.prefix_shorter}
+use Rattle.{im_glass.proofs.PrefixLemmas.prefix_shorter}
 use Rattle.im_groups.specs.Commands.{answer_with, answers_with, command_at, commands_at, contents_with, places}
 use Rattle.im_groups.specs.Commands.{places_behind, takes_place}
-use Rattle.im_checkpoint.{proofs.Fitting.none_or_some, specs.declared.TurnDone.TurnDone}
+use Rattle.im_checkpoint.{specs.declared.TurnDone.TurnDone}
 use Rattle.im_checkpoint.specs.declared.TurnDone.TheVariants.{Began, Idle, InForce, Page, Swept, Synced}
-use Rattle.im_engine.specs.{Answered.Answered, Answered.is_device, Answered.TurnAnswered, State.EngineState}
+use Rattle.im_engine.specs.{Answered.TurnAnswered, State.EngineState}
 use Rattle.im_engine.specs.Commands.{answers_in_turn, commands_put, CommandsAnswered, each_refused}
-use Rattle.im_session.proofs.{KeepingLemmas.now_kept, KeepingLemmas.still_kept, ServedLemmas.unsure}
+use Rattle.im_session.proofs.{KeepingLemmas.now_kept, KeepingLemmas.still_kept}
 use Rattle.im_session.specs.{Keeping.KeepsPut, Keeping.KeptFrom, Kept.Kept, Kept.SessionStart, Kept.SessionState}
-use Rattle.im_session.specs.Put.{doubted_by, doubted_of, sure_by, sure_of}
-use Rattle.im_session.specs.Serving.{Rests, served_answer, served_one, served_together}
+use Rattle.im_session.specs.Put.{doubted_of, sure_of}
+use Rattle.im_session.specs.Serving.{Rests, served_answer, served_together}
 use Rattle.im_trace.proofs.TimeLemmas.{more-back, none-back, time-later, time-new}
 use Rattle.im_trace.specs.Lines.{leaves_line, left_lines, line_of, NeverGoBack, time_at, times_of}
 use Rattle.im_trace.specs.{Log.GoesOnAt, Log.TimedLog, Origin.Origin}

@@ -1,23 +1,20 @@
 -- A group that was served, and what is shown then.
-use Rattle.std.proofs.Common.{◌≡◌, ℕ, ◌+◌, ◌<◌, ◌≤◌, min, max, Bool, true, false, List, [], ◌++◌, map, length, take, Option}
+use Rattle.std.proofs.Common.{◌≡◌, ℕ, ◌+◌, ◌<◌, ◌≤◌, min, max, Bool, true, false, List, [], ◌++◌, length, take, Option}
 use Rattle.std.proofs.Common.{sym, refl, ap, ◌∙◌, subst, arith}
 use Rattle.std.proofs.{lemmas.List.length-map, lemmas.List.length-take, lemmas.List.map-append, Math.Seq.take-append_seam}
 use Rattle.im_types.specs.Types.{Request, Command, MAX_GROUP, Contents, WaitingAgrees, end_of, changes_of, shown_by}
 use Rattle.im_types.specs.Types.{Change}
-use Rattle.{im_disk.specs.declared.Disk.Ghosts, im_groups.specs.Ahead.ServesPrefix, im_groups.specs.Commands.places}
+use Rattle.{im_groups.specs.Ahead.ServesPrefix, im_groups.specs.Commands.places}
 use Rattle.im_engine.specs.{Commands.commands_put, Commands.CommandsAnswered, State.EngineState}
 use Rattle.im_glass.specs.Panes.{PaneView}
-use Rattle.im_session.specs.{Keeping.KeepsPut, Keeping.MakesFewCalls, Kept.SessionState}
 use Rattle.im_front.specs.declared.{AskedCommand.AskedCommand, ToldAnswer.ToldAnswer}
 use Rattle.im_front.specs.Lists.{answers_told, asks_told, commands_asked, commands_told}
 use Rattle.im_front.specs.State.{Advanced, front_of, FrontState, next_group}
-use Rattle.im_trace.specs.Log.{LogState}
-use Rattle.im_trace.specs.Origin.{Origin}
 use Rattle.im_queue.specs.Members.{AreFreeFor, AreOneOfEach, AreSureBehind}
 use Rattle.im_controller.proofs.GroupLemmas.{Fits, members-fit}
 use Rattle.im_controller.proofs.PutLemmas.{all-trace, GroupShows, lines_all, members-shown}
 use Rattle.im_controller.proofs.{ShownLemmas.pane-shows, ShownLemmas.shown-grows, SureLemmas.served-all}
-use Rattle.im_controller.specs.Groups.{AreAnswersTo, changes_put_all, IsGroup, lines_left, outcomes_told, ServesFirst}
+use Rattle.im_controller.specs.Groups.{AreAnswersTo, changes_put_all, IsGroup, lines_left, outcomes_told}
 use Rattle.im_controller.specs.{Groups.with_all_unclaimed, State.SharedState}
 
 -- ---- all that were gathered are told
@@ -42,12 +39,14 @@ module _ {D : Type 0} (f : FrontState D) (members put : List Command) (told : Li
       ≡ length members = omega (arith, asked, room, few) in
       ap (λ n. take n (commands_asked f.asked)) all ∙ sym first
 
+  pub told-long : length (commands_told told) ≡ length told
+  told-long =
+      length-map (asks_told told) (λ (a : AskedCommand). a.command) ∙ length-map told (λ (t : ToldAnswer). t.asked)
+
   told-first : f.asked ≡ asks_told told ++ rest → commands_told told ≡ take (length told) (commands_asked f.asked)
   told-first order =
-      let long : length (commands_told told) ≡ length told =
-      length-map (asks_told told) (λ (a : AskedCommand). a.command) ∙ length-map told (λ (t : ToldAnswer). t.asked) in
       sym (take-append_seam (commands_told told) (commands_asked rest))
-      ∙ ap (λ n. take n (commands_told told ++ commands_asked rest)) long
+      ∙ ap (λ n. take n (commands_told told ++ commands_asked rest)) told-long
       ∙ ap (take (length told)) (sym (ap commands_asked order
       ∙ map-append (λ (a : AskedCommand). a.command) (asks_told told) rest))
 
@@ -70,12 +69,13 @@ pub record Group {D : Type 0} (plan : Option (List Request)) (s : SharedState D)
   pub alive : s.session.engine.failed ≡ false
   pub agrees : WaitingAgrees s.session.engine.memory
   pub group : IsGroup plan s.log.places s.session.engine.memory (commands_told told)
+  pub some : 0 < length told
   pub lines : length s.log.trace + length (commands_told told) ≤ s.log.limit
 
 -- from what is called
 pub group-is : {D : Type 0} (plan p : Option (List Request)) (s : SharedState D) (x : EngineState D) (n : Contents)
     (members : List Command) (most : ℕ) (told : List ToldAnswer) (t : FrontState D) → p ≡ plan → most ≡ length members
-    → members ≡ take (length members) (commands_asked s.asked)
+    → 0 < length members → members ≡ take (length members) (commands_asked s.asked)
     → length members ≤ max 1 (places s.session.engine.count s.session.engine.room) → length members ≤ MAX_GROUP
     → length s.log.trace + length members ≤ s.log.limit
     → IsGroup p s.log.places s.session.engine.memory members
@@ -83,7 +83,7 @@ pub group-is : {D : Type 0} (plan p : Option (List Request)) (s : SharedState D)
     (next_group most (front_of s.session s.asked)) (length told)
     → Advanced (front_of s.session s.asked) told t → x ≡ s.session.engine → s.session.engine.failed ≡ false
     → n ≡ x.memory → WaitingAgrees n → Group plan s t.session.engine told
-group-is {D = D} plan p s x n members most told t planned many first room few lines group begins advanced looked alive
+group-is {D = D} plan p s x n members most told t planned many some first room few lines group begins advanced looked alive
     memory agrees =
     let all = all-told (front_of s.session s.asked) members (commands_put s.session.engine (commands_told told)) told
     t.asked first room few group.sure advanced.order
@@ -95,6 +95,7 @@ group-is {D = D} plan p s x n members most told t planned many first room few li
       agrees = subst WaitingAgrees (memory ∙ ap (λ (y : EngineState D). y.memory) looked) agrees;
       group = subst (λ (q : Option (List Request)). IsGroup q s.log.places s.session.engine.memory (commands_told told))
           planned (subst (λ (cs : List Command). IsGroup p s.log.places s.session.engine.memory cs) (sym all) group);
+      some = omega (arith, some, ap length all, told-long (front_of s.session s.asked) members [] told t.asked);
       lines = omega (arith, lines, ap length all);
     }
 

@@ -1,18 +1,14 @@
 -- What a trace shows: of a longer one, and of the lines of a command.
-use Rattle.std.proofs.Common.{◌≡◌, ℕ, zero, suc, ◌-◌, ◌<◌, Bool, true, false, ◌&&◌, List, [], ◌∷◌, ◌++◌, length, IfSome}
-use Rattle.std.proofs.Common.{if◌then◌else◌, IsOk, nat_lt, Some, None, Ok, Err, Option, Result, sym, refl, ap, ◌∙◌}
-use Rattle.std.proofs.Common.{subst, inl, ⊎_elim, append_assoc, append-nil, arith}
-use Rattle.std.proofs.lemmas.Bool.Decides.{nat_tests}
+use Rattle.std.proofs.Common.{◌≡◌, ℕ, ◌-◌, Bool, true, false, List, [], ◌∷◌, ◌++◌, length, IfSome}
+use Rattle.std.proofs.Common.{if◌then◌else◌, Some, None, Option, Result, sym, refl, ap, ◌∙◌}
+use Rattle.std.proofs.Common.{⊎_elim, append_assoc, append-nil}
 use Rattle.im_types.specs.Types.{Command, Outcome, Call, Line, Commands, Collect, Refusal, Contents, is_accepted}
 use Rattle.im_types.specs.Types.{contents_after, end_of, change_by, changes_at, changes_of, opening, shown_by, Change}
-use Rattle.im_laws.proofs.{AcceptLemmas.accepted-ok, MemoryLemmas.step-cell_count, Tests.true_false}
-use Rattle.{im_disk.specs.declared.Disk.Ghosts, im_glass.specs.Panes.PaneView}
-use Rattle.im_engine.specs.{Answered.Answered, State.EngineState}
-use Rattle.im_trace.proofs.ToldLemmas.{plain-receipt, shown-append}
-use Rattle.im_trace.specs.Lines.{counts_after, leaves_line, left_lines, line_of, LineCounts, memory_after}
-use Rattle.im_trace.specs.{Log.IsToldOf, Log.plain, Log.receipt_for, Log.ReceiptState, Log.with_line, Origin.Origin}
-use Rattle.im_controller.proofs.LendLemmas.{ok-leaves}
-use Rattle.im_controller.specs.{Lends.changes_put, Lends.Lends, Lends.shows, Planned.has_command, State.SharedState}
+use Rattle.im_laws.proofs.{MemoryLemmas.step-cell_count, Tests.true_false}
+use Rattle.{im_glass.specs.Panes.PaneView}
+use Rattle.im_trace.proofs.ToldLemmas.{shown-append}
+use Rattle.im_trace.specs.Lines.{leaves_line, left_lines, line_of, memory_after}
+use Rattle.im_trace.specs.{Log.IsToldOf}
 use mathlib.Core.List.{IsPrefix}
 
 pub end-cells : (m : Contents) (trace : List Line) → length (end_of m trace).cells ≡ length m.cells

@@ -1,7 +1,7 @@
 -- Commands that are judged the same after commands of other elements.
 use Rattle.std.proofs.Common.{◌≡◌, ℕ, zero, suc, ◌+◌, ◌<◌, ◌≤◌, Bool, true, false, ◌&&◌, ◌≢◌, List, [], ◌∷◌, length}
-use Rattle.std.proofs.Common.{take, if◌then◌else◌, nat_lt, ◌==◌, slice_get, slice_index_or, Some, None, Ok, Err, Option}
-use Rattle.std.proofs.Common.{Result, sym, refl, ap, ◌∙◌, subst, ⊎_elim, arith, take_all}
+use Rattle.std.proofs.Common.{if◌then◌else◌, nat_lt, ◌==◌, slice_get, slice_index_or, Some, None, Ok, Err, Option}
+use Rattle.std.proofs.Common.{Result, sym, refl, ap, ◌∙◌, subst, ⊎_elim, arith}
 use Rattle.std.specs.List.{list_any}
 use Rattle.im_types.specs.Types.{Op, Waiter, Alloc, Release, Reset, Fetch, Store, Take, Put, Request, Command, Asks}
 use Rattle.im_types.specs.Types.{Confirm, Refusal, Window, Contents, new_window, WaitingAgrees, confirm_window, bounds}

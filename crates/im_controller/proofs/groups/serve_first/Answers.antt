@@ -34,7 +34,7 @@ keep_all-requires g c =
     let told = c.advance_kept.new.told.items in let next = c.advance_kept.new.self in
     let these = c.gather-members.ensures in let members = c.gather-members.result.items in
     let it = group-is plan c.shared.inside.plan s c.engine-engine.result.now c.memory-memory.result.now.contents members
-    c.len.result told next c.shared.invariant.7 c.len.ensures.value these.first these.places (omega arith) these.lines
+    c.len.result told next c.shared.invariant.7 c.len.ensures.value (omega arith) these.first these.places (omega arith) these.lines
     these.group c.advance_kept.ensures.begins c.advance_kept.ensures.advanced c.engine-engine.ensures.state alive
     c.memory-memory.ensures c.cells-cells.ensures.memory.agrees in
     let k = group-keeps plan s next.session.engine told it m c.shared.invariant.0 in
@@ -56,7 +56,7 @@ invariant_of-shared g c =
     let told = c.advance_kept.new.told.items in let next = c.advance_kept.new.self in
     let these = c.gather-members.ensures in let members = c.gather-members.result.items in
     let it = group-is plan c.shared.inside.plan s c.engine-engine.result.now c.memory-memory.result.now.contents members
-    c.len.result told next c.shared.invariant.7 c.len.ensures.value these.first these.places (omega arith) these.lines
+    c.len.result told next c.shared.invariant.7 c.len.ensures.value (omega arith) these.first these.places (omega arith) these.lines
     these.group c.advance_kept.ensures.begins c.advance_kept.ensures.advanced c.engine-engine.ensures.state alive
     c.memory-memory.ensures c.cells-cells.ensures.memory.agrees in
     let k = g.K.Name.origin in let t = next.session in let f = t.engine in let rs = commands_told told in
@@ -64,7 +64,7 @@ invariant_of-shared g c =
     let failed = c.failed-2.ensures.failed
     ∙ ap (λ (x : EngineState g.row.D.Denot). x.failed) c.engine-after.ensures.state in
     let pane = group-pane plan s f told it m p c.gather-members.new.pane c.show_put-told.new.pane c.failed-2.result
-    c.shared.invariant.0 c.shared.invariant.1 (c.shared.invariant.3 alive) (told-ahead)
+    c.shared.invariant.0 c.shared.invariant.1 (c.shared.invariant.3 alive) c.gather-members.ensures.ahead
     failed c.show_put-told.ensures.shown c.show_put-told.ensures.hidden in
     let log = c.keep_all.ensures.log
     ∙ ap (λ ts. with_all_unclaimed s.log (commands_told ts) (outcomes_told ts)) c.as_slice.ensures.value in
@@ -108,7 +108,7 @@ returns-clause-serves g c =
     let told = c.advance_kept.new.told.items in let next = c.advance_kept.new.self in
     let these = c.gather-members.ensures in let members = c.gather-members.result.items in
     let it = group-is plan c.shared.inside.plan s c.engine-engine.result.now c.memory-memory.result.now.contents members
-    c.len.result told next c.shared.invariant.7 c.len.ensures.value these.first these.places (omega arith) these.lines
+    c.len.result told next c.shared.invariant.7 c.len.ensures.value (omega arith) these.first these.places (omega arith) these.lines
     these.group c.advance_kept.ensures.begins c.advance_kept.ensures.advanced c.engine-engine.ensures.state alive
     c.memory-memory.ensures c.cells-cells.ensures.memory.agrees in
     let k = g.K.Name.origin in let t = next.session in let f = t.engine in let rs = commands_told told in
@@ -116,7 +116,7 @@ returns-clause-serves g c =
     let failed = c.failed-2.ensures.failed
     ∙ ap (λ (x : EngineState g.row.D.Denot). x.failed) c.engine-after.ensures.state in
     let pane = group-pane plan s f told it m p c.gather-members.new.pane c.show_put-told.new.pane c.failed-2.result
-    c.shared.invariant.0 c.shared.invariant.1 (c.shared.invariant.3 alive) (told-ahead)
+    c.shared.invariant.0 c.shared.invariant.1 (c.shared.invariant.3 alive) c.gather-members.ensures.ahead
     failed c.show_put-told.ensures.shown c.show_put-told.ensures.hidden in
     let log = c.keep_all.ensures.log
     ∙ ap (λ ts. with_all_unclaimed s.log (commands_told ts) (outcomes_told ts)) c.as_slice.ensures.value in
@@ -129,7 +129,7 @@ returns-clause-serves g c =
     } in
     subst (λ (u : SharedState g.row.D.Denot). ServesFirst g.D.Disk k u s') c.shared.view_is (record {
       told = told;
-      some = omega (arith, told-some);
+      some = it.some;
       advanced = done.advanced;
       planned = it.group.planned;
       works = alive;
