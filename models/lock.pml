@@ -163,7 +163,7 @@ inline wait_past_work() {
      :: atomic { !work_rung -> work_parked = true }; !work_parked
   od
 }
-/* of im_controller::who_sleeps 4d1456810ef0
+/* of im_controller::who_sleeps b84bfde7c5a1
    of im_controller::wake_keeper 4f718459f48f
    of im_queue::Servers::answered 843e04db3eb9
    of im_queue::Servers::awaited 0e9cdfabcf73
@@ -216,7 +216,7 @@ inline see_all_wait(e) {
   i = 0;
   do :: i < N -> assert(i == e || does[i] == Done || (does[i] == Waits && entry[i] != Told)); i++ :: else -> break od
 }
-/* of im_controller::begin_wait 450b0c14b603
+/* of im_controller::begin_wait 9e54424590ca
    of im_controller::ask_once 26e6b4354352 */
 inline ask_once(e) {
   if :: failed -> change(e, Active); got = Failed
@@ -246,7 +246,7 @@ inline turn() {
      :: else -> did = false fi
 }
 /* of im_controller::make_room 5c10b5aa6256
-   of im_controller::is_pressed 05ce7a7b3d83
+   of im_controller::is_pressed e86a451483d4
    of im_controller::enough_for 220409385c58
    of im_controller::is_room_nearer bc732fad2a64: a fault in it is one of the call behind it. */
 inline make_room() {
@@ -255,9 +255,9 @@ inline make_room() {
      :: else -> break od;
   did = false
 }
-/* of im_controller::serve_first SUM
-   of im_controller::refuse_first SUM
-   of im_front::Front::advance_kept SUM
+/* of im_controller::serve_first 6a59562db516
+   of im_controller::refuse_first 9698c571682f
+   of im_front::Front::advance_kept 1acebd7a3389
    of im_engine::Engine::serve_commands b7eb8decfe98: the fault may fall before each member, which begins a group then. */
 inline serve_member(m) {
   may_fail();
@@ -271,14 +271,14 @@ inline serve_member(m) {
   fi;
   asked[m] = Nothing
 }
-/* of im_controller::hold 44a87d44aac3
+/* of im_controller::hold 21bdc5a13d88
    of im_controller::claim 2b1067bb12ec
-   of im_controller::serve_inbox SUM
-   of im_controller::take_in_all SUM
-   of im_controller::take_in SUM
-   of im_controller::serve_asked SUM
-   of im_controller::serve_or_refuse SUM
-   of im_queue::Inbox::take SUM
+   of im_controller::serve_inbox 13653810c488
+   of im_controller::take_in_all fbfae00807f0
+   of im_controller::take_in f4612905f01b
+   of im_controller::serve_asked a3c696ece51e
+   of im_controller::serve_or_refuse 20e13d837bb7
+   of im_queue::Inbox::take 23a7410a543f
    of im_trace::Log::claim f63c5cb84308 */
 inline hold(e) {
   if :: unclaimed[e] != Nothing -> skip
@@ -314,7 +314,7 @@ inline submit(e, op) {
      :: else -> break od
 }
 /* of im_controller::Port::help 0e90bbc25526
-   of im_controller::lend_turn 46a7a4022ac0
+   of im_controller::lend_turn 6ddd9f6a624d
    of im_controller::told_turn ef17c1018823
    of im_serving::help 4b93685dd560: got is Go where it is worth to ask again. */
 inline help(e) {
@@ -333,7 +333,7 @@ inline confirm(e) {
 }
 /* of im_controller::Port::collect f2ef03b29c5d
    of im_controller::find 22f41e2bec52
-   of im_controller::look b8ea019503ca */
+   of im_controller::look 31a7077f3bba */
 inline collect(e) {
   wait_turn(e);
   got = (failed -> Failed : Told);

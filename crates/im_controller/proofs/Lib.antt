@@ -4,7 +4,7 @@ pub mod PutLemmas
 pub mod WaitLemmas
 pub mod SureLemmas
 pub mod Keeping
-pub mod Gathering
+pub mod GatherLemmas
 pub mod TakingLemmas
 pub mod GroupLemmas
 pub mod Lending

@@ -6,7 +6,7 @@ use Rattle.std.specs.List.{AllByRecursion}
 use Rattle.{im_types.specs.Types.Command, im_front.specs.State.front_of, im_front.specs.State.FrontState}
 use Rattle.im_front.specs.Lists.{with_ticket}
 use Rattle.{im_trace.specs.Log.sender_of, im_queue.specs.Places.EachAsked, im_queue.specs.Places.taken_out}
-use Rattle.im_controller.proofs.Gathering.{all_push}
+use Rattle.im_controller.proofs.GatherLemmas.{all_push}
 use Rattle.im_controller.specs.Groups.{TakesIn, TakesInAll, with_elements}
 
 -- each of the commands is of an element below this one

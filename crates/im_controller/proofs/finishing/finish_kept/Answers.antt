@@ -58,27 +58,30 @@ returns-clause-came g c =
 
 pub returns-clause-put : goal.returns-clause-put
 returns-clause-put g c =
-    let s = c.session.inside in
+    let s = c.front.inside in
     let items = ap (λ (r : RecordingState). r.items) c.close-trace.ensures.trace ∙ c.take_all_back.ensures.trace.0
     ∙ c.of-log.ensures.trace.0 in
-    subst (λ (ls : List Line). IsSessionOf g.D.Disk g.K.Name.origin ls s.session) (sym items) c.session.invariant.4
+    rw c.into_session.ensures
+    (subst (λ (ls : List Line). IsSessionOf g.D.Disk g.K.Name.origin ls s.front.session) (sym items) c.front.invariant.4)
 
 pub returns-clause-keeps : goal.returns-clause-keeps
-returns-clause-keeps g c = λ honest.
-    let s = c.session.inside in
+returns-clause-keeps g c = rw c.into_session.ensures (λ honest.
+    let s = c.front.inside in
     let items = ap (λ (r : RecordingState). r.items) c.close-trace.ensures.trace ∙ c.take_all_back.ensures.trace.0
     ∙ c.of-log.ensures.trace.0 in
     let times = ap (λ (r : RecordingState). r.times) c.close-trace.ensures.trace ∙ c.take_all_back.ensures.trace.1
     ∙ c.of-log.ensures.trace.1 in
-    subst (λ (ls : List Line). KeepsSince g.D.Disk g.K.Name.origin ls c.close-trace.result.0.times s.session)
+    subst (λ (ls : List Line). KeepsSince g.D.Disk g.K.Name.origin ls c.close-trace.result.0.times s.front.session)
     (sym items)
-    (subst (λ (ts : List ℕ). KeepsSince g.D.Disk g.K.Name.origin s.log.state.trace ts s.session) (sym times)
-    (c.session.invariant.5 honest))
+    (subst (λ (ts : List ℕ). KeepsSince g.D.Disk g.K.Name.origin s.log.state.trace ts s.front.session) (sym times)
+    (c.front.invariant.5 honest)))
 
 pub returns-clause-planned : goal.returns-clause-planned
 returns-clause-planned g c =
-    let s = c.session.inside in let i = c.session.invariant in
+    let s = c.front.inside in let i = c.front.invariant in
     let same = ap (λ (r : RecordingState). r.items) c.close-trace.ensures.trace ∙ c.take_all_back.ensures.trace.0
     ∙ c.of-log.ensures.trace.0 in
-    subst (λ (ls : List Line). EndsBy g.K.Name.origin.memory g.K.Name.origin.plan ls s.session.engine.memory) (sym same)
-    (ends-by g.K.Name.origin.memory g.K.Name.origin.plan s.log.state.trace s.session.engine.memory i.8 i.0)
+    rw c.into_session.ensures
+    (subst (λ (ls : List Line). EndsBy g.K.Name.origin.memory g.K.Name.origin.plan ls s.front.session.engine.memory)
+    (sym same)
+    (ends-by g.K.Name.origin.memory g.K.Name.origin.plan s.log.state.trace s.front.session.engine.memory i.8 i.0))

@@ -1,6 +1,6 @@
 use Rattle.std.proofs.Common.{◌≡◌, ◌++◌, ◌≤◌, drop, length}
 use Rattle.{im_groups.specs.Commands.places, im_front.specs.Lists.commands_asked}
-use Rattle.im_controller.proofs.Gathering.{Gathering}
+use Rattle.im_controller.proofs.GatherLemmas.{Gathering}
 
 abbrev pub invariant-loop-one : Rattle.im_controller.proofs.gathering.gather.Given.invariant-loop-one
 invariant-loop-one l =

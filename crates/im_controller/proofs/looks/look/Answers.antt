@@ -17,7 +17,7 @@ returns-clause-last g c =
 pub invariant_of-shared : goal.invariant_of-shared
 invariant_of-shared g c =
     let call = Collect c.args.element c.args.number in
-    let k = g.K.Name.origin in let m = k.memory in let s = c.shared.inside.session in
+    let k = g.K.Name.origin in let m = k.memory in let s = c.shared.inside.front.session in
     let trace = c.shared.inside.log.state.trace in
     let is : c.leave.new.self.state.trace ≡ trace ++ left_lines call (told c.collect-answer.result) =
     ap (λ (l : LogState). l.trace) c.leave.ensures.log

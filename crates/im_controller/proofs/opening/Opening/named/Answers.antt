@@ -42,7 +42,7 @@ invariant_of-shared g c =
     } in
     let from = origin-by g.D.Disk opening _ k c.self.view_is c.requires.origin in
     let kept = c.engine.ensures.kept in
-    let memory : c.self.inside.session.engine.memory ≡ m = from.memory in (
+    let memory : c.self.inside.session.engine.memory ≡ m = from.memory in rw c.of.ensures (
       search rules,
       search rules,
       search rules,
