@@ -59,9 +59,10 @@ module _ (plan : Option (List Request)) (places : List (Option UnclaimedState)) 
     pub puts : (qs : List Command) → p.ahead ++ changes_put_all m left qs
         ≡ p0.ahead ++ changes_put_all m first (rs ++ qs)
     pub pane : p ≡ record p0 { ahead = p.ahead }
+    pub start : length rs ≡ 0 → left ≡ first
 
   pub gathering-none : (first : ℕ) (p0 : PaneView) → Gathering first p0 [] first p0
-  gathering-none first p0 = record { group = group-none; puts = λ qs. refl; pane = refl }
+  gathering-none first p0 = record { group = group-none; puts = λ qs. refl; pane = refl; start = λ _. refl }
 
   module _ (first : ℕ) (p0 : PaneView) (rs : List Command) (left : ℕ) (p : PaneView)
       (k : Gathering first p0 rs left p) where
@@ -79,6 +80,7 @@ module _ (plan : Option (List Request)) (places : List (Option UnclaimedState)) 
               ∙ ap (λ cs. p0.ahead ++ changes_put_all m first cs) (sym (append_assoc rs (r ∷ []) qs));
           pane = put ∙ ap (λ (v : PaneView). record v { ahead = p.ahead ++ changes_put m left r }) k.pane
               ∙ ap (λ xs. record p0 { ahead = xs }) (sym ahead);
+          start = λ none. absurd (omega (arith, none, length-append rs (r ∷ [])));
         }
 
     -- what is on the pane then

@@ -5,10 +5,11 @@ use Rattle.std.specs.Prelude.{if◌then◌else◌, slice_get, slice_set, Some, N
 use Rattle.std.specs.List.{AllByRecursion}
 use Rattle.im_types.specs.Types.{Request, Command, Outcome, Line, Commands, Refusal, NoMemory, Failed, TraceFull, OffPlan}
 use Rattle.im_types.specs.Types.{Contents, answer_to, Change}
-use Rattle.{im_disk.specs.declared.Disk.Ghosts, im_groups.specs.Commands.places, im_groups.specs.Commands.places_behind}
+use Rattle.im_disk.specs.declared.Disk.{Ghosts}
+use Rattle.im_groups.specs.Commands.{places, places_behind, takes_place}
 use Rattle.im_session.specs.{Keeping.KeepsPut, Keeping.MakesFewCalls, Serving.served_answer}
 use Rattle.im_front.specs.declared.{AskedCommand.AskedCommand, ToldAnswer.ToldAnswer}
-use Rattle.im_front.specs.Lists.{answers_told, commands_told, with_ticket}
+use Rattle.im_front.specs.Lists.{answers_told, commands_asked, commands_told, with_ticket}
 use Rattle.im_front.specs.State.{Advanced, front_of, FrontState}
 use Rattle.im_trace.specs.Lines.{counts_after, leaves_line, left_lines, LineCounts, memory_after}
 use Rattle.im_trace.specs.Log.{IsOf, LogState, plain, ReceiptState, sender_of, UnclaimedState, with_unclaimed}
@@ -97,6 +98,13 @@ pub record IsGroup (plan : Option (List Request)) (places : List (Option Unclaim
   pub cut : IsCut cs
   pub sure : AreSureBehind m cs
 
+-- None of these is a group: there is none, or the plan doesn't have the first one, or an answer waits in its place, or it
+-- takes a place and the pane has no room for its change.
+abbrev pub NoneFits : Option (List Request) → List (Option UnclaimedState) → Contents → ℕ → List Command → Type 0
+NoneFits plan places m left [] = Unit {0}
+NoneFits plan places m left (c ∷ cs) =
+    has_command plan c ≡ true → slice_get places (sender_of c) ≡ Some None → takes_place m left c ≡ true
+
 -- why the first of these isn't served, if the engine works and there is room for its line
 abbrev pub first_refusal : Option (List Request) → List Command → Refusal
 first_refusal plan [] = NoMemory
@@ -137,7 +145,10 @@ pub record IsRefusedFor {D : Type 0} (plan : Option (List Request)) (s : SharedS
   pub dead : s.session.engine.failed ≡ true → refusal ≡ Failed
   pub full : s.session.engine.failed ≡ false → s.log.limit ≤ length s.log.trace → refusal ≡ TraceFull
   pub other : s.session.engine.failed ≡ false → length s.log.trace < s.log.limit
-      → refusal ≡ first_refusal plan (map (λ (a : AskedCommand). a.command) s.asked)
+      → refusal ≡ first_refusal plan (commands_asked s.asked)
+  -- then the command takes a place, unless an answer waits in its place
+  pub roomless : s.session.engine.failed ≡ false → length s.log.trace < s.log.limit →
+      let e = s.session.engine in NoneFits plan s.log.places e.memory (places e.count e.room) (commands_asked s.asked)
 
 -- The first command that is asked is refused, and its refusal waits for its port. All else stays.
 pub record RefusesFirst {D : Type 0} (s : SharedState D) (refusal : Refusal) (s' : SharedState D) : Type 0 where

@@ -1,10 +1,11 @@
 //! Which of the commands that are asked are the next group: those that the plan has, whose answers have free places and
 //! lines, and for whose changes the pane has room.
-ghost use Rattle.std.specs.Prelude.{◌≡◌, ◌+◌, ◌≤◌, max, true, ◌++◌, length, take};
+ghost use Rattle.std.specs.Prelude.{◌≡◌, ◌+◌, ◌<◌, ◌≤◌, max, true, false, ◌≢◌, ◌++◌, length, take, slice_get, Some, None};
 ghost use Rattle.im_types.specs.Types.{Command, Contents};
 ghost use Rattle.im_groups.specs.Commands.{places, places_behind, takes_place};
-ghost use Rattle.im_front.specs.Lists.{commands_asked};
-ghost use Rattle.im_controller.specs.Groups.{changes_put_all, first_refusal, IsGroup, IsNext};
+ghost use Rattle.{im_trace.specs.Log.sender_of, im_front.specs.Lists.commands_asked};
+ghost use Rattle.im_controller.specs.Groups.{changes_put_all, first_refusal, IsGroup, IsNext, NoneFits};
+ghost use Rattle.im_controller.specs.Planned.{has_command};
 
 use crate::panes::put_ahead;
 use crate::plans::has_command;
@@ -39,6 +40,8 @@ fn is_next<K: Name>(
 ) -> bool
     ensures next { result ≡ true
         → IsNext plan.now log.now.state.places memory.now.contents command.now members.now }
+    ensures first { result ≡ false → length members.now ≡ 0 → has_command plan.now command.now ≡ true
+        → slice_get log.now.state.places (sender_of command.now) ≢ Some None }
 {
     if !has_command(plan, command) {
         return false;
@@ -61,6 +64,9 @@ pub(crate) fn gather<D: Disk, K: Name, J: PaneName>(
     ensures group { IsGroup plan.now log.now.state.places front.now.session.engine.memory result.items }
     ensures lines { length log.now.state.trace + length result.items ≤ log.now.state.limit }
     ensures places { let e = front.now.session.engine in length result.items ≤ max 1 (places e.count e.room) }
+    ensures none { let e = front.now.session.engine in length log.now.state.trace < log.now.state.limit
+        → length result.items ≡ 0 → NoneFits plan.now log.now.state.places e.memory (places e.count e.room)
+        (commands_asked front.now.asked) }
     ensures ahead { let e = front.now.session.engine in pane.new ≡ record pane.old {
       ahead = pane.old.ahead ++ changes_put_all e.memory (places e.count e.room) result.items;
     } }

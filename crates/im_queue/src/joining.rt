@@ -1,5 +1,5 @@
 //! Which commands may be one group: what each of them changes has to be known before all of them.
-ghost use Rattle.std.specs.Prelude.{◌≡◌, true};
+ghost use Rattle.std.specs.Prelude.{◌≡◌, true, length};
 ghost use Rattle.im_queue.specs.Members.{are_apart_at, are_joined, are_together, is_social, IsApartFrom, IsSure};
 ghost use Rattle.im_queue.specs.Members.{IsSureBehind, MayJoin, stored_at};
 
@@ -76,6 +76,7 @@ fn are_joined(earlier: &Command, later: &Command) -> bool
 
 // Returns whether a command may stand in a group after these, which are of other elements.
 fn may_join(command: &Command, members: &[Command]) -> bool
+    ensures first { length members.now ≡ 0 → result ≡ true }
     ensures joins { result ≡ true → MayJoin command.now members.now }
     ensures apart { result ≡ true → IsApartFrom command.now members.now }
 {
@@ -100,7 +101,8 @@ fn is_sure(memory: &Memory, command: &Command) -> bool
 
 // Returns whether that is known of a command after these. Of the first one nothing has to be known.
 fn is_sure_behind(memory: &Memory, command: &Command, members: &[Command]) -> bool
-    ensures { result ≡ true → IsSureBehind memory.now.contents command.now members.now }
+    ensures first { length members.now ≡ 0 → result ≡ true }
+    ensures sure { result ≡ true → IsSureBehind memory.now.contents command.now members.now }
 {
     members.is_empty() || is_sure(memory, command)
 }
@@ -111,6 +113,7 @@ fn is_sure_behind(memory: &Memory, command: &Command, members: &[Command]) -> bo
 /// It isn't known what a request changes that makes, gives back or empties a block beside others, or the later one of
 /// two stores at one address. Whether a confirmation is accepted behind others is known if it is accepted before them.
 pub fn may_be_next(memory: &Memory, command: &Command, members: &[Command]) -> bool
+    ensures first { length members.now ≡ 0 → result ≡ true }
     ensures joins { result ≡ true → MayJoin command.now members.now }
     ensures apart { result ≡ true → IsApartFrom command.now members.now }
     ensures sure { result ≡ true → IsSureBehind memory.now.contents command.now members.now }

@@ -1,5 +1,5 @@
 //! The trace, the books that count its lines, and the answers that wait for their ports.
-ghost use Rattle.std.specs.Prelude.{◌≡◌, ◌-◌, ◌<◌, ◌≤◌, true, length, IfSome, slice_get, Some, None, Ok};
+ghost use Rattle.std.specs.Prelude.{◌≡◌, ◌-◌, ◌<◌, ◌≤◌, true, false, ◌≢◌, length, IfSome, slice_get, Some, None, Ok};
 ghost use Rattle.im_types.specs.Types.{Tells, Commands, Collect, answer_to, IsLegal, end_of};
 ghost use Rattle.im_trace.specs.Lines.{counts_after, EndsIn, EndsInAll, leaves_line, left_lines, line_of, memory_after};
 ghost use Rattle.im_trace.specs.Lines.{time_at};
@@ -94,7 +94,8 @@ impl<K: Name> Log<K> {
 
     /// Returns whether an element has a place in which no answer waits.
     pub fn is_free(&self, element: u16) -> bool
-        ensures { result ≡ true → slice_get self.now.state.places element ≡ Some None }
+        ensures free { result ≡ true → slice_get self.now.state.places element ≡ Some None }
+        ensures taken { result ≡ false → slice_get self.now.state.places element ≢ Some None }
     {
         match self.places.as_slice().get(element as usize) {
             Some(place) => place.is_none(),
