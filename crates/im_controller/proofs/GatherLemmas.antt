@@ -1,15 +1,18 @@
 -- A group, with one command after another.
-use Rattle.std.proofs.Common.{◌≡◌, ℕ, ◌+◌, true, ◌≢◌, List, [], ◌∷◌, ◌++◌, length, take}
+use Rattle.std.proofs.Common.{◌≡◌, ℕ, zero, suc, ◌+◌, ◌<◌, true, ◌≢◌, List, [], ◌∷◌, ◌++◌, length, get_or, take, drop}
 use Rattle.std.proofs.Common.{slice_get, Some, None, Option, sym, refl, ap, ◌∙◌, inl, inr}
-use Rattle.std.proofs.Common.{append_assoc, append-nil}
+use Rattle.std.proofs.Common.{append_assoc, append-nil, arith, length-append}
+use Rattle.std.proofs.lemmas.List.{length-map}
+use Rattle.std.proofs.Math.Seq.{drop-cons, take-append_seam}
 use Rattle.std.specs.List.{AllByRecursion}
 use Rattle.im_types.specs.Types.{Request, Command, Contents}
-use Rattle.im_groups.specs.Commands.{places_behind}
+use Rattle.im_groups.specs.Commands.{places_behind, takes_place}
 use Rattle.im_glass.specs.Panes.{PaneView}
+use Rattle.{im_front.specs.declared.AskedCommand.AskedCommand, im_front.specs.Lists.commands_asked}
 use Rattle.im_trace.specs.Log.{sender_of, UnclaimedState}
 use Rattle.im_queue.specs.Members.{are_joined, AreOneOfEach, AreSureBehind, IsApartFrom, IsCut, IsSure, IsSureBehind}
 use Rattle.im_queue.specs.Members.{MayJoin}
-use Rattle.im_controller.specs.Groups.{changes_put_all, IsGroup, IsNext}
+use Rattle.im_controller.specs.Groups.{changes_put_all, IsGroup, IsNext, NoneFits}
 use Rattle.im_controller.specs.{Lends.changes_put, Planned.has_command}
 
 -- ---- one more
@@ -90,8 +93,36 @@ module _ (plan : Option (List Request)) (places : List (Option UnclaimedState)) 
 
 -- the first ones of a list
 pub first-ones : {X : Type 0} (xs ys all : List X) → xs ++ ys ≡ all → xs ≡ take (length xs) all
-first-ones xs ys all is = sym (taken xs) ∙ ap (take (length xs)) is
-  where
-    taken : (zs : List X) → take (length zs) (zs ++ ys) ≡ zs
-    taken [] = refl
-    taken (z ∷ zs) = ap (λ ws. z ∷ ws) (taken zs)
+first-ones xs ys all is = sym (take-append_seam xs ys) ∙ ap (take (length xs)) is
+
+-- so many commands are asked
+pub asked-long : (asked : List AskedCommand) → length (commands_asked asked) ≡ length asked
+asked-long asked = length-map asked (λ (a : AskedCommand). a.command)
+
+-- one more of what is asked
+pub asked-next : (asked : List AskedCommand) (i : ℕ) (d : AskedCommand) (members : List Command) → i < length asked
+    → members ++ commands_asked (drop i asked) ≡ commands_asked asked
+    → (members ++ (get_or asked i d).command ∷ []) ++ commands_asked (drop (i + 1) asked) ≡ commands_asked asked
+asked-next asked i d members within is =
+    let one = get_or asked i d in let next : suc i ≡ i + 1 = omega arith in
+    append_assoc members (one.command ∷ []) (commands_asked (drop (i + 1) asked))
+    ∙ ap (λ (l : List AskedCommand). members ++ commands_asked l)
+    (sym (drop-cons asked i d within ∙ ap (λ n. one ∷ drop n asked) next))
+    ∙ is
+
+-- the first one that is asked isn't a group
+pub none-fits : (plan : Option (List Request)) (places : List (Option UnclaimedState)) (m : Contents) (left : ℕ)
+    (asked : List AskedCommand) (i : ℕ) (d : AskedCommand) → i ≡ 0
+    → (has_command plan (get_or asked i d).command ≡ true
+    → slice_get places (sender_of (get_or asked i d).command) ≡ Some None
+    → takes_place m left (get_or asked i d).command ≡ true)
+    → NoneFits plan places m left (commands_asked asked)
+none-fits plan places m left [] i d first takes = tt
+none-fits plan places m left (a ∷ asked) zero d first takes = takes
+none-fits plan places m left (a ∷ asked) (suc i) d first takes = absurd (omega (arith, first))
+
+-- nothing is put ahead
+pub none-ahead : (m : Contents) (left : ℕ) (p q : PaneView) (rs : List Command) → length rs ≡ 0
+    → q ≡ record p { ahead = p.ahead ++ changes_put_all m left rs } → q ≡ p
+none-ahead m left p q [] none is = is ∙ ap (λ xs. record p { ahead = xs }) (append-nil p.ahead)
+none-ahead m left p q (r ∷ rs) none is = absurd (omega (arith, none))

@@ -5,7 +5,7 @@ use Rattle.std.proofs.lemmas.List.{map-append}
 use Rattle.std.specs.List.{AllByRecursion}
 use Rattle.{im_types.specs.Types.Command, im_front.specs.State.front_of, im_front.specs.State.FrontState}
 use Rattle.im_front.specs.Lists.{with_ticket}
-use Rattle.{im_trace.specs.Log.sender_of, im_queue.specs.Places.EachAsked, im_queue.specs.Places.taken_out}
+use Rattle.{im_trace.specs.Log.sender_of, im_queue.specs.Places.placed_at, im_queue.specs.Places.taken_out}
 use Rattle.im_controller.proofs.GatherLemmas.{all_push}
 use Rattle.im_controller.specs.Groups.{TakesIn, TakesInAll, with_elements}
 
@@ -32,6 +32,14 @@ above places element [] below = refl
 above places element (c ∷ cs) below =
     above (slice_set places (sender_of c) None) element cs below.1
     ∙ others-stay places (sender_of c) element (λ same. absurd (omega (arith, below.0, same)))
+
+-- where nothing is asked nothing is taken
+pub takes-nothing : (places : List (Option Command)) (element : ℕ) → placed_at places element ≡ None
+    → slice_set places element None ≡ places
+takes-nothing [] element none = refl
+takes-nothing (None ∷ places) zero none = refl
+takes-nothing (Some c ∷ places) zero none = absurd (cc)
+takes-nothing (place ∷ places) (suc element) none = ap (λ ps. place ∷ ps) (takes-nothing places element none)
 
 taken_out-push : (places : List (Option Command)) (cs : List Command) (c : Command)
     → taken_out places (cs ++ c ∷ []) ≡ slice_set (taken_out places cs) (sender_of c) None

@@ -9,7 +9,7 @@ use Rattle.std.specs.List.{AllByRecursion}
 use Rattle.im_types.specs.Types.{Entry, Command, Outcome, Call, Line, Tells, Commands, Refusal, Contents, told}
 use Rattle.im_types.specs.Types.{answer_to, contents_after, IsLegal, end_of, Change}
 use Rattle.im_laws.proofs.TraceLemmas.{end_of-append, IsLegal-push, IsLegal-split}
-use Rattle.im_trace.specs.Lines.{counts_after, EndsIn, EndsInAll, leaves_line, left_lines, line_of, LineCounts}
+use Rattle.im_trace.specs.Lines.{counts_after, EndsIn, leaves_line, left_lines, line_of, LineCounts}
 use Rattle.im_trace.specs.Lines.{memory_after, time_at}
 use Rattle.im_trace.specs.Log.{AreClaimed, AreVacant, IsLog, IsOfTrace, IsProof, IsTimed, LogState, receipt_for}
 use Rattle.im_trace.specs.Log.{sender_of, StandsInTrace, unclaimed_lines, UnclaimedState, with_line, with_unclaimed}
@@ -44,12 +44,6 @@ end-lines m trace call answer = end_by (leaves_line answer) m trace call answer
 count-append : (marks : Line → Bool) (xs ys : List Line) → count_by marks (xs ++ ys)
     ≡ count_by marks xs + count_by marks ys
 count-append marks xs ys = sum_by-append (λ x. cond (marks x) 1 0) xs ys
-
--- the trace of an answer's receipt
-pub proof-at_end : (m : Contents) (trace : List Line) (call : Call) (answer : Result Outcome Refusal)
-    → IsLegal m trace → EndsInAll trace (left_lines call answer) → IsProof m call answer trace
-proof-at_end m trace call (Ok outcome) legal ends = (legal, ends)
-proof-at_end m trace call (Err refusal) legal ends = tt
 
 -- what begins a list begins each that goes on behind it
 pub prefix-more : {X : Type 0} (xs ys zs : List X) → IsPrefix xs ys → IsPrefix xs (ys ++ zs)

@@ -1,12 +1,12 @@
 -- The times of the lines of a trace.
 use Rattle.std.proofs.Common.{◌≡◌, ℕ, zero, suc, ◌+◌, ◌<◌, ◌≤◌, Bool, true, false, ◌⊎◌, List, [], ◌∷◌, ◌++◌, map}
-use Rattle.std.proofs.Common.{length, if◌then◌else◌, Ok, Err, Result, sym, refl, ap, ◌∙◌, subst, inl, inr, ⊎_elim}
+use Rattle.std.proofs.Common.{length, if◌then◌else◌, Result, sym, refl, ap, ◌∙◌, subst, inl, inr, ⊎_elim}
 use Rattle.std.proofs.Common.{append_assoc, arith, length-append}
 use Rattle.std.proofs.lemmas.List.{length-map, map-append}
-use Rattle.im_types.specs.Types.{Command, Outcome, Call, Line, Refusal, Change}
+use Rattle.im_types.specs.Types.{Outcome, Call, Line, Refusal}
 use Rattle.im_laws.proofs.Tests.{below_or_from}
 use Rattle.im_trace.specs.Lines.{leaves_line, left_lines, line_of, NeverGoBack, time_at, times_of}
-use Rattle.im_trace.specs.Log.{GoesOnAt, receipt_for, TimedLog}
+use Rattle.im_trace.specs.Log.{GoesOnAt, TimedLog}
 use mathlib.Core.List.{IsPrefix}
 
 -- a line's time stays in a longer book
@@ -101,11 +101,3 @@ goes-on-at time old mid new p q = record {
       ∙ append_assoc old.times (times_of time p.more) (times_of time q.more)
       ∙ ap (λ ts. old.times ++ ts) (sym (map-append (λ (l : Line). time) p.more q.more));
 }
-
--- a receipt's time is asked for only if there is an outcome
-pub receipt-at : (history : List Line) (at time : ℕ) (shown : List Change) (command : Command)
-    (a : Result Outcome Refusal) → (leaves_line a ≡ true → at ≡ time)
-    → receipt_for history at shown command a ≡ receipt_for history time shown command a
-receipt-at history at time shown command (Ok outcome) is = ap (λ t. receipt_for history t shown command (Ok outcome))
-    (is refl)
-receipt-at history at time shown command (Err refusal) is = refl

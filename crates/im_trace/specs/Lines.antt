@@ -28,13 +28,9 @@ may_begin (Collect element number) answer = false
 abbrev pub memory_after : Contents → Call → Result Outcome Refusal → Contents
 memory_after m call answer = if leaves_line answer then contents_after m call else m
 
--- a trace ends in these lines
-abbrev pub EndsInAll : List Line → List Line → Type 0
-EndsInAll lines last = (before : List Line) × (lines ≡ before ++ last)
-
 -- a trace ends in this line
 abbrev pub EndsIn : List Line → Line → Type 0
-EndsIn lines line = EndsInAll lines (line ∷ [])
+EndsIn lines line = (before : List Line) × (lines ≡ before ++ line ∷ [])
 
 -- how many lines, and how many of them are marked
 pub record LineCounts : Type 0 where

@@ -1,9 +1,8 @@
 //! The trace, the books that count its lines, and the answers that wait for their ports.
 ghost use Rattle.std.specs.Prelude.{◌≡◌, ◌-◌, ◌<◌, ◌≤◌, true, false, ◌≢◌, length, IfSome, slice_get, Some, None, Ok};
 ghost use Rattle.im_types.specs.Types.{Tells, Commands, Collect, answer_to, IsLegal, end_of};
-ghost use Rattle.im_trace.specs.Lines.{counts_after, EndsIn, EndsInAll, leaves_line, left_lines, line_of, memory_after};
-ghost use Rattle.im_trace.specs.Lines.{time_at};
-ghost use Rattle.im_trace.specs.Log.{Claims, GoesOnAt, IsOfTrace, IsProof, IsTimed, IsToldOf, receipt_for, SeesAnswer};
+ghost use Rattle.im_trace.specs.Lines.{counts_after, EndsIn, leaves_line, left_lines, line_of, memory_after, time_at};
+ghost use Rattle.im_trace.specs.Log.{Claims, GoesOnAt, IsOfTrace, IsProof, IsTimed, IsToldOf, SeesAnswer};
 ghost use Rattle.im_trace.specs.Log.{sender_of, with_line, with_unclaimed};
 ghost use mathlib.Core.List.{IsPrefix};
 
@@ -169,22 +168,6 @@ impl<K: Name> Log<K> {
     {
         count_line(&mut self.books, tally, call, answer);
         self.record.push(call, answer, true, disk);
-    }
-
-    /// Returns the answer to a command, with the trace that ends in its line, and with what is shown.
-    pub fn receipt(
-        &self,
-        told: Told<Shown<K>>,
-        command: &Command,
-        answer: Result<Outcome, Refusal>,
-    ) -> Result<Receipt<K>, Refusal>
-        requires ends { EndsInAll self.now.state.trace (left_lines (Commands command.now) answer) }
-        requires told { IsToldOf K.origin.memory self.now.state.trace told }
-        ensures receipt { result ≡ receipt_for self.now.state.trace
-            (time_at self.now.times (length self.now.state.trace)) told command.now answer }
-        ensures proof { IsOfTrace K.origin.memory self.now.state.trace result }
-    {
-        receipt_of(self.prefix(), self.last(), told, command, answer)
     }
 
     /// Returns what is kept under a number, with the trace that ends in this collect's line, and with what is shown.
