@@ -2,31 +2,21 @@
 use denote.Param.Send.{IsSend, sendable}
 use Rattle.core.proofs.snapshot.Sent.{snapshot_send}
 use Rattle.std.proofs.Crossing.{crosses}
+use Rattle.im_front.proofs.Crossing.{Asks-send, Checkpoint-send, Memory-send}
 use Rattle.im_memory.specs.contracts.memory.Memory as Memory
-use Rattle.im_checkpoint.specs.contracts.checkpoint.Checkpoint as Checkpoint
 use Rattle.im_engine.specs.contracts.ahead.GroupAhead as GroupAhead
 use Rattle.im_listed.specs.contracts.listed.Listed as Listed
 use Rattle.im_noted.proofs.NoteList.TheLaws.TheKnot as noted
-use Rattle.im_front.specs.contracts.asks.Asks as Asks
 use Rattle.im_listed.specs.contracts.image.Image as Image
-
-Memory-send : IsSend Memory.the_field.row
-Memory-send = search (sendable, crosses) depth 40 fits 30000
 
 pub Memory-row-send : IsSend Memory.the_row
 Memory-row-send = let m = Memory-send in search sendable depth 20
-
-Checkpoint-send : IsSend Checkpoint.the_field.row
-Checkpoint-send = search (sendable, crosses) depth 40
 
 GroupAhead-send : IsSend GroupAhead.the_field.row
 GroupAhead-send = search (sendable, crosses) depth 40 fits 30000
 
 Listed-send : IsSend Listed.the_field.row
 Listed-send = search (sendable, crosses, snapshot_send, noted.crosses) depth 40 fits 30000
-
-Asks-send : IsSend Asks.the_field.row
-Asks-send = search (sendable, crosses) depth 40 fits 30000
 
 Image-send : IsSend Image.the_field.row
 Image-send =

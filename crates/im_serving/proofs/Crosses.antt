@@ -10,11 +10,9 @@ use Rattle.im_glass.proofs.pane.Pane.TheSendSync.{the_send as pane_send}
 use Rattle.im_planning.proofs.plan.Plan.TheSendSync.{the_send as plan_send}
 use Rattle.im_disk.specs.declared.disk.Disk as disk
 use Rattle.im_trace.specs.declared.name.Name as name
-use Rattle.im_memory.specs.contracts.memory.Memory as Memory
-use Rattle.im_checkpoint.specs.contracts.checkpoint.Checkpoint as Checkpoint
+use Rattle.im_front.proofs.Crossing.{Asks-send, Checkpoint-send, Memory-send}
 use Rattle.im_engine.specs.contracts.engine.Engine as Engine
 use Rattle.im_session.specs.contracts.session.Session as Session
-use Rattle.im_front.specs.contracts.asks.Asks as Asks
 use Rattle.im_front.specs.contracts.front.Front as Front
 use Rattle.im_noted.proofs.NoteList.TheLaws.TheKnot as noted
 use Rattle.im_trace.specs.contracts.books.Books as Books
@@ -43,15 +41,6 @@ use Rattle.im_serving.specs.contracts.running.Stopped as Stopped
 use Rattle.im_queue.specs.contracts.turns.Turns as Turns
 use Rattle.im_queue.specs.contracts.bell.Bell as Bell
 use Rattle.im_controller.specs.contracts.controller.Controller as Controller
-
-pub Memory-send : IsSend Memory.the_field.row
-Memory-send = search (sendable, crosses) depth 40 fits 30000
-
-pub Checkpoint-send : IsSend Checkpoint.the_field.row
-Checkpoint-send = search (sendable, crosses) depth 40
-
-pub Asks-send : IsSend Asks.the_field.row
-Asks-send = search (sendable, crosses) depth 40 fits 30000
 
 module _ (D : RattleType) (d : disk.Ghosts D.Denot) where
   pub Engine-send : IsSend D → IsSend (Engine.the_field D d).row
