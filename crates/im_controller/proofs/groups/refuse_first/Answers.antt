@@ -1,6 +1,7 @@
-use Rattle.std.proofs.Common.{◌≡◌, ap, ◌∙◌}
-use Rattle.{im_front.specs.State.FrontState, im_trace.specs.Log.LogState}
-use Rattle.im_controller.proofs.Keeping.{lineless-trace, still}
+use Rattle.std.proofs.Common.{◌≡◌, ◌∷◌, Err, slice_get, sym, ap, ◌∙◌, subst}
+use Rattle.{im_front.specs.State.FrontState, im_trace.specs.Log.LogState, im_trace.specs.Log.with_unclaimed}
+use Rattle.im_controller.proofs.Keeping.{first-rest, lineless-trace, still}
+use Rattle.im_controller.specs.{Groups.RefusesFirst, State.SharedState}
 use Rattle.im_controller.proofs.groups.refuse_first.Goals as goal
 
 pub invariant_of-shared : goal.invariant_of-shared
@@ -11,3 +12,22 @@ invariant_of-shared g c =
     let times = still _ old new c.keep.ensures.times lines in
     let same = ap (λ (f : FrontState g.row.D.Denot). f.session) c.withdraw-_first.ensures.same in
     rw (lines, times, same) c.shared.invariant
+
+pub returns-clause-refuses : goal.returns-clause-refuses
+returns-clause-refuses g c = λ _.
+    let f = c.shared.inside.front in let t = c.withdraw-_first.new.self in
+    let first = c.in-Some.first.now in let left = c.withdraw-_first.ensures.same in
+    let s' : SharedState g.row.D.Denot = record {
+      session = t.session;
+      asked = t.asked;
+      log = c.keep.new.self.state;
+      servers = c.shared.inside.servers;
+      shown = c.shared.inside.pane.shown;
+    } in
+    let session = ap (λ (x : FrontState g.row.D.Denot). x.session) left in
+    subst (λ (u : SharedState g.row.D.Denot). RefusesFirst u c.args.refusal s') c.shared.view_is (record {
+      first = first;
+      asked = first-rest f.asked first (sym (c.in-Some.ensures.value ∙ ap (λ l. slice_get l 0) c.asked.ensures))
+          ∙ ap (λ l. first ∷ l) (sym (ap (λ (x : FrontState g.row.D.Denot). x.asked) left));
+      same = λ i. record s' { session = session i; log = c.keep.ensures.log i };
+    })
