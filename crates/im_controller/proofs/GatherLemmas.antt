@@ -1,8 +1,8 @@
 -- A group, with one command after another.
-use Rattle.std.proofs.Common.{◌≡◌, ℕ, zero, suc, ◌+◌, ◌<◌, true, ◌≢◌, List, [], ◌∷◌, ◌++◌, length, get_or, take, drop}
+use Rattle.std.proofs.Common.{◌≡◌, ℕ, zero, suc, ◌+◌, ◌<◌, Bool, true, false, ◌≢◌, ◌==◌, List, [], ◌∷◌, ◌++◌, length, get_or, take, drop}
 use Rattle.std.proofs.Common.{slice_get, Some, None, Option, sym, refl, ap, ◌∙◌, inl, inr}
 use Rattle.std.proofs.Common.{append_assoc, append-nil, arith, length-append}
-use Rattle.std.proofs.lemmas.List.{length-map}
+use Rattle.std.proofs.lemmas.{Bool.Decides.nat_tests, List.length-map}
 use Rattle.std.proofs.Math.Seq.{drop-cons, take-append_seam}
 use Rattle.std.specs.List.{AllByRecursion}
 use Rattle.im_types.specs.Types.{Request, Command, Contents}
@@ -120,6 +120,13 @@ pub none-fits : (plan : Option (List Request)) (places : List (Option UnclaimedS
 none-fits plan places m left [] i d first takes = tt
 none-fits plan places m left (a ∷ asked) zero d first takes = takes
 none-fits plan places m left (a ∷ asked) (suc i) d first takes = absurd (omega (arith, first))
+
+-- a test of whether there is any
+pub no-members : (n : ℕ) (b : Bool) → b ≡ (n == 0) → b ≡ true → n ≡ 0
+no-members n b is none = grind (arith, nat_tests)
+
+pub some-members : (n : ℕ) (b : Bool) → b ≡ (n == 0) → b ≡ false → 0 < n
+some-members n b is some = grind (arith, nat_tests)
 
 -- nothing is put ahead
 pub none-ahead : (m : Contents) (left : ℕ) (p q : PaneView) (rs : List Command) → length rs ≡ 0

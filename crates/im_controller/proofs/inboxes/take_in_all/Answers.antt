@@ -1,8 +1,8 @@
 use Rattle.im_controller.proofs.TakingLemmas.{taken-next, taken-none}
 use Rattle.im_controller.proofs.inboxes.take_in_all.Goals as goal
 
-pub loop-element-start : goal.loop-element-start
-loop-element-start g c = taken-none c.args.inbox.now c.args.front.now
+pub loop-element-init : goal.loop-element-init
+loop-element-init g c = taken-none c.args.inbox.now c.args.front.now
 
 pub loop-element-preserved : goal.loop-element-preserved
 loop-element-preserved g c = taken-next c.args.inbox.now c.args.front.now c.loop-element.element c.loop-element.inbox
