@@ -1,15 +1,13 @@
 -- A group, with one command after another.
-use Rattle.std.proofs.Common.{◌≡◌, ℕ, zero, suc, ◌+◌, ◌<◌, Bool, true, false, ◌≢◌, ◌==◌, List, [], ◌∷◌, ◌++◌, length, get_or, take, drop}
-use Rattle.std.proofs.Common.{slice_get, Some, None, Option, sym, refl, ap, ◌∙◌, inl, inr}
+use Rattle.std.proofs.Common.{◌≡◌, ℕ, zero, suc, ◌+◌, ◌<◌, Bool, true, false, ◌≢◌, List, [], ◌∷◌, ◌++◌, length, get_or}
+use Rattle.std.proofs.Common.{take, drop, ◌==◌, slice_get, Some, None, Option, sym, refl, ap, ◌∙◌, inl, inr}
 use Rattle.std.proofs.Common.{append_assoc, append-nil, arith, length-append}
 use Rattle.std.proofs.lemmas.{Bool.Decides.nat_tests, List.length-map}
-use Rattle.std.proofs.Math.Seq.{drop-cons, take-append_seam}
-use Rattle.std.specs.List.{AllByRecursion}
+use Rattle.std.{proofs.Math.Seq.drop-cons, proofs.Math.Seq.take-append_seam, specs.List.AllByRecursion}
 use Rattle.im_types.specs.Types.{Request, Command, Contents}
 use Rattle.im_groups.specs.Commands.{places_behind, takes_place}
-use Rattle.im_glass.specs.Panes.{PaneView}
-use Rattle.{im_front.specs.declared.AskedCommand.AskedCommand, im_front.specs.Lists.commands_asked}
-use Rattle.im_trace.specs.Log.{sender_of, UnclaimedState}
+use Rattle.im_front.specs.{declared.AskedCommand.AskedCommand, Lists.commands_asked}
+use Rattle.{im_glass.specs.Panes.PaneView, im_trace.specs.Log.sender_of, im_trace.specs.Log.UnclaimedState}
 use Rattle.im_queue.specs.Members.{are_joined, AreOneOfEach, AreSureBehind, IsApartFrom, IsCut, IsSure, IsSureBehind}
 use Rattle.im_queue.specs.Members.{MayJoin}
 use Rattle.im_controller.specs.Groups.{changes_put_all, IsGroup, IsNext, NoneFits}

@@ -1,10 +1,9 @@
 -- The answers to a group's members are the memory's, one after another, and come to the engine's memory.
-use Rattle.std.proofs.Common.{◌≡◌, ℕ, ◌≤◌, Bool, true, false, ◌&&◌, ◌⊎◌, List, [], ◌∷◌, map, length}
-use Rattle.std.proofs.Common.{if◌then◌else◌, IsOk, nat_lt, ◌==◌, Ok, Err, Result, sym, refl, ap, ◌∙◌, subst, ⊎_elim}
-use Rattle.std.proofs.Common.{arith}
+use Rattle.std.proofs.Common.{◌≡◌, ℕ, ◌≤◌, Bool, true, false, ◌&&◌, ◌⊎◌, List, [], ◌∷◌, map, length, if◌then◌else◌}
+use Rattle.std.proofs.Common.{IsOk, nat_lt, ◌==◌, Ok, Err, Result, sym, refl, ap, ◌∙◌, subst, ⊎_elim, arith}
 use Rattle.std.proofs.lemmas.Bool.Decides.{nat_tests}
-use Rattle.im_types.specs.Types.{Command, Outcome, Commands, Served, Refusal, JournalFull, Device}
-use Rattle.im_types.specs.Types.{Contents, step, is_accepted, after, as_served}
+use Rattle.im_types.specs.Types.{Command, Outcome, Commands, Served, Refusal, JournalFull, Device, Contents, step}
+use Rattle.im_types.specs.Types.{is_accepted, after, as_served}
 use Rattle.im_laws.proofs.{AcceptLemmas.accepted-ok, AcceptLemmas.unaccepted-leaves, Tests.true_false}
 use Rattle.{im_groups.proofs.CommandLemmas.at-after, im_engine.specs.State.EngineState}
 use Rattle.im_groups.specs.Commands.{answer_with, answers_with, contents_after_all, contents_with, places}

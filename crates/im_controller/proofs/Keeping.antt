@@ -1,16 +1,16 @@
 -- The members of a group whose answers are still to be kept.
 use Rattle.std.proofs.Common.{◌≡◌, ℕ, suc, ◌+◌, ◌<◌, ◌≤◌, Bool, true, false, ◌≢◌, List, [], ◌∷◌, ◌++◌, length, get_or}
-use Rattle.std.proofs.Common.{drop, if◌then◌else◌, slice_get, slice_set, Some, None, Err, Option, Result, sym, refl, ap, ◌∙◌}
-use Rattle.std.proofs.Common.{subst, append-nil, arith, length-append, length-set, get_or-set_other}
+use Rattle.std.proofs.Common.{drop, if◌then◌else◌, slice_get, slice_set, Some, None, Err, Option, Result, sym, refl, ap}
+use Rattle.std.proofs.Common.{◌∙◌, subst, append-nil, arith, length-append, length-set, get_or-set_other}
 use Rattle.std.proofs.lemmas.Option.{get_or_from_slice_get, slice_get-get_or, slice_get_within}
 use Rattle.std.proofs.Math.Seq.{drop-cons}
 use Rattle.im_types.specs.Types.{Command, Outcome, Line, Commands, Refusal, Contents, end_of}
+use Rattle.im_session.specs.Serving.{served_answer}
+use Rattle.im_front.specs.{declared.ToldAnswer.ToldAnswer, Lists.commands_told}
 use Rattle.im_trace.proofs.LogLemmas.{end-lines, lines_by}
 use Rattle.im_trace.specs.Lines.{leaves_line, left_lines, line_of, times_of}
 use Rattle.im_trace.specs.Log.{GoesOnAt, LogState, sender_of, TimedLog, UnclaimedState, with_unclaimed}
 use Rattle.im_queue.specs.Members.{AreFreeFor, AreOfOthers, AreOneOfEach}
-use Rattle.im_front.{specs.declared.ToldAnswer.ToldAnswer, specs.Lists.commands_told}
-use Rattle.im_session.specs.Serving.{served_answer}
 use Rattle.im_controller.specs.Groups.{AreAnswersTo, lines_left, memory_after_all, outcomes_told, with_all_unclaimed}
 
 get-set_other : {X : Type 0} (xs : List X) (i j : ℕ) (x y : X) → i ≢ j → slice_get xs j ≡ Some y

@@ -9,24 +9,22 @@ use Rattle.im_types.specs.Types.{Device, Failed, Contents, step, is_accepted, af
 use Rattle.im_laws.proofs.{AcceptLemmas.accepted-ok, RunLemmas.accepted-append, RunLemmas.after-accepted}
 use Rattle.im_laws.proofs.{Tests.below_or_from, Tests.true_or_false, TraceLemmas.end_of-commands}
 use Rattle.{im_laws.specs.Traces.commands_of, im_laws.specs.Traces.commands_of_call, im_disk.specs.declared.Disk.Ghosts}
-use Rattle.{im_glass.proofs.PrefixLemmas.prefix_shorter}
+use Rattle.{im_checkpoint.specs.declared.TurnDone.TurnDone, im_session.proofs.KeepingLemmas.now_kept}
+use Rattle.{im_session.proofs.KeepingLemmas.still_kept, im_glass.proofs.PrefixLemmas.prefix_shorter}
 use Rattle.im_groups.specs.Commands.{answer_with, answers_with, command_at, commands_at, contents_with, places}
 use Rattle.im_groups.specs.Commands.{places_behind, takes_place}
-use Rattle.im_checkpoint.{specs.declared.TurnDone.TurnDone}
 use Rattle.im_checkpoint.specs.declared.TurnDone.TheVariants.{Began, Idle, InForce, Page, Swept, Synced}
 use Rattle.im_engine.specs.{Answered.TurnAnswered, State.EngineState}
 use Rattle.im_engine.specs.Commands.{answers_in_turn, commands_put, CommandsAnswered, each_refused}
-use Rattle.im_session.proofs.{KeepingLemmas.now_kept, KeepingLemmas.still_kept}
 use Rattle.im_session.specs.{Keeping.KeepsPut, Keeping.KeptFrom, Kept.Kept, Kept.SessionStart, Kept.SessionState}
-use Rattle.im_session.specs.Put.{doubted_of, sure_of}
-use Rattle.im_session.specs.Serving.{Rests, served_answer, served_together}
+use Rattle.im_session.specs.{Put.doubted_of, Put.sure_of, Serving.Rests, Serving.served_answer, Serving.served_together}
 use Rattle.im_trace.proofs.TimeLemmas.{more-back, none-back, time-later, time-new}
 use Rattle.im_trace.specs.Lines.{leaves_line, left_lines, line_of, NeverGoBack, time_at, times_of}
 use Rattle.im_trace.specs.{Log.GoesOnAt, Log.TimedLog, Origin.Origin}
-use Rattle.im_controller.proofs.{GroupLemmas.answers_served, GroupLemmas.ok-leaves, PutLemmas.lines_all}
-use Rattle.im_controller.proofs.{PutLemmas.one-end, PutLemmas.refused-lines}
-use Rattle.im_controller.specs.{Lends.IsTurnFault, Lends.told_turn, Planned.AreOnPlan, State.OpeningState}
+use Rattle.im_controller.proofs.GroupLemmas.{answers_served, ok-leaves}
+use Rattle.im_controller.proofs.PutLemmas.{lines_all, one-end, refused-lines}
 use Rattle.im_controller.specs.Kept.{accepted_in, begun_by, IsLeftAt, IsOriginOf, IsSessionOf, KeepsSince}
+use Rattle.im_controller.specs.{Lends.IsTurnFault, Lends.told_turn, Planned.AreOnPlan, State.OpeningState}
 use mathlib.Core.List.{IsPrefix}
 
 -- the origin of an opening, by what is known of its parts

@@ -1,21 +1,20 @@
 -- A group that was served, and what is shown then.
 use Rattle.std.proofs.Common.{◌≡◌, ℕ, ◌+◌, ◌<◌, ◌≤◌, min, max, Bool, true, false, List, [], ◌++◌, length, take, Option}
-use Rattle.std.proofs.Common.{sym, refl, ap, ◌∙◌, subst, arith}
-use Rattle.std.proofs.{lemmas.List.length-map, lemmas.List.length-take, lemmas.List.map-append, Math.Seq.take-append_seam}
+use Rattle.std.proofs.Common.{sym, refl, ap, ◌∙◌, subst, arith, length-take}
+use Rattle.std.proofs.{lemmas.List.length-map, lemmas.List.map-append, Math.Seq.take-append_seam}
 use Rattle.im_types.specs.Types.{Request, Command, MAX_GROUP, Contents, WaitingAgrees, end_of, changes_of, shown_by}
 use Rattle.im_types.specs.Types.{Change}
-use Rattle.{im_groups.specs.Ahead.ServesPrefix, im_groups.specs.Commands.places}
+use Rattle.{im_groups.specs.Ahead.ServesPrefix, im_groups.specs.Commands.places, im_glass.specs.Panes.PaneView}
 use Rattle.im_engine.specs.{Commands.commands_put, Commands.CommandsAnswered, State.EngineState}
-use Rattle.im_glass.specs.Panes.{PaneView}
 use Rattle.im_front.specs.declared.{AskedCommand.AskedCommand, ToldAnswer.ToldAnswer}
 use Rattle.im_front.specs.Lists.{answers_told, asks_told, commands_asked, commands_told}
 use Rattle.im_front.specs.State.{Advanced, front_of, FrontState, next_group}
 use Rattle.im_queue.specs.Members.{AreFreeFor, AreOneOfEach, AreSureBehind}
-use Rattle.im_controller.proofs.GroupLemmas.{Fits, members-fit}
+use Rattle.im_controller.proofs.{GroupLemmas.Fits, GroupLemmas.members-fit, SureLemmas.served-all}
 use Rattle.im_controller.proofs.PutLemmas.{all-trace, GroupShows, lines_all, members-shown}
-use Rattle.im_controller.proofs.{ShownLemmas.pane-shows, ShownLemmas.shown-grows, SureLemmas.served-all}
-use Rattle.im_controller.specs.Groups.{AreAnswersTo, changes_put_all, IsGroup, lines_left, outcomes_told}
-use Rattle.im_controller.specs.{Groups.with_all_unclaimed, State.SharedState}
+use Rattle.im_controller.proofs.ShownLemmas.{pane-shows, shown-grows}
+use Rattle.im_controller.specs.{Groups.AreAnswersTo, Groups.changes_put_all, Groups.IsGroup, Groups.lines_left}
+use Rattle.im_controller.specs.{Groups.outcomes_told, Groups.with_all_unclaimed, State.SharedState}
 
 -- ---- all that were gathered are told
 

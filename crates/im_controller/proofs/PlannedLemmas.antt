@@ -10,8 +10,8 @@ use Rattle.im_trace.{proofs.LogLemmas.lines_by, specs.Lines.leaves_line, specs.L
 use Rattle.im_trace.specs.Log.{IsOfTrace, IsProof, ReceiptState}
 use Rattle.im_planning.proofs.MakingLemmas.{in_plan}
 use Rattle.im_controller.proofs.PutLemmas.{lines_all}
-use Rattle.im_controller.specs.Planned.{AreOnPlan, EndsAsPlanned, EndsBy, has_command, has_request, IsOnPlan, KeepsTo, StartsBy}
-use Rattle.im_controller.specs.Planned.{TellsBy, TellsOf}
+use Rattle.im_controller.specs.Planned.{AreOnPlan, EndsAsPlanned, EndsBy, has_command, has_request, IsOnPlan, KeepsTo}
+use Rattle.im_controller.specs.Planned.{StartsBy, TellsBy, TellsOf}
 use mathlib.Core.List.{IsPrefix}
 
 pub keeps-start : (m : Contents) (plan : Option (List Request)) → StartsBy m plan → KeepsTo m plan []

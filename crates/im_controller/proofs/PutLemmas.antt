@@ -1,11 +1,10 @@
 -- What the members of a group change is known before it: it is what their lines show.
-use Rattle.std.proofs.Common.{◌≡◌, ℕ, ◌-◌, Bool, true, false, ◌&&◌, List, [], ◌∷◌, ◌++◌, map, length}
-use Rattle.std.proofs.Common.{if◌then◌else◌, IsOk, nat_lt, ◌==◌, Err, Result, sym, refl, ap, ◌∙◌, subst, ⊎_elim}
-use Rattle.std.proofs.Common.{append_assoc, append-nil, arith}
+use Rattle.std.proofs.Common.{◌≡◌, ℕ, ◌-◌, Bool, true, false, ◌&&◌, List, [], ◌∷◌, ◌++◌, map, length, if◌then◌else◌}
+use Rattle.std.proofs.Common.{IsOk, nat_lt, ◌==◌, Err, Result, sym, refl, ap, ◌∙◌, subst, ⊎_elim, append_assoc}
+use Rattle.std.proofs.Common.{append-nil, arith}
 use Rattle.std.proofs.lemmas.Bool.Decides.{nat_tests}
-use Rattle.im_types.specs.Types.{Command, Outcome, Line, Commands, Served, Refusal, JournalFull, Device}
-use Rattle.im_types.specs.Types.{Contents, WaitingAgrees, step, is_accepted, end_of, change_by, changes_of}
-use Rattle.im_types.specs.Types.{Change}
+use Rattle.im_types.specs.Types.{Command, Outcome, Line, Commands, Served, Refusal, JournalFull, Device, Contents}
+use Rattle.im_types.specs.Types.{WaitingAgrees, step, is_accepted, end_of, change_by, changes_of, Change}
 use Rattle.im_laws.proofs.{AcceptLemmas.accepted-ok, Tests.true_false}
 use Rattle.im_groups.specs.Commands.{answer_with, answers_with, contents_with, places, places_behind, takes_place}
 use Rattle.im_engine.specs.Commands.{answers_in_turn, commands_put, CommandsAnswered, each_refused}

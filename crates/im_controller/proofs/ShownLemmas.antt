@@ -1,14 +1,11 @@
 -- What a trace shows: of a longer one, and of the lines of a command.
-use Rattle.std.proofs.Common.{◌≡◌, ℕ, ◌-◌, Bool, true, false, List, [], ◌∷◌, ◌++◌, length, IfSome}
-use Rattle.std.proofs.Common.{if◌then◌else◌, Some, None, Option, Result, sym, refl, ap, ◌∙◌}
-use Rattle.std.proofs.Common.{⊎_elim, append_assoc, append-nil}
+use Rattle.std.proofs.Common.{◌≡◌, ℕ, ◌-◌, Bool, true, false, List, [], ◌∷◌, ◌++◌, length, IfSome, if◌then◌else◌, Some}
+use Rattle.std.proofs.Common.{None, Option, Result, sym, refl, ap, ◌∙◌, ⊎_elim, append_assoc, append-nil}
 use Rattle.im_types.specs.Types.{Command, Outcome, Call, Line, Commands, Collect, Refusal, Contents, is_accepted}
 use Rattle.im_types.specs.Types.{contents_after, end_of, change_by, changes_at, changes_of, opening, shown_by, Change}
 use Rattle.im_laws.proofs.{MemoryLemmas.step-cell_count, Tests.true_false}
-use Rattle.{im_glass.specs.Panes.PaneView}
-use Rattle.im_trace.proofs.ToldLemmas.{shown-append}
-use Rattle.im_trace.specs.Lines.{leaves_line, left_lines, line_of, memory_after}
-use Rattle.im_trace.specs.{Log.IsToldOf}
+use Rattle.{im_glass.specs.Panes.PaneView, im_trace.proofs.ToldLemmas.shown-append}
+use Rattle.im_trace.specs.{Lines.leaves_line, Lines.left_lines, Lines.line_of, Lines.memory_after, Log.IsToldOf}
 use mathlib.Core.List.{IsPrefix}
 
 pub end-cells : (m : Contents) (trace : List Line) → length (end_of m trace).cells ≡ length m.cells

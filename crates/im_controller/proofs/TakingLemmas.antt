@@ -1,11 +1,10 @@
 -- What is taken out of the inbox and asked of the front, element by element.
 use Rattle.std.proofs.Common.{◌≡◌, ℕ, zero, suc, ◌+◌, ◌<◌, ◌≢◌, List, [], ◌∷◌, ◌++◌, slice_get, slice_set, Some, None}
 use Rattle.std.proofs.Common.{Option, sym, refl, ap, ◌∙◌, inl, inr, append_assoc, append-nil, arith}
-use Rattle.std.proofs.lemmas.List.{map-append}
-use Rattle.std.specs.List.{AllByRecursion}
-use Rattle.{im_types.specs.Types.Command, im_front.specs.State.front_of, im_front.specs.State.FrontState}
-use Rattle.im_front.specs.Lists.{with_ticket}
-use Rattle.{im_trace.specs.Log.sender_of, im_queue.specs.Places.placed_at, im_queue.specs.Places.taken_out}
+use Rattle.std.{proofs.lemmas.List.map-append, specs.List.AllByRecursion}
+use Rattle.{im_types.specs.Types.Command, im_trace.specs.Log.sender_of}
+use Rattle.im_front.specs.{Lists.with_ticket, State.front_of, State.FrontState}
+use Rattle.im_queue.specs.Places.{placed_at, taken_out}
 use Rattle.im_controller.proofs.GatherLemmas.{all_push}
 use Rattle.im_controller.specs.Groups.{TakesIn, TakesInAll, with_elements}
 

@@ -3,9 +3,9 @@
 use Rattle.std.specs.Prelude.{◌≡◌, ℕ, ◌+◌, ◌<◌, ◌≤◌, Bool, true, false, ◌⊎◌, List, [], ◌∷◌, ◌++◌, map, length}
 use Rattle.std.specs.Prelude.{if◌then◌else◌, slice_get, slice_set, Some, None, Err, Option, Result}
 use Rattle.std.specs.List.{AllByRecursion}
-use Rattle.im_types.specs.Types.{Request, Command, Outcome, Line, Commands, Refusal, NoMemory, Failed, TraceFull, OffPlan}
-use Rattle.im_types.specs.Types.{Contents, answer_to, Change}
-use Rattle.im_disk.specs.declared.Disk.{Ghosts}
+use Rattle.im_types.specs.Types.{Request, Command, Outcome, Line, Commands, Refusal, Failed, NoMemory, TraceFull}
+use Rattle.im_types.specs.Types.{OffPlan, Contents, answer_to, Change}
+use Rattle.{im_disk.specs.declared.Disk.Ghosts, im_trace.specs.Origin.Origin}
 use Rattle.im_groups.specs.Commands.{places, places_behind, takes_place}
 use Rattle.im_session.specs.{Keeping.KeepsPut, Keeping.MakesFewCalls, Serving.served_answer}
 use Rattle.im_front.specs.declared.{AskedCommand.AskedCommand, ToldAnswer.ToldAnswer}
@@ -13,8 +13,8 @@ use Rattle.im_front.specs.Lists.{answers_told, commands_asked, commands_told, wi
 use Rattle.im_front.specs.State.{Advanced, front_of, FrontState}
 use Rattle.im_trace.specs.Lines.{counts_after, leaves_line, left_lines, LineCounts, memory_after}
 use Rattle.im_trace.specs.Log.{IsOf, LogState, plain, ReceiptState, sender_of, UnclaimedState, with_unclaimed}
-use Rattle.{im_trace.specs.Origin.Origin, im_queue.specs.Places.AreTakenOut, im_queue.specs.Places.IsAskedAt}
 use Rattle.im_queue.specs.Members.{AreFreeFor, AreOneOfEach, AreSureBehind, IsApartFrom, IsCut, IsSureBehind, MayJoin}
+use Rattle.im_queue.specs.Places.{AreTakenOut, IsAskedAt}
 use Rattle.im_controller.specs.{Lends.changes_put, Planned.has_command, State.SharedState}
 
 -- ---- out of the inbox

@@ -1,19 +1,15 @@
 -- What is done under the lock. (Own.)
-use Rattle.std.specs.Prelude.{◌≡◌, ℕ, ◌<◌, ◌≤◌, Bool, true, false, ◌≢◌, ◌⊎◌, List, [], ◌∷◌, length, if◌then◌else◌}
-use Rattle.std.specs.Prelude.{◌==◌, slice_get, slice_set, Some, Ok, Err, count_by, Result}
-use Rattle.im_types.specs.Types.{Entry, Waiting, Command, Outcome, Call, Line, Collect, Refusal, NoElement}
-use Rattle.im_types.specs.Types.{JournalFull, Device, Failed, TraceFull, Stalled, Contents, told}
-use Rattle.im_types.specs.Types.{change_by, Change}
-use Rattle.{im_groups.specs.Commands.takes_place}
+use Rattle.std.specs.Prelude.{◌≡◌, ℕ, ◌<◌, ◌≤◌, Bool, true, false, ◌≢◌, ◌⊎◌, List, [], ◌∷◌, length, if◌then◌else◌, ◌==◌}
+use Rattle.std.specs.Prelude.{slice_get, slice_set, Some, Ok, Err, count_by, Result}
+use Rattle.im_types.specs.Types.{Entry, Waiting, Command, Outcome, Call, Line, Collect, Refusal, NoElement, JournalFull}
+use Rattle.im_types.specs.Types.{Device, Failed, TraceFull, Stalled, Contents, told, change_by, Change}
+use Rattle.{im_groups.specs.Commands.takes_place, im_engine.specs.Answered.TurnAnswered}
 use Rattle.im_checkpoint.specs.declared.TurnDone.{TheVariants.Idle, TurnDone}
-use Rattle.im_engine.specs.Answered.{TurnAnswered}
-use Rattle.im_trace.specs.{Lines.counts_after, Lines.left_lines, Lines.LineCounts}
-use Rattle.im_trace.specs.Log.{with_line}
+use Rattle.im_trace.specs.{Lines.counts_after, Lines.left_lines, Lines.LineCounts, Log.with_line}
 use Rattle.im_queue.specs.declared.Ask.{Ask, TheVariants.Go, TheVariants.Wait}
 use Rattle.im_queue.specs.declared.ServerState.{ServerState, TheVariants.Active, TheVariants.Unmade, TheVariants.Waits}
 use Rattle.im_queue.specs.Servers.{are_stuck, entry_under, is_answered, is_waiting_server, with_server}
-use Rattle.im_controller.specs.{declared.standing.Standing.Standing}
-use Rattle.im_controller.specs.State.{PortState, SharedState}
+use Rattle.im_controller.specs.{declared.standing.Standing.Standing, State.PortState, State.SharedState}
 
 -- a call's line, if it leaves one, is in the log; the servers stay
 pub record LeavesLine {D : Type 0} (s : SharedState D) (call : Call) (answer : Result Outcome Refusal)

@@ -1,8 +1,8 @@
 -- What lies under the lock, as contracts see it. (Own.)
 use Rattle.std.specs.Prelude.{◌≡◌, ℕ, Bool, true, false, List, Some, None, Option}
 use Rattle.im_types.specs.Types.{Request, Line, Change}
-use Rattle.{im_session.specs.Kept.SessionState, im_queue.specs.declared.ServerState.ServerState}
-use Rattle.im_front.specs.declared.AskedCommand.{AskedCommand}
+use Rattle.im_session.specs.Kept.{SessionState}
+use Rattle.{im_front.specs.declared.AskedCommand.AskedCommand, im_queue.specs.declared.ServerState.ServerState}
 use Rattle.im_trace.specs.{Books.BookNames, Lines.LineCounts, Log.LogState}
 
 -- what lies under the lock: the session, what is asked of it and not told yet, its log, what each element's server

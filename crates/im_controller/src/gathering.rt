@@ -1,9 +1,10 @@
 //! Which of the commands that are asked are the next group: those that the plan has, whose answers have free places and
 //! lines, and for whose changes the pane has room.
-ghost use Rattle.std.specs.Prelude.{◌≡◌, ◌+◌, ◌<◌, ◌≤◌, max, true, false, ◌≢◌, ◌++◌, length, take, slice_get, Some, None};
+ghost use Rattle.std.specs.Prelude.{◌≡◌, ◌+◌, ◌<◌, ◌≤◌, max, true, false, ◌≢◌, ◌++◌, length, take, slice_get, Some};
+ghost use Rattle.std.specs.Prelude.{None};
 ghost use Rattle.im_types.specs.Types.{Command, Contents};
 ghost use Rattle.im_groups.specs.Commands.{places, places_behind, takes_place};
-ghost use Rattle.{im_trace.specs.Log.sender_of, im_front.specs.Lists.commands_asked};
+ghost use Rattle.{im_front.specs.Lists.commands_asked, im_trace.specs.Log.sender_of};
 ghost use Rattle.im_controller.specs.Groups.{changes_put_all, first_refusal, IsGroup, IsNext, NoneFits};
 ghost use Rattle.im_controller.specs.Planned.{has_command};
 

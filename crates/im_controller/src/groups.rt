@@ -1,5 +1,5 @@
 //! What is asked is served from the front, in groups. The answers wait for their ports.
-ghost use Rattle.std.specs.Prelude.{◌≡◌, true, false, IfErr, IfSome, OnErr, OnOk};
+ghost use Rattle.std.specs.Prelude.{◌≡◌, true, false, IfSome, IfErr, OnOk, OnErr};
 ghost use Rattle.{im_types.specs.Types.is_of_numbers, im_trace.specs.Log.SeesAnswer};
 ghost use Rattle.im_controller.specs.Groups.{CountsAnswer, IsRefusedFor, RefusesFirst, ServesFirst};
 ghost use Rattle.im_controller.specs.Planned.{TellsOf};
@@ -54,12 +54,7 @@ pub fn serve_first<D: Disk, K: Name, R: Wait>(
     let count = engine.count();
     let memory = engine.memory();
     let _cells = memory.cells(); // So that it is known that its lists of waiters agree with what waits.
-    let members = gather(
-        &shared.front,
-        &shared.plan,
-        &shared.log,
-        &mut shared.pane,
-    );
+    let members = gather(&shared.front, &shared.plan, &shared.log, &mut shared.pane);
     if members.is_empty() {
         return Err(refusal_of(&shared.plan, shared.front.asked()));
     }
@@ -89,12 +84,7 @@ fn refuse_first<D: Disk, K: Name>(shared: &mut Shared<D, K>, refusal: Refusal) -
         return false;
     }
     let _first = shared.front.withdraw();
-    shared.log.keep(
-        &command,
-        Err(refusal),
-        false,
-        shared.front.engine().disk(),
-    );
+    shared.log.keep(&command, Err(refusal), false, shared.front.engine().disk());
     true
 }
 

@@ -1,7 +1,6 @@
 //! What the members of a group are answered, and how their answers wait for their ports.
 ghost use Rattle.std.specs.Prelude.{◌≡◌, ◌+◌, ◌≤◌, map, length};
-ghost use Rattle.{im_types.specs.Types.end_of, im_trace.specs.Log.GoesOnAt};
-ghost use Rattle.im_front.specs.Lists.{commands_told};
+ghost use Rattle.{im_types.specs.Types.end_of, im_front.specs.Lists.commands_told, im_trace.specs.Log.GoesOnAt};
 ghost use Rattle.im_queue.specs.Members.{AreFreeFor, AreOneOfEach};
 ghost use Rattle.im_controller.specs.Groups.{AreAnswersTo, lines_left, memory_after_all, outcomes_told};
 ghost use Rattle.im_controller.specs.Groups.{with_all_unclaimed};

@@ -5,12 +5,12 @@ use Rattle.core.proofs.{ledger.Sent.book_send, ledger.Sent.share_send, snapshot.
 use Rattle.logbook.proofs.tokens.{Pen.TheSendSync.the_send as pen_send, Seen.TheSendSync.the_send as seen_send}
 use Rattle.logbook.proofs.word.Word.TheSendSync.{the_send as word_send}
 use Rattle.std.proofs.Crossing.{crosses}
+use Rattle.im_front.proofs.Crossing.{Asks-send, Checkpoint-send, Memory-send}
 use Rattle.im_glass.proofs.glance.Glance.TheSendSync.{the_send as glance_send}
 use Rattle.im_glass.proofs.pane.Pane.TheSendSync.{the_send as pane_send}
 use Rattle.im_planning.proofs.plan.Plan.TheSendSync.{the_send as plan_send}
 use Rattle.im_disk.specs.declared.disk.Disk as disk
 use Rattle.im_trace.specs.declared.name.Name as name
-use Rattle.im_front.proofs.Crossing.{Asks-send, Checkpoint-send, Memory-send}
 use Rattle.im_engine.specs.contracts.engine.Engine as Engine
 use Rattle.im_session.specs.contracts.session.Session as Session
 use Rattle.im_front.specs.contracts.front.Front as Front

@@ -1,7 +1,7 @@
-use Rattle.std.proofs.Common.{◌≡◌, min, max, length, drop, refl, ap, ◌∙◌, sym, subst, arith, length-append, rules}
-use Rattle.im_types.specs.Types.{Command, Contents, MAX_GROUP}
-use Rattle.{im_engine.specs.State.EngineState, im_front.specs.Lists.commands_asked, im_glass.specs.Panes.PaneView}
-use Rattle.im_groups.specs.Commands.{places}
+use Rattle.std.proofs.Common.{◌≡◌, min, max, length, drop, sym, refl, ap, ◌∙◌, subst, arith, length-append, rules}
+use Rattle.im_types.specs.Types.{Command, MAX_GROUP, Contents}
+use Rattle.{im_groups.specs.Commands.places, im_engine.specs.State.EngineState, im_glass.specs.Panes.PaneView}
+use Rattle.im_front.specs.Lists.{commands_asked}
 use Rattle.im_controller.proofs.GatherLemmas.{asked-next, first-ones, gathering-ahead, gathering-more, gathering-none}
 use Rattle.im_controller.proofs.GatherLemmas.{none-fits}
 use Rattle.im_controller.specs.Groups.{IsGroup}

@@ -1,4 +1,4 @@
-use Rattle.std.proofs.Common.{◌≡◌, ◌++◌, ◌≤◌, drop, length}
+use Rattle.std.proofs.Common.{◌≡◌, ◌≤◌, ◌++◌, length, drop}
 use Rattle.im_front.specs.Lists.{commands_asked}
 use Rattle.im_controller.proofs.GatherLemmas.{Gathering}
 

@@ -1,4 +1,4 @@
-use Rattle.std.proofs.Common.{◌≡◌, ◌∷◌, Err, slice_get, sym, ap, ◌∙◌, subst}
+use Rattle.std.proofs.Common.{◌≡◌, ◌∷◌, slice_get, Err, sym, ap, ◌∙◌, subst}
 use Rattle.{im_front.specs.State.FrontState, im_trace.specs.Log.LogState, im_trace.specs.Log.with_unclaimed}
 use Rattle.im_controller.proofs.Keeping.{first-rest, lineless-trace, still}
 use Rattle.im_controller.specs.{Groups.RefusesFirst, State.SharedState}

@@ -1,17 +1,17 @@
-use Rattle.std.proofs.Common.{◌≡◌, ℕ, false, ◌++◌, List, Option, length, sym, refl, ap, ◌∙◌, subst, arith}
+use Rattle.std.proofs.Common.{◌≡◌, ℕ, false, List, ◌++◌, length, Option, sym, refl, ap, ◌∙◌, subst, arith}
 use Rattle.im_types.specs.Types.{Line, Contents, shown_by}
-use Rattle.{im_engine.specs.State.EngineState, im_front.specs.Lists.answers_told, im_front.specs.Lists.commands_asked}
-use Rattle.{im_front.specs.Lists.commands_told, im_glass.specs.Panes.PaneView, im_laws.proofs.Tests.true_false}
-use Rattle.im_trace.specs.Log.{LogState}
+use Rattle.{im_laws.proofs.Tests.true_false, im_glass.specs.Panes.PaneView, im_trace.specs.Log.LogState}
+use Rattle.im_engine.specs.State.{EngineState}
+use Rattle.im_front.specs.Lists.{answers_told, commands_asked, commands_told}
 use Rattle.im_controller.proofs.GatherLemmas.{no-members, none-ahead, some-members}
+use Rattle.im_controller.proofs.groups.serve_first.{Given.Over, Goals.After-advance_kept}
 use Rattle.im_controller.proofs.KeptLemmas.{session_group, times_at, times_on}
 use Rattle.im_controller.proofs.Lending.{Group, group-fits, group-is, group-keeps, group-pane}
-use Rattle.im_controller.proofs.{PlannedLemmas.keeps-all, PlannedLemmas.keeps-starts, PlannedLemmas.on-all}
+use Rattle.im_controller.proofs.PlannedLemmas.{keeps-all, keeps-starts, on-all}
 use Rattle.im_controller.proofs.{PutLemmas.all-trace, ShownLemmas.end-cells}
 use Rattle.im_controller.specs.Groups.{first_refusal, IsRefusedFor, memory_after_all, outcomes_told, ServesFirst}
-use Rattle.im_controller.specs.{Groups.with_all_unclaimed, Planned.KeepsTo, State.SharedState}
-use Rattle.im_controller.proofs.groups.serve_first.Given.{Over}
-use Rattle.im_controller.proofs.groups.serve_first.Goals.{After-advance_kept}
+use Rattle.im_controller.specs.Groups.{with_all_unclaimed}
+use Rattle.im_controller.specs.{Planned.KeepsTo, State.SharedState}
 use Rattle.im_controller.proofs.groups.serve_first.Goals as goal
 
 pub gather-members-requires : goal.gather-members-requires

@@ -1,7 +1,7 @@
 use Rattle.std.proofs.Common.{◌≡◌, ◌+◌, get_or, drop, sym, ap, ◌∙◌, subst, arith}
 use Rattle.im_types.specs.Types.{I, Alloc, Asks, Unserved}
-use Rattle.im_front.{specs.declared.ToldAnswer.ToldAnswer, specs.Lists.commands_told, specs.Lists.with_ticket}
 use Rattle.im_session.specs.Serving.{served_answer}
+use Rattle.im_front.specs.{declared.ToldAnswer.ToldAnswer, Lists.commands_told, Lists.with_ticket}
 use Rattle.im_trace.{proofs.TimeLemmas.goes-on-at, specs.Log.LogState, specs.Log.with_unclaimed}
 use Rattle.im_controller.{proofs.Keeping.Keeps, proofs.Keeping.keeps_at, specs.Groups.outcomes_told}
 
