@@ -10,7 +10,7 @@ use Rattle.im_front.specs.{declared.AskedCommand.AskedCommand, Lists.commands_as
 use Rattle.{im_glass.specs.Panes.PaneView, im_trace.specs.Log.sender_of, im_trace.specs.Log.UnclaimedState}
 use Rattle.im_queue.specs.Members.{are_joined, AreOneOfEach, AreSureBehind, IsApartFrom, IsCut, IsSure, IsSureBehind}
 use Rattle.im_queue.specs.Members.{MayJoin}
-use Rattle.im_controller.specs.Groups.{changes_put_all, IsGroup, IsNext, NoneFits}
+use Rattle.im_controller.specs.Groups.{changes_put_all, FormsGroup, MayBeNext, NoneFits}
 use Rattle.im_controller.specs.{Lends.changes_put, Planned.has_command}
 
 -- ---- one more
@@ -41,11 +41,11 @@ behind_push m (q ∷ rs) r sure (inl none) = absurd (cc)
 behind_push m (q ∷ rs) r sure (inr is) = all_push (IsSure m) rs r sure is
 
 module _ (plan : Option (List Request)) (places : List (Option UnclaimedState)) (m : Contents) where
-  group-none : IsGroup plan places m []
+  group-none : FormsGroup plan places m []
   group-none = record { planned = tt; free = tt; apart = tt; cut = tt; sure = tt }
 
-  group_push : (rs : List Command) (r : Command) → IsGroup plan places m rs → IsNext plan places m r rs
-      → IsGroup plan places m (rs ++ r ∷ [])
+  group_push : (rs : List Command) (r : Command) → FormsGroup plan places m rs → MayBeNext plan places m r rs
+      → FormsGroup plan places m (rs ++ r ∷ [])
   group_push rs r g is = record {
     planned = all_push (λ (c : Command). has_command plan c ≡ true) rs r g.planned is.planned;
     free = all_push (λ (c : Command). slice_get places (sender_of c) ≡ Some None) rs r g.free is.free;
@@ -56,7 +56,7 @@ module _ (plan : Option (List Request)) (places : List (Option UnclaimedState)) 
 
   -- a group so far, with what it changes put ahead, and so many places left behind it
   pub record Gathering (first : ℕ) (p0 : PaneView) (rs : List Command) (left : ℕ) (p : PaneView) : Type 0 where
-    pub group : IsGroup plan places m rs
+    pub group : FormsGroup plan places m rs
     pub puts : (qs : List Command) → p.ahead ++ changes_put_all m left qs
         ≡ p0.ahead ++ changes_put_all m first (rs ++ qs)
     pub pane : p ≡ record p0 { ahead = p.ahead }
@@ -67,7 +67,7 @@ module _ (plan : Option (List Request)) (places : List (Option UnclaimedState)) 
 
   module _ (first : ℕ) (p0 : PaneView) (rs : List Command) (left : ℕ) (p : PaneView)
       (k : Gathering first p0 rs left p) where
-    pub gathering-more : (r : Command) → IsNext plan places m r rs → (now : ℕ) → now ≡ places_behind m left r
+    pub gathering-more : (r : Command) → MayBeNext plan places m r rs → (now : ℕ) → now ≡ places_behind m left r
         → (q : PaneView) → q ≡ record p { ahead = p.ahead ++ changes_put m left r }
         → Gathering first p0 (rs ++ r ∷ []) now q
     gathering-more r is now left_is q put =

@@ -8,12 +8,12 @@ use Rattle.{im_groups.specs.Ahead.ServesPrefix, im_groups.specs.Commands.places,
 use Rattle.im_engine.specs.{Commands.commands_put, Commands.CommandsAnswered, State.EngineState}
 use Rattle.im_front.specs.declared.{AskedCommand.AskedCommand, ToldAnswer.ToldAnswer}
 use Rattle.im_front.specs.Lists.{answers_told, asks_told, commands_asked, commands_told}
-use Rattle.im_front.specs.State.{Advanced, front_of, FrontState, next_group}
+use Rattle.im_front.specs.State.{Advanced, first_group, front_of, FrontState}
 use Rattle.im_queue.specs.Members.{AreFreeFor, AreOneOfEach, AreSureBehind}
 use Rattle.im_controller.proofs.{GroupLemmas.Fits, GroupLemmas.members-fit, SureLemmas.served-all}
 use Rattle.im_controller.proofs.PutLemmas.{all-trace, GroupShows, lines_all, members-shown}
 use Rattle.im_controller.proofs.ShownLemmas.{pane-shows, shown-grows}
-use Rattle.im_controller.specs.{Groups.AreAnswersTo, Groups.changes_put_all, Groups.IsGroup, Groups.lines_left}
+use Rattle.im_controller.specs.{Groups.AreAnswersTo, Groups.changes_put_all, Groups.FormsGroup, Groups.lines_left}
 use Rattle.im_controller.specs.{Groups.outcomes_told, Groups.with_all_unclaimed, State.SharedState}
 
 -- ---- all that were gathered are told
@@ -31,7 +31,7 @@ module _ {D : Type 0} (f : FrontState D) (members put : List Command) (told : Li
       omega (arith, ap length first, long, all)
 
   next-is : members ≡ take (length members) (commands_asked f.asked) → length members ≤ room_of f.session.engine
-      → length members ≤ MAX_GROUP → next_group (length members) f ≡ members
+      → length members ≤ MAX_GROUP → first_group (length members) f ≡ members
   next-is first room few =
       let asked = many-asked first in
       let all : min (min (length members) (room_of f.session.engine)) (min MAX_GROUP (length f.asked))
@@ -51,7 +51,7 @@ module _ {D : Type 0} (f : FrontState D) (members put : List Command) (told : Li
 
   pub all-told : members ≡ take (length members) (commands_asked f.asked) → length members ≤ room_of f.session.engine
       → length members ≤ MAX_GROUP → AreSureBehind f.session.engine.memory members → f.asked ≡ asks_told told ++ rest
-      → ServesPrefix f.session.engine.memory put (next_group (length members) f) (length told)
+      → ServesPrefix f.session.engine.memory put (first_group (length members) f) (length told)
       → commands_told told ≡ members
   all-told first room few sure order begins =
       let it = subst (λ (cs : List Command). ServesPrefix f.session.engine.memory put cs (length told))
@@ -67,7 +67,7 @@ pub record Group {D : Type 0} (plan : Option (List Request)) (s : SharedState D)
   pub answered : CommandsAnswered s.session.engine (commands_told told) (answers_told told) f
   pub alive : s.session.engine.failed ≡ false
   pub agrees : WaitingAgrees s.session.engine.memory
-  pub group : IsGroup plan s.log.places s.session.engine.memory (commands_told told)
+  pub group : FormsGroup plan s.log.places s.session.engine.memory (commands_told told)
   pub some : 0 < length told
   pub lines : length s.log.trace + length (commands_told told) ≤ s.log.limit
 
@@ -77,23 +77,23 @@ pub group-is : {D : Type 0} (plan p : Option (List Request)) (s : SharedState D)
     → 0 < length members → members ≡ take (length members) (commands_asked s.asked)
     → length members ≤ max 1 (places s.session.engine.count s.session.engine.room) → length members ≤ MAX_GROUP
     → length s.log.trace + length members ≤ s.log.limit
-    → IsGroup p s.log.places s.session.engine.memory members
+    → FormsGroup p s.log.places s.session.engine.memory members
     → ServesPrefix s.session.engine.memory (commands_put s.session.engine (commands_told told))
-    (next_group most (front_of s.session s.asked)) (length told)
+    (first_group most (front_of s.session s.asked)) (length told)
     → Advanced (front_of s.session s.asked) told t → x ≡ s.session.engine → s.session.engine.failed ≡ false
     → n ≡ x.memory → WaitingAgrees n → Group plan s t.session.engine told
-group-is {D = D} plan p s x n members most told t planned many some first room few lines group begins advanced looked alive
-    memory agrees =
+group-is {D = D} plan p s x n members most told t planned many some first room few lines group begins advanced looked
+    alive memory agrees =
     let all = all-told (front_of s.session s.asked) members (commands_put s.session.engine (commands_told told)) told
     t.asked first room few group.sure advanced.order
     (subst (λ (k : ℕ). ServesPrefix s.session.engine.memory (commands_put s.session.engine (commands_told told))
-    (next_group k (front_of s.session s.asked)) (length told)) many begins) in
+    (first_group k (front_of s.session s.asked)) (length told)) many begins) in
     record {
       answered = advanced.answered;
       alive = alive;
       agrees = subst WaitingAgrees (memory ∙ ap (λ (y : EngineState D). y.memory) looked) agrees;
-      group = subst (λ (q : Option (List Request)). IsGroup q s.log.places s.session.engine.memory (commands_told told))
-          planned (subst (λ (cs : List Command). IsGroup p s.log.places s.session.engine.memory cs) (sym all) group);
+      group = subst (λ (q : Option (List Request)). FormsGroup q s.log.places s.session.engine.memory (commands_told told))
+          planned (subst (λ (cs : List Command). FormsGroup p s.log.places s.session.engine.memory cs) (sym all) group);
       some = omega (arith, some, ap length all, told-long (front_of s.session s.asked) members [] told t.asked);
       lines = omega (arith, lines, ap length all);
     }

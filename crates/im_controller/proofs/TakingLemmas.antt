@@ -52,7 +52,11 @@ module _ {D : Type 0} (start : List (Option Command)) (f0 : FrontState D) where
 
   pub taken-none : Taken 0 start f0
   taken-none = (
-    record { taken = []; found = record { asked = tt; rest = refl }; asked = ap (front_of f0.session) (sym (append-nil f0.asked)) },
+    record {
+      taken = [];
+      found = record { asked = tt; rest = refl };
+      asked = ap (front_of f0.session) (sym (append-nil f0.asked));
+    },
     tt,
   )
 
@@ -84,5 +88,6 @@ module _ {D : Type 0} (start : List (Option Command)) (f0 : FrontState D) where
               ∙ ap (λ l. f0.asked ++ l)
               (sym (map-append (λ (c : Command). with_ticket (sender_of c) c) cs (it.one ∷ []))));
         },
-        all_push (λ (c : Command). sender_of c < element + 1) cs it.one (below_weaker element cs t.1) (omega (arith, of)),
+        all_push (λ (c : Command). sender_of c < element + 1) cs it.one (below_weaker element cs t.1)
+            (omega (arith, of)),
       )

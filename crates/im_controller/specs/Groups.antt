@@ -1,5 +1,5 @@
--- What is asked under the lock: how it comes out of the inbox, which commands are one group, and what serving them does.
--- (Own.)
+-- What is asked under the lock: how it comes out of the inbox, which commands are one group, and what serving them
+-- does. (Own.)
 use Rattle.std.specs.Prelude.{◌≡◌, ℕ, ◌+◌, ◌<◌, ◌≤◌, Bool, true, false, ◌⊎◌, List, [], ◌∷◌, ◌++◌, map, length}
 use Rattle.std.specs.Prelude.{if◌then◌else◌, slice_get, slice_set, Some, None, Err, Option, Result}
 use Rattle.std.specs.List.{AllByRecursion}
@@ -81,7 +81,7 @@ outcomes_told told = map served_answer (answers_told told)
 
 -- A command may be the next one of a group after these: the plan has it, there is a free place for its answer, it is of
 -- another element, and whether it is accepted and what it changes is known before they act.
-pub record IsNext (plan : Option (List Request)) (places : List (Option UnclaimedState)) (m : Contents)
+pub record MayBeNext (plan : Option (List Request)) (places : List (Option UnclaimedState)) (m : Contents)
     (command : Command) (cs : List Command) : Type 0 where
   pub planned : has_command plan command ≡ true
   pub free : slice_get places (sender_of command) ≡ Some None
@@ -90,7 +90,7 @@ pub record IsNext (plan : Option (List Request)) (places : List (Option Unclaime
   pub sure : IsSureBehind m command cs
 
 -- commands that may be one group
-pub record IsGroup (plan : Option (List Request)) (places : List (Option UnclaimedState)) (m : Contents)
+pub record FormsGroup (plan : Option (List Request)) (places : List (Option UnclaimedState)) (m : Contents)
     (cs : List Command) : Type 0 where
   pub planned : AllByRecursion (λ (c : Command). has_command plan c ≡ true) cs
   pub free : AreFreeFor places cs
@@ -98,12 +98,17 @@ pub record IsGroup (plan : Option (List Request)) (places : List (Option Unclaim
   pub cut : IsCut cs
   pub sure : AreSureBehind m cs
 
--- None of these is a group: there is none, or the plan doesn't have the first one, or an answer waits in its place, or it
--- takes a place and the pane has no room for its change.
+-- None of these is a group: there is none, or the plan doesn't have the first one, or an answer waits in its place, or
+-- it takes a place and the pane has no room for its change.
 abbrev pub NoneFits : Option (List Request) → List (Option UnclaimedState) → Contents → ℕ → List Command → Type 0
 NoneFits plan places m left [] = Unit {0}
 NoneFits plan places m left (c ∷ cs) =
     has_command plan c ≡ true → slice_get places (sender_of c) ≡ Some None → takes_place m left c ≡ true
+
+-- the same of what is asked of a front
+abbrev pub NoneFitsIn : {D : Type 0} → Option (List Request) → List (Option UnclaimedState) → FrontState D → Type 0
+NoneFitsIn plan unclaimed f = let e = f.session.engine in
+    NoneFits plan unclaimed e.memory (places e.count e.room) (commands_asked f.asked)
 
 -- why the first of these isn't served, if the engine works and there is room for its line
 abbrev pub first_refusal : Option (List Request) → List Command → Refusal
@@ -119,7 +124,7 @@ changes_put_all m left (c ∷ cs) = changes_put m left c ++ changes_put_all m (p
 
 -- The first commands that are asked are served as one group. Their ports take the answers later, and count the lines
 -- then.
-pub record ServesFirst {D : Type 0} (disk : Ghosts D) (origin : Origin) (s s' : SharedState D) : Type 0 where
+pub record ServesAsked {D : Type 0} (disk : Ghosts D) (origin : Origin) (s s' : SharedState D) : Type 0 where
   -- what was asked first is told first, and answered as by the engine
   pub told : List ToldAnswer
   pub some : 0 < length told
@@ -147,11 +152,11 @@ pub record IsRefusedFor {D : Type 0} (plan : Option (List Request)) (s : SharedS
   pub other : s.session.engine.failed ≡ false → length s.log.trace < s.log.limit
       → refusal ≡ first_refusal plan (commands_asked s.asked)
   -- then the command takes a place, unless an answer waits in its place
-  pub roomless : s.session.engine.failed ≡ false → length s.log.trace < s.log.limit →
-      let e = s.session.engine in NoneFits plan s.log.places e.memory (places e.count e.room) (commands_asked s.asked)
+  pub roomless : s.session.engine.failed ≡ false → length s.log.trace < s.log.limit
+      → NoneFitsIn plan s.log.places (front_of s.session s.asked)
 
 -- The first command that is asked is refused, and its refusal waits for its port. All else stays.
-pub record RefusesFirst {D : Type 0} (s : SharedState D) (refusal : Refusal) (s' : SharedState D) : Type 0 where
+pub record RefusesAsked {D : Type 0} (s : SharedState D) (refusal : Refusal) (s' : SharedState D) : Type 0 where
   pub first : AskedCommand
   pub asked : s.asked ≡ first ∷ s'.asked
   pub same : s' ≡ record s { asked = s'.asked; log = with_unclaimed s.log first.command (Err refusal) }

@@ -5,7 +5,7 @@ ghost use Rattle.std.specs.Prelude.{None};
 ghost use Rattle.im_types.specs.Types.{Command, Contents};
 ghost use Rattle.im_groups.specs.Commands.{places, places_behind, takes_place};
 ghost use Rattle.{im_front.specs.Lists.commands_asked, im_trace.specs.Log.sender_of};
-ghost use Rattle.im_controller.specs.Groups.{changes_put_all, first_refusal, IsGroup, IsNext, NoneFits};
+ghost use Rattle.im_controller.specs.Groups.{changes_put_all, first_refusal, FormsGroup, MayBeNext, NoneFitsIn};
 ghost use Rattle.im_controller.specs.Planned.{has_command};
 
 use crate::panes::put_ahead;
@@ -40,7 +40,7 @@ fn is_next<K: Name>(
     members: &[Command],
 ) -> bool
     ensures next { result ≡ true
-        → IsNext plan.now log.now.state.places memory.now.contents command.now members.now }
+        → MayBeNext plan.now log.now.state.places memory.now.contents command.now members.now }
     ensures first { result ≡ false → length members.now ≡ 0 → has_command plan.now command.now ≡ true
         → slice_get log.now.state.places (sender_of command.now) ≢ Some None }
 {
@@ -62,12 +62,11 @@ pub(crate) fn gather<D: Disk, K: Name, J: PaneName>(
 ) -> ArrayVec<Command, MAX_GROUP>
     requires cells { pane.old.cells ≡ length front.now.session.engine.memory.cells }
     ensures first { result.items ≡ take (length result.items) (commands_asked front.now.asked) }
-    ensures group { IsGroup plan.now log.now.state.places front.now.session.engine.memory result.items }
+    ensures group { FormsGroup plan.now log.now.state.places front.now.session.engine.memory result.items }
     ensures lines { length log.now.state.trace + length result.items ≤ log.now.state.limit }
     ensures places { let e = front.now.session.engine in length result.items ≤ max 1 (places e.count e.room) }
-    ensures none { let e = front.now.session.engine in length log.now.state.trace < log.now.state.limit
-        → length result.items ≡ 0 → NoneFits plan.now log.now.state.places e.memory (places e.count e.room)
-        (commands_asked front.now.asked) }
+    ensures none { length log.now.state.trace < log.now.state.limit → length result.items ≡ 0
+        → NoneFitsIn plan.now log.now.state.places front.now }
     ensures ahead { let e = front.now.session.engine in pane.new ≡ record pane.old {
       ahead = pane.old.ahead ++ changes_put_all e.memory (places e.count e.room) result.items;
     } }

@@ -1,7 +1,7 @@
 //! What is asked is served from the front, in groups. The answers wait for their ports.
 ghost use Rattle.std.specs.Prelude.{◌≡◌, true, false, IfSome, IfErr, OnOk, OnErr};
 ghost use Rattle.{im_types.specs.Types.is_of_numbers, im_trace.specs.Log.SeesAnswer};
-ghost use Rattle.im_controller.specs.Groups.{CountsAnswer, IsRefusedFor, RefusesFirst, ServesFirst};
+ghost use Rattle.im_controller.specs.Groups.{CountsAnswer, IsRefusedFor, RefusesAsked, ServesAsked};
 ghost use Rattle.im_controller.specs.Planned.{TellsOf};
 
 use crate::gathering::{gather, refusal_of};
@@ -39,7 +39,7 @@ pub fn serve_first<D: Disk, K: Name, R: Wait>(
     rt: &R,
     shared: &mut Shared<D, K>,
 ) -> Result<(), Refusal>
-    ensures serves { OnOk result (ServesFirst D.Disk K.origin shared.old shared.new) }
+    ensures serves { OnOk result (ServesAsked D.Disk K.origin shared.old shared.new) }
     ensures same { OnErr result (shared.new ≡ shared.old) }
     ensures refused { IfErr result (IsRefusedFor K.origin.plan shared.old) }
     ensures lineless { IfErr result (λ refusal. is_of_numbers refusal ≡ false) }
@@ -73,7 +73,7 @@ pub fn serve_first<D: Disk, K: Name, R: Wait>(
 // it doesn't if nothing is asked, or an answer still waits in its place.
 fn refuse_first<D: Disk, K: Name>(shared: &mut Shared<D, K>, refusal: Refusal) -> bool
     requires lineless { is_of_numbers refusal ≡ false }
-    ensures refuses { result ≡ true → RefusesFirst shared.old refusal shared.new }
+    ensures refuses { result ≡ true → RefusesAsked shared.old refusal shared.new }
     ensures same { result ≡ false → shared.new ≡ shared.old }
 {
     let Some(first) = shared.front.asked().first() else {

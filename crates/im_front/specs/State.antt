@@ -17,8 +17,8 @@ front_of session asked = record { session = session; asked = asked }
 
 -- the first commands that are asked, as many as may be one group: no more than this, than a group has, and than there
 -- are places for; or one, if there is none
-abbrev pub next_group : {D : Type 0} → ℕ → FrontState D → List Command
-next_group most f = let e = f.session.engine in
+abbrev pub first_group : {D : Type 0} → ℕ → FrontState D → List Command
+first_group most f = let e = f.session.engine in
     take (min (min most (max 1 (places e.count e.room))) (min MAX_GROUP (length f.asked))) (commands_asked f.asked)
 
 -- nothing was put, and nothing was told

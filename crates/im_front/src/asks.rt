@@ -1,5 +1,5 @@
 //! The queue of what is asked. It goes out in groups, from the front, and each answer goes with its ticket.
-ghost use Rattle.std.specs.Prelude.{◌≡◌, ◌<◌, ◌≤◌, min, [], ◌∷◌, ◌++◌, length, take, drop, ◌==◌, IfSome, None};
+ghost use Rattle.std.specs.Prelude.{◌≡◌, ◌<◌, ◌≤◌, min, [], ◌∷◌, ◌++◌, length, take, drop, IfSome, ◌==◌, None};
 ghost use Rattle.im_types.specs.Types.{MAX_GROUP};
 ghost use Rattle.im_front.specs.declared.asks.TheConstants.{MOST_ASKED};
 ghost use Rattle.im_front.specs.Lists.{answers_told, asks_told, commands_asked, with_ticket};

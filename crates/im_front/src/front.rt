@@ -1,5 +1,5 @@
 //! A session with its queue: who asks, and what is looked at.
-ghost use Rattle.std.specs.Prelude.{◌≡◌, ◌<◌, ◌≤◌, [], ◌∷◌, ◌++◌, length, drop, ◌==◌, IfSome, None};
+ghost use Rattle.std.specs.Prelude.{◌≡◌, ◌<◌, ◌≤◌, [], ◌∷◌, ◌++◌, length, drop, IfSome, ◌==◌, None};
 ghost use Rattle.im_session.specs.Kept.{Kept};
 ghost use Rattle.im_front.specs.{declared.asks.TheConstants.MOST_ASKED, Lists.with_ticket, State.front_of};
 

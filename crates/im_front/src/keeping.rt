@@ -2,10 +2,10 @@
 //! threads have it. They also say how many calls of the disk they make, and where a group ends.
 ghost use Rattle.std.specs.Prelude.{◌≡◌, ◌<◌, ◌≤◌, min, [], length};
 ghost use Rattle.{im_types.specs.Types.MAX_GROUP, im_disk.specs.Since.CallsAtMost, im_groups.specs.Ahead.ServesPrefix};
-ghost use Rattle.im_checkpoint.specs.Turns.{most_calls};
+ghost use Rattle.{im_checkpoint.specs.Turns.most_calls};
 ghost use Rattle.im_engine.specs.{Answered.SweepAnswered, Answered.TurnAnswered, Commands.commands_put};
 ghost use Rattle.im_session.specs.Keeping.{KeepsPut, MakesFewCalls};
-ghost use Rattle.im_front.specs.{Lists.commands_told, State.Advanced, State.FrontRests, State.next_group};
+ghost use Rattle.im_front.specs.{Lists.commands_told, State.Advanced, State.first_group, State.FrontRests};
 
 use crate::asked::ToldAnswer;
 use crate::front::Front;
@@ -24,7 +24,7 @@ impl<D: Disk> Front<D> {
         ensures few { length told.new.items ≤ min most MAX_GROUP }
         // How many are told, and where it ends.
         ensures begins { ServesPrefix self.old.session.engine.memory
-            (commands_put self.old.session.engine (commands_told told.new.items)) (next_group most self.old)
+            (commands_put self.old.session.engine (commands_told told.new.items)) (first_group most self.old)
             (length told.new.items) }
         ensures keeps { KeepsPut D.Disk self.old.session self.new.session }
         ensures calls { MakesFewCalls D.Disk self.old.session (commands_told told.new.items) self.new.session }

@@ -1,6 +1,6 @@
 -- What is asked, and taken out, element by element.
-use Rattle.std.proofs.Common.{◌≡◌, ℕ, zero, suc, ◌≤◌, ◌≢◌, ◌⊎◌, List, [], ◌∷◌, length, IfSome, slice_get, slice_set, Some}
-use Rattle.std.proofs.Common.{None, Option, unwrap_or, sym, refl, ap, ◌∙◌, inl, inr, ⊎_elim}
+use Rattle.std.proofs.Common.{◌≡◌, ℕ, zero, suc, ◌≤◌, ◌≢◌, ◌⊎◌, List, [], ◌∷◌, length, IfSome, slice_get, slice_set}
+use Rattle.std.proofs.Common.{Some, None, Option, unwrap_or, sym, refl, ap, ◌∙◌, inl, inr, ⊎_elim}
 use Rattle.std.proofs.lemmas.List.{set_past}
 use Rattle.{im_types.specs.Types.Command, im_trace.proofs.LogLemmas.all-get, im_trace.specs.Log.sender_of}
 use Rattle.im_queue.specs.Places.{AreInPlace, AskNothing, IsAskedAt, placed_at, placed_in}

@@ -9,8 +9,8 @@ use Rattle.std.specs.List.{AllByRecursion}
 use Rattle.im_types.specs.Types.{Entry, Command, Outcome, Call, Line, Tells, Commands, Refusal, Contents, told}
 use Rattle.im_types.specs.Types.{answer_to, contents_after, IsLegal, end_of, Change}
 use Rattle.im_laws.proofs.TraceLemmas.{end_of-append, IsLegal-push, IsLegal-split}
-use Rattle.im_trace.specs.Lines.{counts_after, EndsIn, leaves_line, left_lines, line_of, LineCounts}
-use Rattle.im_trace.specs.Lines.{memory_after, time_at}
+use Rattle.im_trace.specs.Lines.{counts_after, EndsIn, leaves_line, left_lines, line_of, LineCounts, memory_after}
+use Rattle.im_trace.specs.Lines.{time_at}
 use Rattle.im_trace.specs.Log.{AreClaimed, AreVacant, IsLog, IsOfTrace, IsProof, IsTimed, LogState, receipt_for}
 use Rattle.im_trace.specs.Log.{sender_of, StandsInTrace, unclaimed_lines, UnclaimedState, with_line, with_unclaimed}
 use Rattle.im_trace.specs.Log.{without_unclaimed}

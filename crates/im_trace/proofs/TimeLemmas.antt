@@ -1,7 +1,7 @@
 -- The times of the lines of a trace.
 use Rattle.std.proofs.Common.{◌≡◌, ℕ, zero, suc, ◌+◌, ◌<◌, ◌≤◌, Bool, true, false, ◌⊎◌, List, [], ◌∷◌, ◌++◌, map}
-use Rattle.std.proofs.Common.{length, if◌then◌else◌, Result, sym, refl, ap, ◌∙◌, subst, inl, inr, ⊎_elim}
-use Rattle.std.proofs.Common.{append_assoc, arith, length-append}
+use Rattle.std.proofs.Common.{length, if◌then◌else◌, Result, sym, refl, ap, ◌∙◌, subst, inl, inr, ⊎_elim, append_assoc}
+use Rattle.std.proofs.Common.{arith, length-append}
 use Rattle.std.proofs.lemmas.List.{length-map, map-append}
 use Rattle.im_types.specs.Types.{Outcome, Call, Line, Refusal}
 use Rattle.im_laws.proofs.Tests.{below_or_from}

@@ -2,8 +2,8 @@
 ghost use Rattle.std.specs.Prelude.{◌≡◌, ◌-◌, ◌<◌, ◌≤◌, true, false, ◌≢◌, length, IfSome, slice_get, Some, None, Ok};
 ghost use Rattle.im_types.specs.Types.{Tells, Commands, Collect, answer_to, IsLegal, end_of};
 ghost use Rattle.im_trace.specs.Lines.{counts_after, EndsIn, leaves_line, left_lines, line_of, memory_after, time_at};
-ghost use Rattle.im_trace.specs.Log.{Claims, GoesOnAt, IsOfTrace, IsProof, IsTimed, IsToldOf, SeesAnswer};
-ghost use Rattle.im_trace.specs.Log.{sender_of, with_line, with_unclaimed};
+ghost use Rattle.im_trace.specs.Log.{Claims, GoesOnAt, IsOfTrace, IsProof, IsTimed, IsToldOf, SeesAnswer, sender_of};
+ghost use Rattle.im_trace.specs.Log.{with_line, with_unclaimed};
 ghost use mathlib.Core.List.{IsPrefix};
 
 use crate::books::{Books, Tally, count_line};

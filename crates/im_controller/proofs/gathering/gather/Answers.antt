@@ -4,7 +4,7 @@ use Rattle.{im_groups.specs.Commands.places, im_engine.specs.State.EngineState, 
 use Rattle.im_front.specs.Lists.{commands_asked}
 use Rattle.im_controller.proofs.GatherLemmas.{asked-next, first-ones, gathering-ahead, gathering-more, gathering-none}
 use Rattle.im_controller.proofs.GatherLemmas.{none-fits}
-use Rattle.im_controller.specs.Groups.{IsGroup}
+use Rattle.im_controller.specs.Groups.{FormsGroup}
 use Rattle.im_controller.proofs.gathering.gather.Goals as goal
 
 pub loop-one-init : goal.loop-one-init
@@ -41,7 +41,7 @@ returns-clause-first g c = first-ones c.loop-one.members.items
     (c.loop-one.invariant.first ∙ ap commands_asked c.asked-asked.ensures)
 
 pub returns-clause-group : goal.returns-clause-group
-returns-clause-group g c = subst (λ (n : Contents). IsGroup c.args.plan.now c.args.log.now.state.places n
+returns-clause-group g c = subst (λ (n : Contents). FormsGroup c.args.plan.now c.args.log.now.state.places n
     c.loop-one.members.items)
     (c.memory-memory.ensures ∙ ap (λ (x : EngineState g.row.D.Denot). x.memory) c.engine-engine.ensures.state)
     c.loop-one.invariant.gathered.group

@@ -1,7 +1,7 @@
 use Rattle.std.proofs.Common.{◌≡◌, ◌∷◌, slice_get, Err, sym, ap, ◌∙◌, subst}
 use Rattle.{im_front.specs.State.FrontState, im_trace.specs.Log.LogState, im_trace.specs.Log.with_unclaimed}
 use Rattle.im_controller.proofs.Keeping.{first-rest, lineless-trace, still}
-use Rattle.im_controller.specs.{Groups.RefusesFirst, State.SharedState}
+use Rattle.im_controller.specs.{Groups.RefusesAsked, State.SharedState}
 use Rattle.im_controller.proofs.groups.refuse_first.Goals as goal
 
 pub invariant_of-shared : goal.invariant_of-shared
@@ -25,7 +25,7 @@ returns-clause-refuses g c = λ _.
       shown = c.shared.inside.pane.shown;
     } in
     let session = ap (λ (x : FrontState g.row.D.Denot). x.session) left in
-    subst (λ (u : SharedState g.row.D.Denot). RefusesFirst u c.args.refusal s') c.shared.view_is (record {
+    subst (λ (u : SharedState g.row.D.Denot). RefusesAsked u c.args.refusal s') c.shared.view_is (record {
       first = first;
       asked = first-rest f.asked first (sym (c.in-Some.ensures.value ∙ ap (λ l. slice_get l 0) c.asked.ensures))
           ∙ ap (λ l. first ∷ l) (sym (ap (λ (x : FrontState g.row.D.Denot). x.asked) left));

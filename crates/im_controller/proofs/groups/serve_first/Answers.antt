@@ -9,7 +9,7 @@ use Rattle.im_controller.proofs.KeptLemmas.{session_group, times_at, times_on}
 use Rattle.im_controller.proofs.Lending.{Group, group-fits, group-is, group-keeps, group-pane}
 use Rattle.im_controller.proofs.PlannedLemmas.{keeps-all, keeps-starts, on-all}
 use Rattle.im_controller.proofs.{PutLemmas.all-trace, ShownLemmas.end-cells}
-use Rattle.im_controller.specs.Groups.{first_refusal, IsRefusedFor, memory_after_all, outcomes_told, ServesFirst}
+use Rattle.im_controller.specs.Groups.{first_refusal, IsRefusedFor, memory_after_all, outcomes_told, ServesAsked}
 use Rattle.im_controller.specs.Groups.{with_all_unclaimed}
 use Rattle.im_controller.specs.{Planned.KeepsTo, State.SharedState}
 use Rattle.im_controller.proofs.groups.serve_first.Goals as goal
@@ -97,7 +97,7 @@ returns-clause-serves g c =
     (c.shared.invariant.3 it.alive) c.gather-members.ensures.ahead
     (c.failed-2.ensures.failed ∙ ap (λ (x : EngineState g.row.D.Denot). x.failed) c.engine-after.ensures.state)
     c.show_put-told.ensures.shown c.show_put-told.ensures.hidden in
-    subst (λ (u : SharedState g.row.D.Denot). ServesFirst g.D.Disk g.K.Name.origin u (record {
+    subst (λ (u : SharedState g.row.D.Denot). ServesAsked g.D.Disk g.K.Name.origin u (record {
       session = t.session;
       asked = t.asked;
       log = c.keep_all.new.log.state;

@@ -1,9 +1,9 @@
 use Rattle.std.proofs.Common.{◌≡◌, min, max, List, length, sym, ap, ◌∙◌, subst, rules}
 use Rattle.im_types.specs.Types.{Command, MAX_GROUP}
-use Rattle.{im_groups.specs.Ahead.ServesPrefix, im_groups.specs.Commands.places, im_engine.specs.Commands.commands_put}
-use Rattle.im_session.specs.Keeping.{MakesFewCalls}
+use Rattle.im_groups.specs.{Ahead.ServesPrefix, Commands.places}
+use Rattle.{im_engine.specs.Commands.commands_put, im_session.specs.Keeping.MakesFewCalls}
 use Rattle.im_front.proofs.Telling.{begins-told, told-served}
-use Rattle.im_front.specs.{Lists.commands_told, State.front_of, State.FrontState, State.next_group}
+use Rattle.im_front.specs.{Lists.commands_told, State.first_group, State.front_of, State.FrontState}
 use Rattle.im_front.proofs.front.Front.advance_kept.Goals as goal
 
 pub returns-clause-begins : goal.returns-clause-begins
@@ -14,7 +14,7 @@ returns-clause-begins g c =
     let max_is : c.max.result ≡ max 1 (places e.count e.room) = search rules in
     let most_is : c.min.result ≡ min c.args.most (max 1 (places e.count e.room)) = search rules in
     subst (λ (h : FrontState g.row.D.Denot). ServesPrefix h.session.engine.memory
-    (commands_put h.session.engine (commands_told told)) (next_group c.args.most h) (length told)) c.self.view_is
+    (commands_put h.session.engine (commands_told told)) (first_group c.args.most h) (length told)) c.self.view_is
     (begins-told f c.tell.new.self c.group-members.result.items c.serve_commands_kept.new.served.items told
     c.group-members.ensures.first c.tell.ensures.order (c.tell.ensures.answers ∙ c.as_slice.ensures.value) c.args.most
     (c.group-members.ensures.count ∙ ap (λ n. min n (min MAX_GROUP (length c.self.inside.asks))) most_is)
