@@ -255,8 +255,8 @@ inline make_room() {
      :: else -> break od;
   did = false
 }
-/* of im_controller::serve_first 6a59562db516
-   of im_controller::refuse_first 9698c571682f
+/* of im_controller::serve_first c7bf01c63aaf
+   of im_controller::refuse_first 9f0f2c3c17d0
    of im_front::Front::advance_kept 1acebd7a3389
    of im_engine::Engine::serve_commands b7eb8decfe98: the fault may fall before each member, which begins a group then. */
 inline serve_member(m) {
@@ -275,7 +275,7 @@ inline serve_member(m) {
    of im_controller::claim 2b1067bb12ec
    of im_controller::serve_inbox 13653810c488
    of im_controller::take_in_all fbfae00807f0
-   of im_controller::take_in f4612905f01b
+   of im_controller::take_in e909e18de832
    of im_controller::serve_asked a3c696ece51e
    of im_controller::serve_or_refuse 20e13d837bb7
    of im_queue::Inbox::take 23a7410a543f

@@ -92,8 +92,9 @@ group-is {D = D} plan p s x n members most told t planned many some first room f
       answered = advanced.answered;
       alive = alive;
       agrees = subst WaitingAgrees (memory ∙ ap (λ (y : EngineState D). y.memory) looked) agrees;
-      group = subst (λ (q : Option (List Request)). FormsGroup q s.log.places s.session.engine.memory (commands_told told))
-          planned (subst (λ (cs : List Command). FormsGroup p s.log.places s.session.engine.memory cs) (sym all) group);
+      group = subst (λ (q : Option (List Request)). FormsGroup q s.log.places s.session.engine.memory
+          (commands_told told)) planned
+          (subst (λ (cs : List Command). FormsGroup p s.log.places s.session.engine.memory cs) (sym all) group);
       some = omega (arith, some, ap length all, told-long (front_of s.session s.asked) members [] told t.asked);
       lines = omega (arith, lines, ap length all);
     }
