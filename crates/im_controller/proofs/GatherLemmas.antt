@@ -93,10 +93,6 @@ module _ (plan : Option (List Request)) (places : List (Option UnclaimedState)) 
 pub first-ones : {X : Type 0} (xs ys all : List X) → xs ++ ys ≡ all → xs ≡ take (length xs) all
 first-ones xs ys all is = sym (take-append_seam xs ys) ∙ ap (take (length xs)) is
 
--- so many commands are asked
-pub asked-long : (asked : List AskedCommand) → length (commands_asked asked) ≡ length asked
-asked-long asked = length-map asked (λ (a : AskedCommand). a.command)
-
 -- one more of what is asked
 pub asked-next : (asked : List AskedCommand) (i : ℕ) (d : AskedCommand) (members : List Command) → i < length asked
     → members ++ commands_asked (drop i asked) ≡ commands_asked asked

@@ -1,7 +1,8 @@
 -- What is taken out of the inbox and asked of the front, element by element.
-use Rattle.std.proofs.Common.{◌≡◌, ℕ, zero, suc, ◌+◌, ◌<◌, ◌≢◌, List, [], ◌∷◌, ◌++◌, slice_get, slice_set, Some, None}
-use Rattle.std.proofs.Common.{Option, sym, refl, ap, ◌∙◌, inl, inr, append_assoc, append-nil, arith}
-use Rattle.std.{proofs.lemmas.List.map-append, specs.List.AllByRecursion}
+use Rattle.std.proofs.Common.{◌≡◌, ℕ, zero, suc, ◌+◌, ◌<◌, ◌≤◌, Bool, false, ◌≢◌, List, [], ◌∷◌, ◌++◌, ◌==◌, slice_get}
+use Rattle.std.proofs.Common.{slice_set, Some, None, Option, sym, refl, ap, ◌∙◌, inl, inr, append_assoc, append-nil}
+use Rattle.std.proofs.Common.{arith}
+use Rattle.std.{proofs.lemmas.Bool.Decides.nat_tests, proofs.lemmas.List.map-append, specs.List.AllByRecursion}
 use Rattle.{im_types.specs.Types.Command, im_trace.specs.Log.sender_of}
 use Rattle.im_front.specs.{Lists.with_ticket, State.front_of, State.FrontState}
 use Rattle.im_queue.specs.Places.{placed_at, taken_out}
@@ -31,6 +32,10 @@ above places element [] below = refl
 above places element (c ∷ cs) below =
     above (slice_set places (sender_of c) None) element cs below.1
     ∙ others-stay places (sender_of c) element (λ same. absurd (omega (arith, below.0, same)))
+
+-- a queue that isn't full has room
+pub has-room : (n most : ℕ) (full : Bool) → full ≡ (n == most) → n ≤ most → full ≡ false → n < most
+has-room n most full is few none = grind (arith, nat_tests)
 
 -- where nothing is asked nothing is taken
 pub takes-nothing : (places : List (Option Command)) (element : ℕ) → placed_at places element ≡ None

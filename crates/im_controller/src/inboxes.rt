@@ -16,10 +16,10 @@ fn take_in<D: Disk, K: Name>(inbox: &mut Inbox, log: &Log<K>, front: &mut Front<
     if !log.is_free(element) {
         return;
     }
-    let Some(command) = inbox.take(element) else {
-        return;
-    };
-    front.submit(u64::from(element), &command);
+    match inbox.take(element) {
+        None => {}
+        Some(command) => front.submit(u64::from(element), &command),
+    }
 }
 
 // Does so for each element, in order.
