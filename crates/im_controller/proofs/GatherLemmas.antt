@@ -89,10 +89,6 @@ module _ (plan : Option (List Request)) (places : List (Option UnclaimedState)) 
     gathering-ahead = k.pane ∙ ap (λ xs. record p0 { ahead = xs })
         (sym (append-nil p.ahead) ∙ k.puts [] ∙ ap (λ cs. p0.ahead ++ changes_put_all m first cs) (append-nil rs))
 
--- the first ones of a list
-pub first-ones : {X : Type 0} (xs ys all : List X) → xs ++ ys ≡ all → xs ≡ take (length xs) all
-first-ones xs ys all is = sym (take-append_seam xs ys) ∙ ap (take (length xs)) is
-
 -- one more of what is asked
 pub asked-next : (asked : List AskedCommand) (i : ℕ) (d : AskedCommand) (members : List Command) → i < length asked
     → members ++ commands_asked (drop i asked) ≡ commands_asked asked
@@ -103,17 +99,6 @@ asked-next asked i d members within is =
     ∙ ap (λ (l : List AskedCommand). members ++ commands_asked l)
     (sym (drop-cons asked i d within ∙ ap (λ n. one ∷ drop n asked) next))
     ∙ is
-
--- the first one that is asked isn't a group
-pub none-fits : (plan : Option (List Request)) (places : List (Option UnclaimedState)) (m : Contents) (left : ℕ)
-    (asked : List AskedCommand) (i : ℕ) (d : AskedCommand) → i ≡ 0
-    → (has_command plan (get_or asked i d).command ≡ true
-    → slice_get places (sender_of (get_or asked i d).command) ≡ Some None
-    → takes_place m left (get_or asked i d).command ≡ true)
-    → NoneFits plan places m left (commands_asked asked)
-none-fits plan places m left [] i d first takes = tt
-none-fits plan places m left (a ∷ asked) zero d first takes = takes
-none-fits plan places m left (a ∷ asked) (suc i) d first takes = absurd (omega (arith, first))
 
 -- a test of whether there is any
 pub no-members : (n : ℕ) (b : Bool) → b ≡ (n == 0) → b ≡ true → n ≡ 0

@@ -63,7 +63,8 @@ module _ {D : Type 0} (f : FrontState D) (members put : List Command) (told : Li
 
 -- what was asked of it, and what became of it
 pub record Group {D : Type 0} (plan : Option (List Request)) (s : SharedState D) (f : EngineState D)
-    (told : List ToldAnswer) : Type 0 where
+    (told : List ToldAnswer) (members : List Command) : Type 0 where
+  pub all : commands_told told ≡ members
   pub answered : CommandsAnswered s.session.engine (commands_told told) (answers_told told) f
   pub alive : s.session.engine.failed ≡ false
   pub agrees : WaitingAgrees s.session.engine.memory
@@ -81,7 +82,7 @@ pub group-is : {D : Type 0} (plan p : Option (List Request)) (s : SharedState D)
     → ServesPrefix s.session.engine.memory (commands_put s.session.engine (commands_told told))
     (first_group most (front_of s.session s.asked)) (length told)
     → Advanced (front_of s.session s.asked) told t → x ≡ s.session.engine → s.session.engine.failed ≡ false
-    → n ≡ x.memory → WaitingAgrees n → Group plan s t.session.engine told
+    → n ≡ x.memory → WaitingAgrees n → Group plan s t.session.engine told members
 group-is {D = D} plan p s x n members most told t planned many some first room few lines group begins advanced looked
     alive memory agrees =
     let all = all-told (front_of s.session s.asked) members (commands_put s.session.engine (commands_told told)) told
@@ -89,6 +90,7 @@ group-is {D = D} plan p s x n members most told t planned many some first room f
     (subst (λ (k : ℕ). ServesPrefix s.session.engine.memory (commands_put s.session.engine (commands_told told))
     (first_group k (front_of s.session s.asked)) (length told)) many begins) in
     record {
+      all = all;
       answered = advanced.answered;
       alive = alive;
       agrees = subst WaitingAgrees (memory ∙ ap (λ (y : EngineState D). y.memory) looked) agrees;
@@ -100,7 +102,7 @@ group-is {D = D} plan p s x n members most told t planned many some first room f
     }
 
 module _ {D : Type 0} (plan : Option (List Request)) (s : SharedState D) (f : EngineState D) (told : List ToldAnswer)
-    (it : Group plan s f told) where
+    (members : List Command) (it : Group plan s f told members) where
   abbrev e : EngineState D
   e = s.session.engine
 
@@ -141,11 +143,14 @@ module _ {D : Type 0} (plan : Option (List Request)) (s : SharedState D) (f : En
     pub dead : f.failed ≡ true → r.shown ≡ p.shown
 
   pub group-pane : (m : Contents) (p q r : PaneView) (failed : Bool) → end_of m s.log.trace ≡ e.memory
-      → p.shown ≡ shown_by m s.log.trace → p.ahead ≡ [] → q ≡ record p { ahead = p.ahead ++ changes }
+      → p.shown ≡ shown_by m s.log.trace → p.ahead ≡ []
+      → q ≡ record p { ahead = p.ahead ++ changes_put_all e.memory (places e.count e.room) members }
       → failed ≡ f.failed → (failed ≡ false → r ≡ record q { shown = q.shown ++ q.ahead; ahead = [] })
       → (failed ≡ true → r ≡ q) → GroupPane m p r
-  group-pane m p q r failed ends shown none put is all hidden =
+  group-pane m p q r failed ends shown none ahead is all hidden =
       let lines = lines_all rs (outcomes_told told) in
+      let put : q ≡ record p { ahead = p.ahead ++ changes } = ahead
+      ∙ ap (λ cs. record p { ahead = p.ahead ++ changes_put_all e.memory (places e.count e.room) cs }) (sym it.all) in
       let pane = pane-shows p q r changes (changes_of e.memory lines) put failed (λ _. none) all hidden
       (λ living. shows-told.alive (sym is ∙ living)) (λ dead. shows-told.dead (sym is ∙ dead)) in
       record {

@@ -1,10 +1,10 @@
-use Rattle.std.proofs.Common.{◌≡◌, min, max, length, drop, sym, refl, ap, ◌∙◌, subst, arith, length-append, rules}
-use Rattle.im_types.specs.Types.{Command, MAX_GROUP, Contents}
+use Rattle.std.proofs.Common.{◌≡◌, ℕ, List, ◌++◌, length, sym, refl, ap, ◌∙◌, arith, length-append, rules}
+use Rattle.im_types.specs.Types.{Command, Contents}
 use Rattle.{im_groups.specs.Commands.places, im_engine.specs.State.EngineState, im_glass.specs.Panes.PaneView}
-use Rattle.im_front.specs.Lists.{commands_asked}
-use Rattle.im_controller.proofs.GatherLemmas.{asked-next, first-ones, gathering-ahead, gathering-more, gathering-none}
-use Rattle.im_controller.proofs.GatherLemmas.{none-fits}
-use Rattle.im_controller.specs.Groups.{FormsGroup}
+use Rattle.im_controller.proofs.GatherLemmas.{asked-next, Gathering, gathering-ahead, gathering-more, gathering-none}
+use Rattle.im_controller.specs.Groups.{changes_put_all}
+use Rattle.im_controller.proofs.gathering.gather.Given.{Over}
+use Rattle.im_controller.proofs.gathering.gather.Goals.{After-places-left}
 use Rattle.im_controller.proofs.gathering.gather.Goals as goal
 
 pub loop-one-init : goal.loop-one-init
@@ -35,13 +35,33 @@ loop-one-preserved g c =
       few = omega (arith, length-append {A = Command});
     })
 
-pub returns-clause-first : goal.returns-clause-first
-returns-clause-first g c = first-ones c.loop-one.members.items
-    (commands_asked (drop c.loop-one.one-index c.asked-asked.result.now)) (commands_asked c.args.front.now.asked)
-    (c.loop-one.invariant.first ∙ ap commands_asked c.asked-asked.ensures)
+-- what is on the pane, by the engine that is looked at
+gathered : (g : Over) (c : After-places-left g) (rs : List Command) (left : ℕ) (p : PaneView)
+    → Gathering c.args.plan.now c.args.log.now.state.places c.memory-memory.result.now.contents c.places-left.result
+    c.args.pane.now rs left p
+    → let e = c.args.front.now.session.engine in p ≡ record c.args.pane.now {
+      ahead = c.args.pane.now.ahead ++ changes_put_all e.memory (places e.count e.room) rs;
+    }
+gathered g c rs left p k =
+    let p0 = c.args.pane.now in let state = c.engine-engine.ensures.state in
+    gathering-ahead c.args.plan.now c.args.log.now.state.places c.memory-memory.result.now.contents
+    c.places-left.result p0 rs left p k
+    ∙ ap (λ (n : Contents). record p0 { ahead = p0.ahead ++ changes_put_all n c.places-left.result rs })
+    (c.memory-memory.ensures ∙ ap (λ (x : EngineState g.row.D.Denot). x.memory) state)
+    ∙ ap (λ (n : ℕ). record p0 { ahead = p0.ahead ++ changes_put_all c.args.front.now.session.engine.memory n rs })
+    (c.places-left.ensures.places ∙ ap (λ (x : EngineState g.row.D.Denot). places x.count x.room) state)
 
-pub returns-clause-group : goal.returns-clause-group
-returns-clause-group g c = subst (λ (n : Contents). FormsGroup c.args.plan.now c.args.log.now.state.places n
-    c.loop-one.members.items)
-    (c.memory-memory.ensures ∙ ap (λ (x : EngineState g.row.D.Denot). x.memory) c.engine-engine.ensures.state)
-    c.loop-one.invariant.gathered.group
+pub returns-then-len-most-clause-ahead : goal.returns-then-len-most-clause-ahead
+returns-then-len-most-clause-ahead g c = gathered g (goal.at.returns-then-len-most-clause-ahead g c).After-places-left
+    c.loop-one.members.items c.loop-one.left c.loop-one.pane c.loop-one.invariant.gathered
+
+pub returns-then-not-is_next-clause-ahead : goal.returns-then-not-is_next-clause-ahead
+returns-then-not-is_next-clause-ahead g c =
+    gathered g (goal.at.returns-then-not-is_next-clause-ahead g c).After-places-left
+    c.loop-one.members.items c.loop-one.left c.loop-one.pane c.loop-one.invariant.gathered
+
+pub returns-in_default-clause-ahead : goal.returns-in_default-clause-ahead
+returns-in_default-clause-ahead g c =
+    let same : c.put_ahead.new.pane ≡ c.loop-one.pane = search rules in
+    same ∙ gathered g (goal.at.returns-in_default-clause-ahead g c).After-places-left
+    c.loop-one.members.items c.loop-one.left c.loop-one.pane c.loop-one.invariant.gathered

@@ -10,13 +10,13 @@ invariant_of-shared g c =
     let lines : new.state.trace ≡ old.state.trace = ap (λ (l : LogState). l.trace) c.keep.ensures.log
     ∙ lineless-trace old.state _ c.args.refusal c.requires.lineless in
     let times = still _ old new c.keep.ensures.times lines in
-    let same = ap (λ (f : FrontState g.row.D.Denot). f.session) c.withdraw-_first.ensures.same in
+    let same = ap (λ (f : FrontState g.row.D.Denot). f.session) c.withdraw-first.ensures.same in
     rw (lines, times, same) c.shared.invariant
 
 pub returns-clause-refuses : goal.returns-clause-refuses
 returns-clause-refuses g c = λ _.
-    let f = c.shared.inside.front in let t = c.withdraw-_first.new.self in
-    let first = c.in-Some.first.now in let left = c.withdraw-_first.ensures.same in
+    let f = c.shared.inside.front in let t = c.withdraw-first.new.self in
+    let first = c.in-Some.first.now in let left = c.withdraw-first.ensures.same in
     let s' : SharedState g.row.D.Denot = record {
       session = t.session;
       asked = t.asked;

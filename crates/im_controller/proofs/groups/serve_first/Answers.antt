@@ -31,7 +31,7 @@ before g c = record {
 }
 
 served : (g : Over) (c : After-advance_kept g) → Group g.K.Name.origin.plan (before g c)
-    c.advance_kept.new.self.session.engine c.advance_kept.new.told.items
+    c.advance_kept.new.self.session.engine c.advance_kept.new.told.items c.gather-members.result.items
 served g c =
     let alive : c.shared.inside.front.session.engine.failed ≡ false =
     ap (λ (x : EngineState g.row.D.Denot). x.failed) (sym c.engine-engine.ensures.state) ∙ sym c.failed.ensures.failed
@@ -48,16 +48,22 @@ pub keep_all-requires : goal.keep_all-requires
 keep_all-requires g c =
     let at = (goal.at.keep_all-requires g c).After-advance_kept in
     let k = group-keeps g.K.Name.origin.plan (before g at) c.advance_kept.new.self.session.engine
-    c.advance_kept.new.told.items (served g at) g.K.Name.origin.memory c.shared.invariant.0 in
+    c.advance_kept.new.told.items c.gather-members.result.items (served g at) g.K.Name.origin.memory c.shared.invariant.0 in
     rw c.as_slice.ensures.value (record { are_so = k.are_so; apart = k.apart; free = k.free; room = k.room })
 
 pub invariant_of-shared : goal.invariant_of-shared
-invariant_of-shared g c =
-    let at = (goal.at.invariant_of-shared g c).After-advance_kept in let it = served g at in let s = before g at in
+invariant_of-shared g c = rw (none-ahead _ _ c.shared.inside.pane c.gather-members.new.pane c.gather-members.result.items
+    (no-members _ c.is_empty.result c.is_empty.ensures c.if-is_empty.true) c.gather-members.ensures.ahead)
+    c.shared.invariant
+
+pub invariant_of-shared-2 : goal.invariant_of-shared-2
+invariant_of-shared-2 g c =
+    let at = (goal.at.invariant_of-shared-2 g c).After-advance_kept in let it = served g at in let s = before g at in
     let k = g.K.Name.origin in let m = k.memory in let plan = k.plan in
     let told = c.advance_kept.new.told.items in let t = c.advance_kept.new.self.session in let f = t.engine in
     let rs = commands_told told in let done = c.advance_kept.ensures in
-    let pane = group-pane plan s f told it m c.shared.inside.pane c.gather-members.new.pane c.show_put-told.new.pane
+    let pane = group-pane plan s f told c.gather-members.result.items it m c.shared.inside.pane c.gather-members.new.pane
+    c.show_put-told.new.pane
     c.failed-2.result c.shared.invariant.0 c.shared.invariant.1 (c.shared.invariant.3 it.alive)
     c.gather-members.ensures.ahead
     (c.failed-2.ensures.failed ∙ ap (λ (x : EngineState g.row.D.Denot). x.failed) c.engine-after.ensures.state)
@@ -65,7 +71,7 @@ invariant_of-shared g c =
     let log = c.keep_all.ensures.log
     ∙ ap (λ ts. with_all_unclaimed s.log (commands_told ts) (outcomes_told ts)) c.as_slice.ensures.value in
     let lines = ap (λ (l : LogState). l.trace) log ∙ all-trace s.log rs (outcomes_told told) in
-    let fits = group-fits plan s f told it in
+    let fits = group-fits plan s f told c.gather-members.result.items it in
     let on = on-all m plan rs (keeps-starts m plan s.log.trace c.shared.invariant.8) it.group.planned in
     let then = session_group g.D.Disk k s.log.trace s.session t c.shared.invariant.4 done.keeps
     c.keep_all.new.log.state.trace rs (answers_told told) c.shared.invariant.0 lines it.answered it.alive
@@ -92,7 +98,8 @@ pub returns-clause-serves : goal.returns-clause-serves
 returns-clause-serves g c =
     let at = (goal.at.returns-clause-serves g c).After-advance_kept in let it = served g at in let s = before g at in
     let told = c.advance_kept.new.told.items in let t = c.advance_kept.new.self in let done = c.advance_kept.ensures in
-    let pane = group-pane g.K.Name.origin.plan s t.session.engine told it g.K.Name.origin.memory c.shared.inside.pane
+    let pane = group-pane g.K.Name.origin.plan s t.session.engine told c.gather-members.result.items it
+    g.K.Name.origin.memory c.shared.inside.pane
     c.gather-members.new.pane c.show_put-told.new.pane c.failed-2.result c.shared.invariant.0 c.shared.invariant.1
     (c.shared.invariant.3 it.alive) c.gather-members.ensures.ahead
     (c.failed-2.ensures.failed ∙ ap (λ (x : EngineState g.row.D.Denot). x.failed) c.engine-after.ensures.state)
