@@ -5,7 +5,7 @@ ghost use Rattle.im_controller.specs.Kept.{IsOriginOf};
 use crate::errands::{Errand, Load, op};
 use crate::joining::join_all;
 use crate::stores::{confirms, number};
-use im_controller::{Controller, Name, Opening, Port, finish, start, start_unrecorded};
+use im_controller::{Controller, Name, Opening, Port, finish, start};
 use im_disk::Disk;
 use im_session::Session;
 use im_types::{Op, Refusal};
@@ -205,10 +205,11 @@ fn start_for<D: Disk + Drop, R: Wait>(
     load: Load,
     count: u32,
 ) -> Result<Opening<D>, (Refusal, Session<D>)> {
-    match load {
-        Load::Port | Load::Ports => start(rt, alloc, session, trace_room(count)),
-        Load::Endless => start_unrecorded(rt, alloc, session),
-    }
+    let room = match load {
+        Load::Port | Load::Ports => Some(trace_room(count)),
+        Load::Endless => None,
+    };
+    start(rt, alloc, session, None, room)
 }
 
 /// Does `count` requests of element 1 with this thread alone, or of each of sixteen elements with a thread for each.

@@ -1,5 +1,5 @@
 -- Planned runs under the lock: what a plan has, and what each answer is by the plan. (Own.)
-use Rattle.std.specs.Prelude.{◌≡◌, Bool, true, false, List, Some, None, Ok, Err, Option, Result}
+use Rattle.std.specs.Prelude.{◌≡◌, Bool, true, false, List, Some, None, Ok, Err, Option, Result, option_map}
 use Rattle.std.specs.List.{AllByRecursion}
 use Rattle.im_types.specs.Types.{Entry, Waiting, Request, Command, Outcome, Call, Line, Asks, Confirm, Tells, Commands}
 use Rattle.im_types.specs.Types.{Collect, Refusal, Contents, ask, asker, result_of, FitsPlan}
@@ -7,6 +7,7 @@ use Rattle.im_plans.specs.{Runs.entry_for, Runs.HasServed, Runs.IsInPlan, Runs.I
 use Rattle.im_plans.specs.{Runs.IsResultOrWaits, Runs.TellsResults, UnderWay.IsPlanUnderWay, UnderWay.PlanGoesOn}
 use Rattle.im_trace.specs.{Lines.line_of, Log.FoundState, Log.ReceiptState}
 use Rattle.im_planning.specs.Making.{is_op, op_under}
+use Rattle.im_controller.specs.declared.start_plan.StartPlan.{StartPlan}
 
 -- whether the plan has a request: this operation, under this number; without a plan any request may come
 abbrev pub has_request : Option (List Request) → Request → Bool
@@ -27,10 +28,19 @@ IsOnPlan (Some plan) call = IsPlannedCall plan call
 abbrev pub AreOnPlan : Option (List Request) → List Command → Type 0
 AreOnPlan plan commands = AllByRecursion (λ (c : Command). IsOnPlan plan (Commands c)) commands
 
--- a plan may be started under: it fits the memory, or, if a run before may have begun it, it is under way there
-abbrev pub MayStart : Bool → Contents → List Request → Type 0
-MayStart false m plan = FitsPlan m plan
-MayStart true m plan = IsPlanUnderWay m plan
+-- a plan may be started under: it fits the memory, or, if it is resumed, it is under way there
+abbrev pub MayStartUnder : Bool → Contents → List Request → Type 0
+MayStartUnder false m plan = FitsPlan m plan
+MayStartUnder true m plan = IsPlanUnderWay m plan
+
+-- a controller may be started: without a plan, or under one that may be
+abbrev pub MayStart : Contents → Option StartPlan → Type 0
+MayStart m None = Unit {0}
+MayStart m (Some start) = MayStartUnder start.resumed m start.plan
+
+-- the plan that a controller is started under, if there is one
+abbrev pub plan_in : Option StartPlan → Option (List Request)
+plan_in start = option_map (λ s. s.plan) start
 
 -- The plan, if there is one, is under way in the memory: nothing of it is done there, or a part, or all.
 abbrev pub StartsBy : Contents → Option (List Request) → Type 0

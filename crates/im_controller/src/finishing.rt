@@ -47,7 +47,7 @@ pub struct Finished<D: Disk> {
 ///
 /// Under a plan, an answered entry of a planned request has its result by the plan. Once the whole plan is served, the
 /// memory that was opened and the plan alone say what is kept, whatever the threads did. A plan that isn't served yet
-/// may be gone on with ([`resume_planned`](crate::resume_planned)), after a crash too
+/// may be gone on with ([`start`](crate::start)), after a crash too
 /// ([`stopped_runs_end_as_one`](crate::stopped_runs_end_as_one)).
 pub fn finish<D: Disk, K: Name, R: Wait>(
     rt: &R,

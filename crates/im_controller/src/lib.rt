@@ -19,8 +19,9 @@ mod plans; // Whether a plan has a command.
 mod ports; // The way of one element to the lock.
 mod shared; // What lies under the lock.
 mod sleepers; // Who sleeps, and who is to be woken.
-mod starts; // With a trace that is recorded, and with one that isn't; fresh, or gone on with.
 mod standing; // How things stand.
+mod start_plan; // The plan that it starts under.
+mod starts; // Its start: with a plan or without, with a trace that is recorded or not.
 mod stops; // Laws of planned runs that are stopped.
 
 pub use controller::Controller;
@@ -34,8 +35,6 @@ pub use opening::Opening;
 pub use ports::Port;
 pub use shared::{Shared, lend, lend_turn};
 pub use standing::Standing;
-pub use starts::{
-    resume_planned, resume_planned_unrecorded, start, start_planned, start_planned_unrecorded,
-    start_unrecorded,
-};
+pub use start_plan::StartPlan;
+pub use starts::start;
 pub use stops::stopped_runs_end_as_one;

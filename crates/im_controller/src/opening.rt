@@ -2,12 +2,13 @@
 ghost use Rattle.std.specs.Prelude.{◌≡◌, true, ◌⊎◌, ◌↔◌, length, IfOk, IfErr, OnOk, IsTrue, Some, None, count_by};
 ghost use Rattle.im_types.specs.Types.{NoMemory, BadPlan, opening};
 ghost use Rattle.{im_plans.specs.UnderWay.PlanGoesOn, im_queue.specs.Servers.is_unmade};
-ghost use Rattle.im_controller.specs.{Kept.IsOriginOf, Planned.MayStart};
+ghost use Rattle.im_controller.specs.{Kept.IsOriginOf, Planned.MayStartUnder};
 ghost use Rattle.im_controller.specs.State.{is_recorded, most_lines, OpensAs};
 
 use crate::controller::Controller;
 use crate::keeper::Keeper;
 use crate::shared::Shared;
+use crate::start_plan::StartPlan;
 use im_changes::full_cells;
 use im_disk::Disk;
 use im_glass::{Unnamed, open};
@@ -140,22 +141,15 @@ pub(crate) fn begin<D: Disk + Drop, R: Wait>(
     }
 }
 
-// A plan, and whether a run before may have begun it.
-#[derive(Drop)]
-pub(crate) struct AskedPlan {
-    pub(crate) plan: Plan,
-    pub(crate) begun: bool,
-}
-
 // Returns whether a plan may be started under. It is under way then.
-fn may_start(asked: &AskedPlan, memory: &Memory) -> bool
+fn may_start(asked: &StartPlan, memory: &Memory) -> bool
     ensures starts { result ≡ true → PlanGoesOn memory.now.contents asked.now.plan }
-    ensures exactly { IsTrue result ↔ MayStart asked.now.begun memory.now.contents asked.now.plan }
+    ensures exactly { IsTrue result ↔ MayStartUnder asked.now.resumed memory.now.contents asked.now.plan }
 {
     let plan = &asked.plan;
     let _requests = plan.requests(); // So that it is known to be a plan,
     let _elements = memory.elements(); // and that the memory's waiters agree with its entries.
-    if asked.begun {
+    if asked.resumed {
         return is_under_way(plan, memory);
     }
     fits(plan, memory)
@@ -166,14 +160,15 @@ pub(crate) fn begin_planned<D: Disk + Drop, R: Wait>(
     rt: &R,
     alloc: Global,
     session: Session<D>,
-    asked: AskedPlan,
+    asked: StartPlan,
     room: Option<usize>,
 ) -> Result<Opening<D>, (Refusal, Session<D>)>
     ensures found { IfOk result (λ o. OpensAs room (Some asked.plan) session o) }
     ensures ports { IfOk result (λ o. o.ports ≡ length session.engine.memory.windows) }
     ensures starts { OnOk result (PlanGoesOn session.engine.memory asked.plan
-        × MayStart asked.begun session.engine.memory asked.plan) }
-    ensures bad { IfErr result (λ e. (e.0 ≡ BadPlan) ↔ (MayStart asked.begun session.engine.memory asked.plan → ⊥)) }
+        × MayStartUnder asked.resumed session.engine.memory asked.plan) }
+    ensures bad { IfErr result (λ e. (e.0 ≡ BadPlan)
+        ↔ (MayStartUnder asked.resumed session.engine.memory asked.plan → ⊥)) }
     ensures refused { IfErr result (λ e. ((e.0 ≡ NoMemory) ⊎ (e.0 ≡ BadPlan)) × (e.1 ≡ session)) }
 {
     if !may_start(&asked, session.memory()) {

@@ -6,8 +6,8 @@ ghost use Rattle.im_controller.specs.{Planned.EndsAsPlanned, Stops.IsLeftOf, Sto
 
 /// Planned runs that are stopped end as one, by what [`finish`](crate::finish) says of each. A crash leaves a file that
 /// means a memory to which a planned run leads from the one that was opened. The plan is under way there, so
-/// [`resume_planned`](crate::resume_planned) takes it. What a run from there comes to is what one run from the first
-/// memory comes to. By these laws, one after another, it is so over any number of stops.
+/// [`start`](crate::start) takes it, resumed. What a run from there comes to is what one run from the first memory
+/// comes to. By these laws, one after another, it is so over any number of stops.
 pub fn stopped_runs_end_as_one()
     ensures left { (m n : Contents) (plan : List Request) (file : List ℕ) (count room : ℕ) → IsLeftOf m plan file
         → Means n count room file → LeadsTo plan m n }

@@ -3,7 +3,7 @@ use Rattle.std.specs.Prelude.{◌≡◌, ℕ, Bool, true, false, List, [], IfOk,
 use Rattle.std.specs.Borrow.{Bor}
 use Rattle.{im_types.specs.Types.AreLimits, im_types.specs.Types.Sizes, im_image.specs.Fresh.new_image}
 use Rattle.{im_migration.specs.declared.Asked.Asked, im_report.specs.Look.ShowsView, im_dump.specs.Dumping.Dumps}
-use Rattle.{im_run.specs.Once.RunsWhen, im_run.specs.Tracing.TraceState, im_words.specs.declared.Formatting.Formatting}
+use Rattle.{im_run.specs.Once.RunsOn, im_run.specs.Tracing.TraceState, im_words.specs.declared.Formatting.Formatting}
 use Rattle.im_disk.specs.declared.{Disk.Ghosts as DiskGhosts, FileDisk.FileDisk, Start.Ghosts}
 use Rattle.im_disk.specs.{Moment.Moment, Since.LeavesNow, Since.ReadsOnly}
 use Rattle.im_text.specs.{Said.Output, Said.output, Said.Written, Statuses.strict_status}
@@ -68,7 +68,7 @@ pub record ScriptRan {D : Type 0} (d : DiskGhosts D) (planned once strict : Bool
   pub none : d.past old ≡ []
   pub text : List ℕ
   pub read : IsTextOf known text
-  pub run : EndsStrictly strict (λ is status. RunsWhen d once planned text old disk was is calls status) is status
+  pub run : EndsStrictly strict (λ is status. RunsOn d once planned text old disk was is calls status) is status
 
 -- a script was served on this disk, if it is honest
 abbrev pub WasScriptServed : {D : Type 0} → DiskGhosts D → Moment → Serving (Bor (List ℕ)) → Option (List ℕ)

@@ -2,7 +2,6 @@
 ghost use Rattle.std.specs.Prelude.{◌≡◌, ◌≤◌, true, ◌⊎◌, is_some, IfOk, IfErr, OnErr};
 ghost use Rattle.std.specs.Io.KnownBytes.{Keeps};
 ghost use Rattle.im_types.specs.Types.{Device, NoMemory, BadScript};
-ghost use Rattle.{im_text.specs.Said.output, im_run.specs.Once.RunsWhen};
 ghost use Rattle.im_program.specs.{Places.IsOpenAt, Working.RanAs, Working.WasRun};
 
 use crate::console::Console;
@@ -12,10 +11,8 @@ use crate::scripts::{read_file, script_in};
 use crate::tracing::{keep_trace, make_file_if};
 use crate::watching::Watch;
 use im_disk::{Disk, FileDisk, Start};
-use im_run::{Assignment, RunContext, STALLED, Trace, run_on, run_on_plan, run_once_on};
-use im_script::Script;
-use im_serial::StyledScript;
-use im_serving::{Host, Open, Standing, Teller};
+use im_run::{RunContext, RunTask, STALLED, Trace, run_on};
+use im_serving::{Open, Standing, Teller};
 use im_text::{FAULTY, News, Style, strict_status};
 use im_types::{Observer, Refusal};
 use im_words::ScriptRun;
@@ -25,61 +22,11 @@ use std::rt::Files;
 use std::sync::Wait;
 use std::thread::Threads;
 
-// A script that is run, and how.
-#[derive(Clone, Copy)]
-struct RunTask<'a> {
-    script: &'a Script<'a>,
-    style: Style,
-    once: bool,
-    planned: bool,
-}
-
-// Runs a script on the image of a disk.
-fn run_task<
-    D: Disk + Drop + Send,
-    V: Observer<Standing> + Teller + Copy + Send,
-    W: Write,
-    N: Observer<News>,
-    R: Host,
->(
-    context: &RunContext<'_, Open, V, R>,
-    disk: D,
-    task: RunTask<'_>,
-    out: &mut W,
-    observer: &mut N,
-) -> (u8, D, Trace, bool)
-    ensures status { (result.0 ≤ 1) ⊎ (result.0 ≡ STALLED) }
-    ensures run { RunsWhen D.Disk task.entry.once task.entry.planned task.entry.script.now disk result.1
-        (output task.entry.style (W.contents out.old)) (W.contents out.new, result.3) result.2 result.0 }
-    ensures recorded { context.now.recorded ≡ true → result.2.recorded ≡ true }
-{
-    let RunTask {
-        script,
-        style,
-        once,
-        planned,
-    } = task;
-    if once {
-        let asked = Assignment {
-            script,
-            style,
-            planned,
-        };
-        return run_once_on(context, disk, asked, out, observer);
-    }
-    let styled = StyledScript { script, style };
-    if planned {
-        return run_on_plan(context, disk, &styled, out, observer);
-    }
-    run_on(context, disk, &styled, out, observer)
-}
-
 /// Runs the script of one file on the image of another, each element's requests by threads of its own. The script may
 /// have glances, and is a plan if that is asked for. Returns the status of [`run_on`], the image's disk and the trace.
 /// If it is strict, the status is [`FAULTY`] where it would be 0 and a line tells an error of the program that asked.
 /// [`run_on`] also says which lines are printed. The script is read first. The path `-` stands for the input, which is
-/// read to its end. If it is done once, [`run_once_on`] stands for [`run_on`] here, and else [`run_on_plan`] if it is a
-/// plan.
+/// read to its end.
 ///
 /// The clauses hold for whatever the image held when it was opened (`S`), as long as the file was honest. A crash at
 /// any moment since then leaves what [`run_on`] says. It says that of the bytes that the input gives, where these are
@@ -129,7 +76,7 @@ pub fn run_file<
         once: running.once,
         planned: running.planned,
     };
-    let (status, disk, trace, faulted) = run_task(&context, disk, task, out, observer);
+    let (status, disk, trace, faulted) = run_on(&context, disk, task, out, observer);
     Ok((strict_status(running.strict, faulted, status), disk, trace))
 }
 

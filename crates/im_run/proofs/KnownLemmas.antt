@@ -17,7 +17,7 @@ use Rattle.im_serial.specs.Fitting.{keeps_base, keeps_op}
 use Rattle.im_serial.specs.Had.{first_open, has_next, left_of, length_asked, met, next_had, numbers_had}
 use Rattle.im_serial.specs.Had.{numbers_settled, still_waits, sums_of, who_next}
 use Rattle.im_run.proofs.SplitLemmas.{AreBlocks, bases_had_of, blocks_left_of, has_split}
-use Rattle.im_run.specs.{Orders.blocks_asked, Orders.rest_of, Stops.setup_blocks}
+use Rattle.im_run.specs.{Orders.blocks_asked, Orders.scope_of, Stops.setup_blocks}
 use Rattle.im_types.specs.declared.operations.Op.TheVariants as op
 
 -- ---- an allocation never waits
@@ -178,8 +178,8 @@ module _ (cells elements : ℕ) (m : Contents) (is : IsMemory cells elements m) 
 -- The blocks that a run asks for are those that element 0 didn't ask for yet, and the names that it knows are those of
 -- the others.
 pub record Knows (m : Contents) (text : List ℕ) : Type 0 where
-  pub asked : blocks_asked (rest_of m text) ≡ drop (left_of (numbers_had m) 0) (setup_blocks text)
-  pub first : (rest_of m text).bases ≡ sums_of 0 (take (left_of (numbers_had m) 0) (setup_blocks text))
+  pub asked : blocks_asked (scope_of true m text) ≡ drop (left_of (numbers_had m) 0) (setup_blocks text)
+  pub first : (scope_of true m text).bases ≡ sums_of 0 (take (left_of (numbers_had m) 0) (setup_blocks text))
 
 pub drop_past : (n : ℕ) (l : List Wanted) → length l ≤ n → drop n l ≡ []
 drop_past zero [] le = refl

@@ -12,7 +12,7 @@ use Rattle.im_serial.proofs.BegunLemmas.{accepted_after, accepted_first}
 use Rattle.im_serial.specs.{Begun.new_memory, Serving.NotOpened}
 use Rattle.im_run.proofs.PlanStops.{has_all, plan_stops, Stops}
 use Rattle.im_run.proofs.StopsLemmas.{run_first, take_behind}
-use Rattle.im_run.specs.{Once.EndsOnce, Once.RanRest, Tracing.TraceState}
+use Rattle.im_run.specs.{Once.RanRest, Once.RunsFrom, Tracing.TraceState}
 use Rattle.im_run.specs.Stops.{HasAll, HasDoneByPlan, HasRunByPlan, KeepsRun, LeadTo, setup_blocks}
 
 -- ---- a session
@@ -136,7 +136,7 @@ module _ {D : Type 0} (disk : Ghosts D) (planned : Bool) (text : List ℕ) (was 
     ended = λ limits by zero. absurd (no_end one zero);
   }
 
-  ended_keeps : (start : SessionStart D) (new : D) → EndsOnce disk planned text start new was is calls status
+  ended_keeps : (start : SessionStart D) (new : D) → RunsFrom disk true planned text start new was is calls status
       → disk.honest new → KeepsRun disk planned text start.disk new status
   ended_keeps start new (inl it) honest = subst (λ (d : D). KeepsRun disk planned text start.disk d status)
       (sym it.closed)
@@ -153,7 +153,8 @@ module _ {D : Type 0} (disk : Ghosts D) (planned : Bool) (text : List ℕ) (was 
       })
 
   pub once_keeps : (old new : D) → NotOpened disk.now disk.past old new was is.0 status
-      ⊎ ((start : SessionStart D) × ((start.disk ≡ old) × EndsOnce disk planned text start new was is calls status))
+      ⊎ ((start : SessionStart D)
+      × ((start.disk ≡ old) × RunsFrom disk true planned text start new was is calls status))
       → disk.honest new → KeepsRun disk planned text old new status
   once_keeps old new (inl it) honest = keeps_all old new it.status_is (λ P before file left.
       ⊎_elim (before file) (before file) (leaves_now (disk.now old) (disk.now new) (disk.past old) (disk.past new)

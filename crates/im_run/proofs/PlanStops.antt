@@ -1,7 +1,7 @@
 -- One more run of a script by its plan: what all of them come to, from a new image on. (Own.)
-use Rattle.std.proofs.Common.{◌≡◌, ℕ, Bool, true, ◌⊎◌, List, [], ◌++◌, Some, sym, refl, ap, ◌∙◌, subst, inl, inr}
+use Rattle.std.proofs.Common.{◌≡◌, ℕ, Bool, true, false, ◌⊎◌, List, [], ◌++◌, Some, sym, refl, ap, ◌∙◌, subst, inl, inr}
 use Rattle.std.proofs.Common.{⊎_elim, append_assoc, append-nil, arith}
-use Rattle.im_types.specs.Types.{Request, Command, Line, Limits, Contents, IsMemory, after, accept_each}
+use Rattle.im_types.specs.Types.{Request, Command, Line, Limits, Contents, IsMemory, after, FitsPlan, accept_each}
 use Rattle.{im_laws.proofs.RunLemmas.after-append, im_engine.proofs.Keeping.accept_both}
 use Rattle.im_plans.specs.{Runs.HasServed, UnderWay.PlanGoesOn}
 use Rattle.im_controller.specs.{Kept.accepted_in, Planned.AreOnPlan}
@@ -11,8 +11,8 @@ use Rattle.im_serial.specs.{Begun.new_memory, Fitting.FitsScript, Once.HasMade}
 use Rattle.im_run.proofs.CountLemmas.{accept_split, had_more}
 use Rattle.im_run.proofs.StopsLemmas.{accepted_on, both_on, own_same, quiet_names, quiet_setup, setup_asked}
 use Rattle.im_run.proofs.StopsLemmas.{setup_goes_on, setup_named}
-use Rattle.im_run.specs.{declared.served.Did.Did, Doing.HasToldScript, Once.ServesRest, Running.HasEndedSetup}
-use Rattle.im_run.specs.Orders.{AreAllOrders, Ask, bases_made, rest_of, script_heard, SetsUp}
+use Rattle.im_run.specs.{declared.served.Did.Did, Doing.HasToldScript, Running.HasEndedSetup}
+use Rattle.im_run.specs.Orders.{AreAllOrders, Ask, bases_made, scope_of, script_heard, SetsUp}
 use Rattle.im_run.specs.Planned.{DidNotBegin, plan_of, RanByPlan}
 use Rattle.im_run.specs.Stops.{HasAll, HasDoneByPlan, HasRunByPlan, IsByPlan, IsOwnPlan, new_bases, setup_blocks}
 
@@ -30,7 +30,7 @@ module _ (limits : Limits) (text : List ℕ) (earlier : List Command) (n : Conte
     all_accepted = accept_both (new_memory limits) n (after n put) earlier put was.accepted accepts
 
     -- they are of the setup alone
-    only_setup : (left : List Wanted) → SetsUp (rest_of n text) n put left
+    only_setup : (left : List Wanted) → SetsUp (scope_of true n text) n put left
         → HasRunByPlan limits text (earlier ++ put) (after n put)
     only_setup left set = ⊎_elim by_blocks by_plan was.parts
       where
@@ -78,14 +78,14 @@ module _ (limits : Limits) (text : List ℕ) (earlier : List Command) (n : Conte
 
   -- the setup's, and then some of a plan
   module _ (setup more : List Command) (accepts : accept_each n (setup ++ more) ≡ Some (after n (setup ++ more)))
-      (set : SetsUp (rest_of n text) n setup []) (whole : List Ask)
-      (all : AreAllOrders (bases_made (rest_of n text) n setup) (script_heard text) whole)
+      (set : SetsUp (scope_of true n text) n setup []) (whole : List Ask)
+      (all : AreAllOrders (bases_made (scope_of true n text) n setup) (script_heard text) whole)
       (goes_on : PlanGoesOn (after n setup) (plan_of whole)) (on : AreOnPlan (Some (plan_of whole)) more) where
     first_accepted : accept_each n setup ≡ Some (after n setup)
     first_accepted = (accept_split setup more n (after n (setup ++ more)) accepts).0
 
     -- the plan is the script's own, if its names stand for the bases of a new image
-    own_by : bases_made (rest_of n text) n setup ≡ new_bases text → IsOwnPlan text (plan_of whole)
+    own_by : bases_made (scope_of true n text) n setup ≡ new_bases text → IsOwnPlan text (plan_of whole)
     own_by names =
         (whole, (subst (λ (b : List ℕ). AreAllOrders b (script_heard text) whole) names all, refl))
 
@@ -171,7 +171,7 @@ module _ (limits : Limits) (text : List ℕ) (earlier : List Command) (n : Conte
           (after n (told ++ doubt))
 
     -- nothing was put behind the setup
-    setup_stops : (left : List Wanted) → SetsUp (rest_of n text) n (told ++ doubt) left → (status ≡ 0 → ⊥) → Stops
+    setup_stops : (left : List Wanted) → SetsUp (scope_of true n text) n (told ++ doubt) left → (status ≡ 0 → ⊥) → Stops
     setup_stops left set refused = record {
       run = only_setup (told ++ doubt) accepts left set;
       done = λ zero. absurd (refused zero);
@@ -183,8 +183,7 @@ module _ (limits : Limits) (text : List ℕ) (earlier : List Command) (n : Conte
         ∙ append-nil setup
 
     -- the parts were served
-    module _ (t : HasToldScript (rest_of n text) (ServesRest planned n text trace (status ≡ 0) setup told doubt) n setup
-        trace (status ≡ 0) did) where
+    module _ (t : HasToldScript true planned text n setup told doubt trace (status ≡ 0) did) where
       split : told ++ doubt ≡ setup ++ (accepted_in (after n setup) trace ++ doubt)
       split = ap (λ (l : List Command). l ++ doubt) put_is
           ∙ append_assoc setup (accepted_in (after n setup) trace) doubt
@@ -193,8 +192,10 @@ module _ (limits : Limits) (text : List ℕ) (earlier : List Command) (n : Conte
           ≡ Some (after n (setup ++ (accepted_in (after n setup) trace ++ doubt)))
       accepts_split = subst (λ (l : List Command). accept_each n l ≡ Some (after n l)) split accepts
 
-      on_plan_stops : (whole : List Ask) → AreAllOrders (bases_made (rest_of n text) n setup) (script_heard text) whole
-          → RanByPlan (Unit {0}) (plan_of whole) (after n setup) trace doubt (after n told) (status ≡ 0) → Stops
+      on_plan_stops : (whole : List Ask)
+          → AreAllOrders (bases_made (scope_of true n text) n setup) (script_heard text) whole
+          → RanByPlan (true ≡ false → FitsPlan (after n setup) (plan_of whole)) (plan_of whole) (after n setup) trace
+          doubt (after n told) (status ≡ 0) → Stops
       on_plan_stops whole all ran =
           let plan = plan_of whole in
           let it = comes setup (accepted_in (after n setup) trace ++ doubt) accepts_split t.made whole all
@@ -212,14 +213,15 @@ module _ (limits : Limits) (text : List ℕ) (earlier : List Command) (n : Conte
       unbegun_stops : DidNotBegin trace doubt (status ≡ 0) → Stops
       unbegun_stops none =
           let is = ap (λ (l : List Command). told ++ l) none.sure ∙ append-nil told ∙ unserved_is none.unserved in
-          setup_stops [] (subst (λ (l : List Command). SetsUp (rest_of n text) n l []) (sym is) t.made) none.refused
+          setup_stops [] (subst (λ (l : List Command). SetsUp (scope_of true n text) n l []) (sym is) t.made)
+          none.refused
 
     pub plan_stops : planned ≡ true
-        → HasToldScript (rest_of n text) (ServesRest planned n text trace (status ≡ 0) setup told doubt) n setup trace
-        (status ≡ 0) did ⊎ HasEndedSetup (rest_of n text) n setup doubt trace status did → Stops
-    plan_stops by (inl t) = ⊎_elim (on_plan_stops t t.also.0.whole t.also.0.is_whole) (unbegun_stops t) (t.also.1 by)
+        → HasToldScript true planned text n setup told doubt trace (status ≡ 0) did
+        ⊎ HasEndedSetup (scope_of true n text) n setup doubt trace status did → Stops
+    plan_stops by (inl t) = ⊎_elim (on_plan_stops t t.whole t.is_whole) (unbegun_stops t) (t.by_plan by)
     plan_stops by (inr ended) = setup_stops ended.left
-        (subst (λ (l : List Command). SetsUp (rest_of n text) n (l ++ doubt) ended.left)
+        (subst (λ (l : List Command). SetsUp (scope_of true n text) n (l ++ doubt) ended.left)
         (sym (unserved_is ended.unserved)) ended.began) ended.refused
 
 -- ---- a run by threads that did all of it
@@ -233,10 +235,9 @@ module _ (limits : Limits) (text : List ℕ) (earlier : List Command) (n : Conte
       (accepts : accept_each n told ≡ Some (after n told))
       (put_is : told ≡ setup ++ accepted_in (after n setup) trace) where
     by_orders : (doubt : List Command) → status ≡ 0
-        → HasToldScript (rest_of n text) (ServesRest planned n text trace (status ≡ 0) setup told doubt) n setup trace
-        (status ≡ 0) did → HasAll limits text (earlier ++ told) (after n told)
+        → HasToldScript true planned text n setup told doubt trace (status ≡ 0) did
+        → HasAll limits text (earlier ++ told) (after n told)
     by_orders doubt zero t =
-        let all = t.also.0 in
         let put = accepted_in (after n setup) trace in
         let both = accept_split setup put n (after n told)
         (subst (λ (l : List Command). accept_each n l ≡ Some (after n told)) put_is accepts) in
@@ -248,16 +249,16 @@ module _ (limits : Limits) (text : List ℕ) (earlier : List Command) (n : Conte
         record {
           accepted = accept_both (new_memory limits) n (after n told) earlier told begun accepts;
           setup = omega (arith, asked, more);
-          bases = bases_made (rest_of n text) n setup;
+          bases = bases_made (scope_of true n text) n setup;
           names = setup_named limits text earlier n begun fit setup t.made both.0;
-          whole = all.whole;
-          requests = all.is_whole;
-          served = all.served zero;
+          whole = t.whole;
+          requests = t.is_whole;
+          served = t.served refl zero;
         }
 
     pub has_all : (doubt : List Command) → status ≡ 0
-        → HasToldScript (rest_of n text) (ServesRest planned n text trace (status ≡ 0) setup told doubt) n setup trace
-        (status ≡ 0) did ⊎ HasEndedSetup (rest_of n text) n setup doubt trace status did
+        → HasToldScript true planned text n setup told doubt trace (status ≡ 0) did
+        ⊎ HasEndedSetup (scope_of true n text) n setup doubt trace status did
         → HasAll limits text (earlier ++ told) (after n told)
     has_all doubt zero (inl t) = by_orders doubt zero t
     has_all doubt zero (inr ended) = absurd (ended.refused zero)

@@ -10,8 +10,8 @@ use Rattle.im_serial.proofs.OnceLemmas.{met_start, shown_at, shown_written}
 use Rattle.im_serial.specs.{Asked.Wanted, Asked.wanted_of, Fitting.FitsScript, Had.bases_had, Had.numbers_had}
 use Rattle.im_serial.specs.Once.{Breaks, HasMade, HasServedNothing, HasShown, IsPrefix, lines_had}
 use Rattle.im_serial.specs.Serving.{output_of, ScriptServer, server_of}
-use Rattle.im_run.specs.Once.{EndsWhen, IsUnrun, RanRest, RunWhen}
-use Rattle.im_run.specs.{Orders.bases_first, Tracing.TraceState}
+use Rattle.im_run.specs.Once.{IsUnrun, RanRest, RunsFrom}
+use Rattle.im_run.specs.{Orders.bases_first, Running.RunOn, Tracing.TraceState}
 
 module _ {D : Type 0} (disk : Ghosts D) (script : List Wanted) (old mid : ScriptServer D) (bases : List ℕ)
     (ready : HasServedNothing old bases) where
@@ -93,7 +93,7 @@ module _ {D : Type 0} (disk : Ghosts D) (script : List Wanted) (old mid : Script
     -- it ran
     pub rest_by : (planned : Bool) (text : List ℕ) → script ≡ wanted_of text
         → FitsScript old.session.engine.memory script → (new : D) (is : Written) (calls : TraceState)
-        (status : ℕ) → RunWhen disk true planned text mid.session.start new (output_of mid) is calls status
+        (status : ℕ) → RunOn disk true planned text mid.session.start new (output_of mid) is calls status
         → RanRest disk planned text old.session.start new (output_of old) is calls status
     rest_by planned text same fit new is calls status run = record {
       fit = subst (FitsScript found) same (subst (λ (m : Contents). FitsScript m script) found_is fit);
@@ -102,9 +102,9 @@ module _ {D : Type 0} (disk : Ghosts D) (script : List Wanted) (old mid : Script
       shown = subst (λ (s : List Wanted). SaysWhole (output_of old) (mid.held, mid.lines.faulted)
           (lines_had found (numbers_had found) s))
           same (shown_written script bases known old mid it fit ready);
-      run = subst (λ (t : SessionState D). RunWhen disk true planned text t.start new
+      run = subst (λ (t : SessionState D). RunOn disk true planned text t.start new
           (record (output_of mid) { style = old.lines.style }) is calls status) it.session
-          (subst (λ (s : Style). RunWhen disk true planned text mid.session.start new
+          (subst (λ (s : Style). RunOn disk true planned text mid.session.start new
           (record (output_of mid) { style = s }) is calls status)
           (shown_at script bases known old mid it fit ready).1.1.styled run);
     }
@@ -112,7 +112,7 @@ module _ {D : Type 0} (disk : Ghosts D) (script : List Wanted) (old mid : Script
 -- the disk was honest at the start, if it is at the end
 pub ends_honest : {D : Type 0} (disk : Ghosts D) (once planned : Bool) (text : List ℕ) (start : SessionStart D)
     (new : D) (was : Output) (is : Written) (calls : TraceState) (status : ℕ)
-    → EndsWhen disk once planned text start new was is calls status → disk.honest new → disk.honest start.disk
+    → RunsFrom disk once planned text start new was is calls status → disk.honest new → disk.honest start.disk
 ends_honest disk false planned text start new was is calls status it honest =
     it.kept.honest (subst disk.honest it.closed honest)
 ends_honest disk true planned text start new was is calls status (inl it) honest =

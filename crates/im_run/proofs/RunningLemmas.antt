@@ -2,22 +2,23 @@
 use Rattle.std.proofs.Common.{◌≡◌, ℕ, zero, suc, ◌+◌, ◌≤◌, Bool, true, false, ◌⊎◌, List, [], ◌++◌, length, take}
 use Rattle.std.proofs.Common.{slice_get, Some, None, Option, sym, refl, ap, ◌∙◌, subst, inl, inr, ⊎_elim, append-nil}
 use Rattle.std.proofs.Common.{arith}
-use Rattle.im_types.specs.Types.{Request, Command, Line, Contents, after, accepted, IsLegal, Means}
-use Rattle.{im_laws.proofs.Tests.true_false, im_engine.specs.State.EngineState, im_controller.specs.State.OpeningState}
+use Rattle.im_types.specs.Types.{Request, Command, Line, Window, Contents, after, accepted, FitsPlan, IsLegal, Means}
+use Rattle.{im_laws.proofs.Tests.true_false, im_plans.specs.Runs.HasServed, im_script.specs.declared.Heard.Heard}
 use Rattle.im_disk.specs.{declared.Disk.Ghosts, Moment.Left, Moment.Rises, Since.Leaves, Since.LeavesNow}
+use Rattle.im_engine.specs.State.{EngineState}
 use Rattle.im_session.specs.Kept.{Kept, session_of, SessionStart, SessionState}
 use Rattle.im_controller.specs.Kept.{accepted_in, Begun, begun_by, IsSessionOf, origin_of}
+use Rattle.im_controller.specs.{Planned.MayStart, Planned.plan_in, State.OpeningState}
 use Rattle.im_text.proofs.{SaidLemmas.prints_begins, TextLemmas.written_none}
 use Rattle.im_text.specs.declared.{Lines.Lines, OutputLine.OutputLine, Waited.Waited}
 use Rattle.im_text.specs.Said.{IsLast, Output, Prints, PrintsMore, replies, SaysSome, SaysWhole, Written}
 use Rattle.im_serial.specs.{Asked.Course, Asked.Standing, Asked.Wanted, Noted.Notes, Serving.IsOver, Serving.IsServing}
-use Rattle.im_run.proofs.DoingLemmas.{told_weaker}
+use Rattle.im_run.{proofs.DoingLemmas.told_weaker, specs.Doing.AreAllTold, specs.Tracing.TraceState}
 use Rattle.im_run.specs.declared.{run.TheConstants.STALLED, served.Did.Did}
-use Rattle.im_run.specs.{Doing.AreAllTold, Once.also_when, Once.RunWhen, Tracing.TraceState}
-use Rattle.im_run.specs.Orders.{AreOrders, ArePartsThere, Ask, bases_made, IsOfAll, Scope, scope_when, script_heard}
-use Rattle.im_run.specs.Orders.{SetsUp}
-use Rattle.im_run.specs.Planned.{EndsOnPlan, FitsIfNew, HasServedWhole, plan_of, planned_orders}
-use Rattle.im_run.specs.Running.{BeginsFinals, Closes, EndedOn, final_line, finals, PrintsFinals, ServersEnded}
+use Rattle.im_run.specs.Orders.{AreOrders, ArePartsThere, AreOfAll, Ask, bases_made, IsOfAll, Scope, scope_of}
+use Rattle.im_run.specs.Orders.{script_heard, SetsUp}
+use Rattle.im_run.specs.Planned.{EndsOnPlan, FitsIfNew, HasServedWhole, plan_of, planned_orders, start_by}
+use Rattle.im_run.specs.Running.{BeginsFinals, Closes, EndedOn, final_line, finals, PrintsFinals, RunOn, ServersEnded}
 
 -- ---- where a session began
 
@@ -139,30 +140,62 @@ none_done start is text m n did none begins =
         ∙ written_none (λ i. final_line n (slice_get did i)) []
     no_finals (suc many) few = absurd (omega arith)
 
--- ---- what else is told of a run
+-- ---- the plan
 
--- by all requests of the script, if they are known, and by the plan, if there is one
-also_by : (once planned : Bool) (whole : Option (List Ask)) (m : Contents) (script : List ℕ) (setup put doubt
-    : List Command) (orders : List Ask) (trace : List Line) (none : Type 0)
-    → IsOfAll once (bases_made (scope_when once m script) m setup) (script_heard script) whole
-    → (none → HasServedWhole (after m put).windows whole)
-    → (planned ≡ true → EndsOnPlan (FitsIfNew whole (after m setup) (plan_of (planned_orders whole orders)))
-    (plan_of (planned_orders whole orders)) (after m setup) trace doubt (after m put) none)
-    → also_when once planned m script trace none setup put doubt orders
-also_by false false whole m script setup put doubt orders trace none is served by = tt
-also_by false true None m script setup put doubt orders trace none is served by = by refl
-also_by false true (Some whole) m script setup put doubt orders trace none is served by =
-    absurd (true_false (sym is.0))
-also_by true planned None m script setup put doubt orders trace none is served by = absurd (true_false is)
-also_by true planned (Some whole) m script setup put doubt orders trace none is served by =
-    (record { whole = whole; is_whole = is.1; served = served }, by)
+-- the plan that servers start under, if their requests are one
+pub plan_is : (planned : Bool) (whole : Option (List Ask)) (orders : List Ask) (found : Option (List Request))
+    → found ≡ plan_in (start_by planned whole orders) → planned ≡ true
+    → found ≡ Some (plan_of (planned_orders whole orders))
+plan_is false whole orders found is by = absurd (true_false (sym by))
+plan_is true whole orders found is by = is
+
+-- it fits, if it isn't resumed
+pub plan_fits : (planned : Bool) (whole : Option (List Ask)) (orders : List Ask) (m : Contents)
+    → MayStart m (start_by planned whole orders) → planned ≡ true
+    → FitsIfNew whole m (plan_of (planned_orders whole orders))
+plan_fits false whole orders m may by = absurd (true_false (sym by))
+plan_fits true None orders m may by = may
+plan_fits true (Some whole) orders m may by = tt
+
+-- all that a script asks for: the orders that the plan is of
+are_of_all : (once : Bool) (bases : List ℕ) (script : List Heard) (whole : Option (List Ask)) (orders : List Ask)
+    → IsOfAll once bases script whole → AreOfAll once bases script orders (planned_orders whole orders)
+are_of_all false bases script None orders is = refl
+are_of_all true bases script None orders is = absurd (true_false is)
+are_of_all false bases script (Some whole) orders is = absurd (true_false (sym is.0))
+are_of_all true bases script (Some whole) orders is = is.1
+
+-- it was served, if all is known
+served_whole : (once : Bool) (bases : List ℕ) (script : List Heard) (whole : Option (List Ask)) (orders : List Ask)
+    (windows : List Window) → IsOfAll once bases script whole → HasServedWhole windows whole → once ≡ true
+    → HasServed windows (plan_of (planned_orders whole orders))
+served_whole once bases script None orders windows is served by = absurd (true_false (sym by ∙ is))
+served_whole once bases script (Some whole) orders windows is served by = served
+
+-- it went by its plan
+on_whole : (once : Bool) (bases : List ℕ) (script : List Heard) (whole : Option (List Ask)) (plan : List Request)
+    (m : Contents) (trace : List Line) (doubt : List Command) (end : Contents) (none : Type 0)
+    → IsOfAll once bases script whole → EndsOnPlan (FitsIfNew whole m plan) plan m trace doubt end none
+    → EndsOnPlan (once ≡ false → FitsPlan m plan) plan m trace doubt end none
+on_whole once bases script whole plan m trace doubt end none is (inl ran) = inl (record {
+  fits = fits whole is ran.fits;
+  ended = ran.ended;
+  doubted = ran.doubted;
+  served = ran.served;
+})
+  where
+    fits : (whole : Option (List Ask)) → IsOfAll once bases script whole → FitsIfNew whole m plan → once ≡ false
+        → FitsPlan m plan
+    fits None is it anew = it
+    fits (Some whole) is it anew = absurd (true_false (sym is.0 ∙ anew))
+on_whole once bases script whole plan m trace doubt end none is (inr unbegun) = inr unbegun
 
 -- ---- the end of a run
 
 module _ {D : Type 0} (disk : Ghosts D) (once planned : Bool) (script : List ℕ) (start : SessionStart D)
     (t : SessionState D) where
   abbrev scope : Scope
-  scope = scope_when once start.memory script
+  scope = scope_of once start.memory script
 
   -- the setup was ended
   pub halted_run : (course : Option Course) (waited : List Waited) (text : List OutputLine) (was : Output)
@@ -171,8 +204,8 @@ module _ {D : Type 0} (disk : Ghosts D) (once planned : Bool) (script : List ℕ
       → IsOver start t course text waited → Kept disk t → Prints was mid lines text → did ≡ [] → new ≡ t.engine.disk
       → ((status ≡ 0) ⊎ (status ≡ STALLED) → t.engine.failed ≡ false) → (status ≡ 0 → ⊥)
       → Closes mid lines is t.engine.memory did status → calls.served ≡ []
-      → (left : List Wanted) → SetsUp (scope_when once start.memory script) start.memory (t.put ++ t.doubt) left
-      → RunWhen disk once planned script start new was is calls status
+      → (left : List Wanted) → SetsUp (scope_of once start.memory script) start.memory (t.put ++ t.doubt) left
+      → RunOn disk once planned script start new was is calls status
   halted_run course waited text was mid is lines did new calls status over kept prints none closed works never closes
       unserved left began =
       record {
@@ -210,12 +243,12 @@ module _ {D : Type 0} (disk : Ghosts D) (once planned : Bool) (script : List ℕ
       (calls : TraceState) (status : ℕ)
       → IsServing start t s text n → Prints was held lines text
       → EndedOn disk planned whole orders t new held lines is calls.served status
-      → AreOrders (scope_when once start.memory script) t.engine.memory bases orders
+      → AreOrders (scope_of once start.memory script) t.engine.memory bases orders
       → IsOfAll once bases (script_heard script) whole
-      → SetsUp (scope_when once start.memory script) start.memory t.put []
-      → bases ≡ bases_made (scope_when once start.memory script) start.memory t.put
+      → SetsUp (scope_of once start.memory script) start.memory t.put []
+      → bases ≡ bases_made (scope_of once start.memory script) start.memory t.put
       → ArePartsThere (length start.memory.windows) (script_heard script)
-      → RunWhen disk once planned script start new was is calls status
+      → RunOn disk once planned script start new was is calls status
   ended_run bases whole orders s n text was held is lines new calls status it prints ended of_script is_whole sets named
       there =
       let m = start.memory in
@@ -229,6 +262,8 @@ module _ {D : Type 0} (disk : Ghosts D) (once planned : Bool) (script : List ℕ
       let closes = ended.printed was text prints in
       let last : ended.engine.memory ≡ after m put = kept.memory in
       let plan : List Request = plan_of (planned_orders whole orders) in
+      let of_all : IsOfAll once (bases_made scope m setup) (script_heard script) whole =
+      subst (λ (b : List ℕ). IsOfAll once b (script_heard script) whole) named is_whole in
       record {
         put = put;
         doubt = e.doubt;
@@ -260,10 +295,14 @@ module _ {D : Type 0} (disk : Ghosts D) (once planned : Bool) (script : List ℕ
               (subst (λ (x : Contents). AreOrders scope x bases orders) begun of_script);
           all = subst (λ (x : Contents). AreAllTold x trace (status ≡ 0) orders ended.did) begun e.told;
           alone = e.alone;
-          also = also_by once planned whole m script setup put e.doubt orders trace (status ≡ 0)
-              (subst (λ (b : List ℕ). IsOfAll once b (script_heard script) whole) named is_whole)
-              (λ zero. subst (λ (x : Contents). HasServedWhole x.windows whole) last (e.all_served zero))
-              (λ by. subst (λ (x : Contents). EndsOnPlan (FitsIfNew whole x plan) plan x trace e.doubt (after m put)
+          whole = planned_orders whole orders;
+          is_whole = are_of_all once (bases_made scope m setup) (script_heard script) whole orders of_all;
+          served = λ by zero. served_whole once (bases_made scope m setup) (script_heard script) whole orders
+              (after m put).windows of_all
+              (subst (λ (x : Contents). HasServedWhole x.windows whole) last (e.all_served zero)) by;
+          by_plan = λ by. on_whole once (bases_made scope m setup) (script_heard script) whole plan (after m setup)
+              trace e.doubt (after m put) (status ≡ 0) of_all
+              (subst (λ (x : Contents). EndsOnPlan (FitsIfNew whole x plan) plan x trace e.doubt (after m put)
               (status ≡ 0)) begun
               (subst (λ (x : Contents). EndsOnPlan (FitsIfNew whole t.engine.memory plan) plan t.engine.memory trace
               e.doubt x (status ≡ 0)) last (e.as_planned it.works by)));

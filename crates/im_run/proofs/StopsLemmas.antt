@@ -16,7 +16,7 @@ use Rattle.im_serial.specs.{Fitting.FitsScript, Had.left_of, Had.numbers_had, Ha
 use Rattle.im_run.proofs.CountLemmas.{accept_split, blocks_asked_all, had_more, names_count, nothing_made, sums_count}
 use Rattle.im_run.proofs.KnownLemmas.{drop_past, Knows, knows}
 use Rattle.im_run.proofs.SplitLemmas.{AreBlocks, blocks_first, blocks_setup, count_blocks, has_split, made_first}
-use Rattle.im_run.specs.Orders.{AreAllOrders, Ask, ask_if, asks_from, bases_made, blocks_asked, rest_of, script_heard}
+use Rattle.im_run.specs.Orders.{AreAllOrders, Ask, ask_if, asks_from, bases_made, blocks_asked, scope_of, script_heard}
 use Rattle.im_run.specs.Orders.{SetsUp}
 use Rattle.im_run.specs.{Planned.plan_of, Stops.HasRunByPlan, Stops.IsOwnPlan, Stops.new_bases, Stops.setup_blocks}
 
@@ -213,24 +213,24 @@ module _ (limits : Limits) (text : List ℕ) (put : List Command) (n : Contents)
   known = knows limits.cells limits.elements n memory text fit
 
   -- the setup by what is known
-  leads_known : (setup : List Command) (left : List Wanted) → SetsUp (rest_of n text) n setup left
+  leads_known : (setup : List Command) (left : List Wanted) → SetsUp (scope_of true n text) n setup left
       → Leads n (sums_of 0 (take (left_of (numbers_had n) 0) (setup_blocks text)))
       (drop (left_of (numbers_had n) 0) (setup_blocks text)) setup left
   leads_known setup left it =
       subst (λ (l : List Wanted). Leads n (sums_of 0 (take (left_of (numbers_had n) 0) (setup_blocks text))) l setup
       left) known.asked
-      (subst (λ (b : List ℕ). Leads n b (blocks_asked (rest_of n text)) setup left) known.first it)
+      (subst (λ (b : List ℕ). Leads n b (blocks_asked (scope_of true n text)) setup left) known.first it)
 
-  bases_known : (setup : List Command) → bases_made (rest_of n text) n setup
+  bases_known : (setup : List Command) → bases_made (scope_of true n text) n setup
       ≡ bases_after n (sums_of 0 (take (left_of (numbers_had n) 0) (setup_blocks text)))
       (drop (left_of (numbers_had n) 0) (setup_blocks text)) setup
-  bases_known setup = ap (λ (b : List ℕ). bases_after n b (blocks_asked (rest_of n text)) setup) known.first
+  bases_known setup = ap (λ (b : List ℕ). bases_after n b (blocks_asked (scope_of true n text)) setup) known.first
       ∙ ap (λ (l : List Wanted). bases_after n (sums_of 0 (take (left_of (numbers_had n) 0) (setup_blocks text))) l
       setup) known.asked
 
   -- ---- all of it was asked for
 
-  module _ (setup : List Command) (set : SetsUp (rest_of n text) n setup [])
+  module _ (setup : List Command) (set : SetsUp (scope_of true n text) n setup [])
       (accepts : accept_each n setup ≡ Some (after n setup)) where
     pub setup_asked : length (setup_blocks text) ≤ left_of (numbers_had (after n setup)) 0
     setup_asked =
@@ -240,7 +240,7 @@ module _ (limits : Limits) (text : List ℕ) (put : List Command) (n : Contents)
         let count = drop_count (left_of (numbers_had n) 0) (setup_blocks text) in
         omega (arith, more, asked, count)
 
-    pub setup_named : length (bases_made (rest_of n text) n setup) ≡ length (setup_blocks text)
+    pub setup_named : length (bases_made (scope_of true n text) n setup) ≡ length (setup_blocks text)
     setup_named =
         let had = left_of (numbers_had n) 0 in
         let count = names_count setup (drop had (setup_blocks text)) n
@@ -267,7 +267,7 @@ module _ (limits : Limits) (text : List ℕ) (put : List Command) (n : Contents)
     done_is = ap (λ (k : ℕ). take k (setup_blocks text)) had_done
         ∙ ap (take (length done)) stands.split ∙ take_front done rest
 
-    leads_there : (setup : List Command) (left : List Wanted) → SetsUp (rest_of n text) n setup left
+    leads_there : (setup : List Command) (left : List Wanted) → SetsUp (scope_of true n text) n setup left
         → Leads (after (new_memory limits) put) (sums_of 0 done) rest setup left
     leads_there setup left it =
         subst (λ (x : Contents). Leads x (sums_of 0 done) rest setup left) n_is
@@ -275,12 +275,13 @@ module _ (limits : Limits) (text : List ℕ) (put : List Command) (n : Contents)
         (subst (λ (d : List Wanted). Leads n (sums_of 0 d) (drop (left_of (numbers_had n) 0) (setup_blocks text)) setup
         left) done_is (leads_known setup left it)))
 
-    leads_on : (setup : List Command) (left : List Wanted) → SetsUp (rest_of n text) n setup left
+    leads_on : (setup : List Command) (left : List Wanted) → SetsUp (scope_of true n text) n setup left
         → Leads (new_memory limits) [] (setup_blocks text) (put ++ setup) left
     leads_on setup left it = stands.reached setup left (leads_there setup left it)
 
-    named_on : (setup : List Command) → SetsUp (rest_of n text) n setup [] → accept_each n setup ≡ Some (after n setup)
-        → bases_made (rest_of n text) n setup ≡ new_bases text
+    named_on : (setup : List Command) → SetsUp (scope_of true n text) n setup []
+        → accept_each n setup ≡ Some (after n setup)
+        → bases_made (scope_of true n text) n setup ≡ new_bases text
     named_on setup it accepts = bases_known setup
         ∙ ap (λ (d : List Wanted). bases_after n (sums_of 0 d) (drop (left_of (numbers_had n) 0) (setup_blocks text))
         setup) done_is
@@ -294,7 +295,7 @@ module _ (limits : Limits) (text : List ℕ) (put : List Command) (n : Contents)
   pub record GoesOn (setup : List Command) (left : List Wanted) : Type 0 where
     pub leads : Leads (new_memory limits) [] (setup_blocks text) (put ++ setup) left
     pub names : left ≡ [] → accept_each n setup ≡ Some (after n setup)
-        → bases_made (rest_of n text) n setup ≡ new_bases text
+        → bases_made (scope_of true n text) n setup ≡ new_bases text
 
   made_blocks : HasMade n (wanted_of text) → HasMade (after (new_memory limits) put) (setup_blocks text)
   made_blocks made =
@@ -304,13 +305,14 @@ module _ (limits : Limits) (text : List ℕ) (put : List Command) (n : Contents)
       (subst (AreMade n (numbers_had n)) split.split.all made))
 
   pub setup_goes_on : (last : List Wanted) → Leads (new_memory limits) [] (setup_blocks text) put last
-      → HasMade n (wanted_of text) → (setup : List Command) (left : List Wanted) → SetsUp (rest_of n text) n setup left
+      → HasMade n (wanted_of text) → (setup : List Command) (left : List Wanted)
+      → SetsUp (scope_of true n text) n setup left
       → GoesOn setup left
   setup_goes_on last leads made setup left it = ⊎_elim
       (λ h. record {
         leads = leads_on h.0 h.1.0 h.1.1 setup left it;
         names = λ none accepts. named_on h.0 h.1.0 h.1.1 setup
-            (subst (λ (l : List Wanted). SetsUp (rest_of n text) n setup l) none it) accepts;
+            (subst (λ (l : List Wanted). SetsUp (scope_of true n text) n setup l) none it) accepts;
       })
       (λ (stuck : IsStuck limits (setup_blocks text) put). absurd (stuck.0 (made_blocks made)))
       (run_comes limits (setup_blocks text) put n (blocks_setup (setup_blocks text) are)
@@ -332,7 +334,7 @@ module _ (limits : Limits) (text : List ℕ) (put : List Command) (n : Contents)
         (is_memory limits first) both.1 in
         omega (arith, made, none, asked, more)
 
-    leads_none : (setup : List Command) (left : List Wanted) → SetsUp (rest_of n text) n setup left
+    leads_none : (setup : List Command) (left : List Wanted) → SetsUp (scope_of true n text) n setup left
         → Leads n (sums_of 0 (setup_blocks text)) [] setup left
     leads_none setup left it =
         subst (λ (l : List Wanted). Leads n (sums_of 0 (setup_blocks text)) l setup left)
@@ -341,11 +343,11 @@ module _ (limits : Limits) (text : List ℕ) (put : List Command) (n : Contents)
         left) (take_all (left_of (numbers_had n) 0) (setup_blocks text) all_had) (leads_known setup left it))
 
     pub quiet_setup : (plan : List Request) (setup : List Command) (left : List Wanted)
-        → SetsUp (rest_of n text) n setup left → AreOnPlan (Some plan) setup
+        → SetsUp (scope_of true n text) n setup left → AreOnPlan (Some plan) setup
     quiet_setup plan setup left it = quiet plan setup n (sums_of 0 (setup_blocks text)) left (leads_none setup left it)
 
-    pub quiet_names : (setup : List Command) (left : List Wanted) → SetsUp (rest_of n text) n setup left
-        → bases_made (rest_of n text) n setup ≡ new_bases text
+    pub quiet_names : (setup : List Command) (left : List Wanted) → SetsUp (scope_of true n text) n setup left
+        → bases_made (scope_of true n text) n setup ≡ new_bases text
     quiet_names setup left it = bases_known setup
         ∙ ap (λ (d : List Wanted). bases_after n (sums_of 0 d) (drop (left_of (numbers_had n) 0) (setup_blocks text))
         setup) (take_all (left_of (numbers_had n) 0) (setup_blocks text) all_had)

@@ -1,14 +1,14 @@
 -- What was done of the orders of a script. (Own.)
-use Rattle.std.specs.Prelude.{◌≡◌, ℕ, suc, ◌⊎◌, List, [], ◌∷◌, ◌++◌, map, length, if◌then◌else◌, IsOk, nat_le, None}
-use Rattle.std.specs.Prelude.{All, Option}
+use Rattle.std.specs.Prelude.{◌≡◌, ℕ, suc, Bool, true, false, ◌⊎◌, List, [], ◌∷◌, ◌++◌, map, length, if◌then◌else◌}
+use Rattle.std.specs.Prelude.{IsOk, nat_le, None, All, Option}
 use Rattle.std.specs.List.{AllByRecursion}
-use Rattle.im_types.specs.Types.{Entry, Command, Line, Refusal, Contents, after}
-use Rattle.im_controller.specs.State.{PortState}
+use Rattle.im_types.specs.Types.{Entry, Command, Line, Refusal, Contents, after, FitsPlan}
+use Rattle.{im_plans.specs.Runs.HasServed, im_controller.specs.State.PortState}
 use Rattle.im_serving.specs.{declared.Glanced.Glanced, Elements.Asked, Elements.End}
 use Rattle.im_serving.specs.declared.Intent.{Intent, TheVariants.Glance, TheVariants.Request}
 use Rattle.im_serving.specs.Serving.{AreDone, AreGlanced, HasAnswers, IsGlanced, ops_of, requests, sites}
-use Rattle.im_run.specs.{Alone.AreCallsOf, declared.served.Did.Did}
-use Rattle.im_run.specs.Orders.{AreOrders, ArePartsThere, Ask, bases_made, Scope, SetsUp}
+use Rattle.im_run.specs.{Alone.AreCallsOf, declared.served.Did.Did, Planned.EndsOnPlan, Planned.plan_of}
+use Rattle.im_run.specs.Orders.{AreOrders, ArePartsThere, AreOfAll, Ask, bases_made, scope_of, script_heard, SetsUp}
 use mathlib.Core.List.{IsPrefix}
 use Rattle.im_run.specs.declared.served.Did.TheVariants as did
 
@@ -50,18 +50,26 @@ AreAllTold m trace none (order ∷ orders) told =
 
 -- The setup of a script was served whole on this memory, by these commands, and the names stand for the bases that
 -- they made. The memory has the element of each part, of one with no line too. Then its parts were served, with this
--- trace. This is told of the parts, and it is all that they ask for if nothing was refused. If nothing was refused,
--- nobody was served who didn't ask: each line of the trace is of a request of a part, under its number, or of its
--- element's confirmation or collect. And this is so of the parts' orders.
-pub record HasToldScript (s : Scope) (Also : List Ask → Type 0) (start : Contents) (setup : List Command)
+-- trace, by all that was put, with these commands in doubt. This is told of the parts, and it is all that they ask for
+-- if nothing was refused.
+pub record HasToldScript (once planned : Bool) (text : List ℕ) (start : Contents) (setup put doubt : List Command)
     (trace : List Line) (none : Type 0) (told : List Did) : Type 0 where
-  pub made : SetsUp s start setup []
-  pub parts : ArePartsThere (length start.windows) s.lines
+  pub made : SetsUp (scope_of once start text) start setup []
+  pub parts : ArePartsThere (length start.windows) (script_heard text)
   pub orders : List Ask
-  pub of_script : AreOrders s (after start setup) (bases_made s start setup) orders
+  pub of_script : AreOrders (scope_of once start text) (after start setup)
+      (bases_made (scope_of once start text) start setup) orders
   pub all : AreAllTold (after start setup) trace none orders told
+  -- If nothing was refused, nobody was served who didn't ask: each line of the trace is of a request of a part, under
+  -- its number, or of its element's confirmation or collect.
   pub alone : none → AreCallsOf orders trace
-  pub also : Also orders
+  -- If it is done once, all that its parts ask for was served at the end, by that run or an earlier one.
+  pub whole : List Ask
+  pub is_whole : AreOfAll once (bases_made (scope_of once start text) start setup) (script_heard text) orders whole
+  pub served : once ≡ true → none → HasServed (after start put).windows (plan_of whole)
+  -- If it is planned, it went by the plan of all that, which fits the memory if it isn't done once.
+  pub by_plan : planned ≡ true → EndsOnPlan (once ≡ false → FitsPlan (after start setup) (plan_of whole))
+      (plan_of whole) (after start setup) trace doubt (after start put) none
 
 -- ---- while it is noted
 

@@ -141,22 +141,10 @@ pub record Scope : Type 0 where
   pub bases : List ℕ
   pub first : Contents → ℕ → ℕ
 
--- all of it, from each element's next number on
-abbrev pub all_of : List ℕ → Scope
-all_of text = record { lines = script_heard text; settled = []; bases = []; first = next_had }
-
--- what is left of it on this memory, if it is done once: of each element the requests from the first one that waits on
-abbrev pub rest_of : Contents → List ℕ → Scope
-rest_of m text = record {
-  lines = script_heard text;
-  settled = numbers_settled m;
-  bases = bases_had (numbers_had m) 0 (wanted_of text);
-  first = open_had;
-}
-
--- the one or the other
-abbrev pub scope_when : Bool → Contents → List ℕ → Scope
-scope_when once m text = record {
+-- What is run of it on this memory. If it is done once, that is what is left: of each element the requests from the
+-- first one that waits on. Else it is all of it, from each element's next number on.
+abbrev pub scope_of : Bool → Contents → List ℕ → Scope
+scope_of once m text = record {
   lines = script_heard text;
   settled = settled_when once m;
   bases = bases_first once m text;
@@ -225,6 +213,12 @@ first_behind blocks element = if element == 0 then suc blocks else 1
 abbrev pub AreAllOrders : List ℕ → List Heard → List Ask → Type 0
 AreAllOrders bases script orders = AreOrdersFrom (first_behind (length bases)) [] bases script orders
 
+-- These are the orders of all that a script asks for: of all its requests, if it is done once, and else those that are
+-- served.
+abbrev pub AreOfAll : Bool → List ℕ → List Heard → List Ask → List Ask → Type 0
+AreOfAll false bases script orders whole = whole ≡ orders
+AreOfAll true bases script orders whole = AreAllOrders bases script whole
+
 -- if there are such orders, the script is done once, and they are those of all its requests
 abbrev pub IsOfAll : Bool → List ℕ → List Heard → Option (List Ask) → Type 0
 IsOfAll once bases script None = once ≡ false
@@ -233,7 +227,7 @@ IsOfAll once bases script (Some whole) = (once ≡ true) × AreAllOrders bases s
 -- The setup of a script led from the one memory to the other, and its names stand for these bases. These are its orders
 -- then.
 abbrev pub HasOrders : Bool → Contents → Contents → List ℕ → List ℕ → List Order → Type 0
-HasOrders once old new bases text orders = AreOrders (scope_when once old text) new bases (map ask_of orders)
+HasOrders once old new bases text orders = AreOrders (scope_of once old text) new bases (map ask_of orders)
 
 -- ---- while it is read
 

@@ -1,10 +1,10 @@
 -- A script's requests as a plan. (Own.)
-use Rattle.std.specs.Prelude.{◌≡◌, ℕ, suc, Bool, true, ◌&&◌, ◌⊎◌, List, [], ◌∷◌, ◌++◌, nat_lt, slice_get, Some, None}
-use Rattle.std.specs.Prelude.{Option}
+use Rattle.std.specs.Prelude.{◌≡◌, ℕ, suc, Bool, true, false, ◌&&◌, ◌⊎◌, List, [], ◌∷◌, ◌++◌, is_some, nat_lt}
+use Rattle.std.specs.Prelude.{slice_get, Some, None, Option}
 use Rattle.std.specs.Option.{option_map_or}
-use Rattle.im_types.specs.Types.{Request, Command, Line, Window, Contents, next_number, after, FitsPlan}
+use Rattle.im_types.specs.Types.{Request, Command, Line, Window, Contents, next_number, FitsPlan}
 use Rattle.im_plans.specs.Runs.{HasServed}
-use Rattle.im_controller.specs.Planned.{AreOnPlan, EndsAsPlanned}
+use Rattle.im_controller.specs.{declared.StartPlan.StartPlan, Planned.AreOnPlan, Planned.EndsAsPlanned}
 use Rattle.im_serving.specs.declared.Intent.{Intent, TheVariants.Glance, TheVariants.Request as Asks}
 use Rattle.im_run.specs.{declared.sheet.Order.Order, Orders.Ask}
 
@@ -50,6 +50,13 @@ abbrev pub planned_orders : Option (List Ask) → List Ask → List Ask
 planned_orders None orders = orders
 planned_orders (Some whole) orders = whole
 
+-- The plan that servers start under, if their requests are one. It is resumed if all requests of a script are known:
+-- those that were done before are of it, too.
+abbrev pub start_by : Bool → Option (List Ask) → List Ask → Option StartPlan
+start_by false whole orders = None
+start_by true whole orders =
+    Some (record { plan = plan_of (planned_orders whole orders); resumed = is_some whole })
+
 -- the plan fits the memory, if it doesn't go on from what was done before
 abbrev pub FitsIfNew : Option (List Ask) → Contents → List Request → Type 0
 FitsIfNew None m plan = FitsPlan m plan
@@ -81,9 +88,3 @@ pub record DidNotBegin (trace : List Line) (doubt : List Command) (none : Type 0
 abbrev pub EndsOnPlan : Type 0 → List Request → Contents → List Line → List Command → Contents → Type 0 → Type 0
 EndsOnPlan Fits plan m trace doubt end none =
     RanByPlan Fits plan m trace doubt end none ⊎ DidNotBegin trace doubt none
-
--- The same of a run from this memory on, with this setup: the plan is of all requests of its orders, and fits the
--- memory behind the setup.
-abbrev pub GoesByPlan : Contents → List Line → Type 0 → List Command → List Command → List Command → List Ask → Type 0
-GoesByPlan m trace none setup put doubt orders = EndsOnPlan (FitsPlan (after m setup) (plan_of orders)) (plan_of orders)
-    (after m setup) trace doubt (after m put) none

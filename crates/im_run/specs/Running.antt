@@ -12,8 +12,8 @@ use Rattle.im_serial.specs.{Asked.Wanted, Serving.NotOpened}
 use Rattle.im_run.specs.{Alone.AreCallsOf, Doing.AreAllTold, Doing.HasToldScript, Tracing.TraceState}
 use Rattle.im_run.specs.declared.{run.TheConstants.STALLED, sheet.Order.Order}
 use Rattle.im_run.specs.declared.served.Did.{Did, TheVariants.Glanced, TheVariants.Sent}
-use Rattle.im_run.specs.Orders.{all_of, Ask, Scope, SetsUp}
-use Rattle.im_run.specs.Planned.{EndsOnPlan, FitsIfNew, GoesByPlan, HasServedWhole, plan_of, planned_orders}
+use Rattle.im_run.specs.Orders.{Ask, Scope, scope_of, SetsUp}
+use Rattle.im_run.specs.Planned.{EndsOnPlan, FitsIfNew, HasServedWhole, plan_of, planned_orders}
 
 -- the reason that a call of the disk failed
 abbrev pub disk_failed : Reason
@@ -121,10 +121,8 @@ pub record HasEndedSetup (s : Scope) (start : Contents) (setup doubt : List Comm
 -- A session that began there did this of a script, and this status was given. It put these commands: those of the
 -- setup, and then the accepted ones of the servers' calls, which are legal from the memory behind the setup. With
 -- status 0 or `STALLED` no call of the disk failed. This is told of the script, of all that its parts ask for if the
--- status is 0: its setup was served whole, and its parts. What else is told of the parts is `Also`, of the commands of
--- the setup, of all that was put, of those in doubt, and of the parts' orders. Or its setup was ended.
-pub record RunOn {D : Type 0} (disk : Ghosts D) (s : Scope)
-    (Also : List Command → List Command → List Command → List Ask → Type 0) (start : SessionStart D) (new : D)
+-- status is 0: its setup was served whole, and its parts. Or its setup was ended.
+pub record RunOn {D : Type 0} (disk : Ghosts D) (once planned : Bool) (text : List ℕ) (start : SessionStart D) (new : D)
     (was : Output) (is : Written) (calls : TraceState) (status : ℕ) : Type 0 where
   pub put : List Command
   pub doubt : List Command
@@ -136,8 +134,8 @@ pub record RunOn {D : Type 0} (disk : Ghosts D) (s : Scope)
   pub legal : IsLegal (after start.memory setup) calls.served
   pub put_is : put ≡ setup ++ accepted_in (after start.memory setup) calls.served
   pub printed : Says start.memory setup put was is status
-  pub tells : HasToldScript s (Also setup put doubt) start.memory setup calls.served (status ≡ 0) printed.did
-      ⊎ HasEndedSetup s start.memory setup doubt calls.served status printed.did
+  pub tells : HasToldScript once planned text start.memory setup put doubt calls.served (status ≡ 0) printed.did
+      ⊎ HasEndedSetup (scope_of once start.memory text) start.memory setup doubt calls.served status printed.did
 
 -- The image was opened, and a session began of which this is so; or it was not opened. The disk was honest at the
 -- start, if it is at the end; what came of it holds of such a disk.
@@ -146,16 +144,3 @@ pub record Opened {D : Type 0} (disk : Ghosts D) (Came : SessionStart D → Type
   pub honest : disk.honest new → disk.honest old
   pub came : disk.honest new → NotOpened disk.now disk.past old new was is.0 status
       ⊎ ((start : SessionStart D) × ((start.disk ≡ old) × Came start))
-
--- all of a script was run
-abbrev pub RunsOn : {D : Type 0} → Ghosts D → List ℕ → D → D → Output → Written → TraceState → ℕ
-    → Type 0
-RunsOn disk text old new was is calls status = Opened disk
-    (λ start. RunOn disk (all_of text) (λ setup put doubt orders. Unit {0}) start new was is calls status) old new was
-    is status
-
--- all of a script was run by the plan of its requests
-abbrev pub RunsPlanOn : {D : Type 0} → Ghosts D → List ℕ → D → D → Output → Written → TraceState → ℕ
-    → Type 0
-RunsPlanOn disk text old new was is calls status = Opened disk (λ start. RunOn disk (all_of text)
-    (GoesByPlan start.memory calls.served (status ≡ 0)) start new was is calls status) old new was is status

@@ -4,7 +4,7 @@ ghost use Rattle.im_run.specs.Orders.{ask_of, asks_among, asks_in, first_asked, 
 
 use crate::late::waits_in;
 use crate::numbering::number_orders;
-use crate::sheet::{AllOrders, Commission, Order, Workload};
+use crate::sheet::{AllOrders, Order, RunTask, Workload};
 use crate::whole::read_whole;
 use im_memory::Memory;
 use im_text::Reason;
@@ -15,7 +15,7 @@ use std::alloc::Global;
 fn read_whole_if(
     alloc: Global,
     bases: &[u32],
-    asked: Commission<'_, '_>,
+    asked: RunTask<'_, '_>,
 ) -> Result<Option<AllOrders>, Reason>
     ensures { IfOk result (λ whole. IsOfAll asked.entry.once bases.now (script_heard asked.entry.script.now)
         (asks_in whole)) }
@@ -35,7 +35,7 @@ pub(crate) fn make_workload(
     memory: &Memory,
     bases: &[u32],
     orders: Vec<Order>,
-    asked: Commission<'_, '_>,
+    asked: RunTask<'_, '_>,
 ) -> Result<Workload, Reason>
     ensures asked { IfOk result (λ work. map ask_of work.orders.items
         ≡ asks_among (first_asked asked.entry.once memory.now.contents) orders.items) }

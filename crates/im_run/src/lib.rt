@@ -31,10 +31,9 @@ mod whole;
 mod wording;
 
 pub use context::RunContext;
-pub use once::run_once_on;
 pub use run::STALLED;
-pub use script::{run_on, run_on_plan};
-pub use sheet::Assignment;
+pub use script::run_on;
+pub use sheet::RunTask;
 pub use stops::{
     new_images_are_unrun, numbers_act_once_in_order, planned_scripts_have_one_end, run_over_stops,
 };

@@ -5,13 +5,13 @@ ghost use Rattle.im_script.specs.declared.Heard.TheVariants.{Says};
 ghost use Rattle.im_serial.specs.{Asked.wanted_by, Serving.ServedBy};
 ghost use Rattle.im_run.specs.Orders.{AddsGlance, AddsRequest, ArePartsThere, ask_of, asks_among, asks_in, BeginsAmong};
 ghost use Rattle.im_run.specs.Orders.{blocks_asked, blocks_of, first_asked, HasAdded, HasHeard, HasOrders, HasReadTo};
-ghost use Rattle.im_run.specs.Orders.{IsOfAll, line_blocks, scope_when, script_heard, settled_by};
+ghost use Rattle.im_run.specs.Orders.{IsOfAll, line_blocks, scope_of, script_heard, settled_by};
 ghost use mathlib.Core.List.{IsPrefix};
 
 use crate::assigning::{make_workload, with_parts};
 use crate::missing::missed_by;
 use crate::noting::note_block;
-use crate::sheet::{Commission, Order, Sheet, Workload};
+use crate::sheet::{Order, RunTask, Sheet, Workload};
 use im_disk::Disk;
 use im_script::{
     Allocation, Heard, Place, Reader, Said, Script, ScriptFault, ScriptLine, split_line,
@@ -232,12 +232,12 @@ fn set_up<D: Disk, W: Write, N: Observer<News>>(
 pub fn read_orders<D: Disk, W: Write, N: Observer<News>>(
     alloc: Global,
     server: &mut Server<D>,
-    asked: Commission<'_, '_>,
+    asked: RunTask<'_, '_>,
     out: &mut W,
     observer: &mut N,
 ) -> (Result<Workload, Reason>, Vec<Line>)
     ensures served { ServedBy
-        (blocks_asked (scope_when asked.entry.once server.old.session.engine.memory asked.entry.script.now)) result.0
+        (blocks_asked (scope_of asked.entry.once server.old.session.engine.memory asked.entry.script.now)) result.0
         server.old (W.contents out.old) server.new (W.contents out.new) }
     ensures orders { IfOk result.0 (λ work. HasOrders asked.entry.once server.old.session.engine.memory
         server.new.session.engine.memory server.new.bases.items asked.entry.script.now work.orders.items) }

@@ -1,9 +1,10 @@
 //! A script's requests as a plan.
 ghost use Rattle.std.specs.Prelude.{◌≡◌, ◌++◌, map, IfOk, OnOk};
-ghost use Rattle.im_run.specs.Orders.{ask_of};
-ghost use Rattle.im_run.specs.Planned.{number_behind, plan_of, request_by, requests_from};
+ghost use Rattle.im_run.specs.Orders.{ask_of, asks_in};
+ghost use Rattle.im_run.specs.Planned.{number_behind, plan_of, planned_orders, request_by, requests_from, start_by};
 
-use crate::sheet::Order;
+use crate::sheet::{Order, Workload};
+use im_controller::StartPlan;
 use im_memory::Memory;
 use im_planning::Plan;
 use im_serving::Intent;
@@ -108,25 +109,48 @@ fn bad_plan(alloc: Global, memory: &Memory, orders: &[Order]) -> Reason {
     Reason::Request(element, Refusal::BadPlan) // Its numbers reach the last that there is.
 }
 
-/// Makes the plan of these orders: all their requests.
-pub(crate) fn make_plan(alloc: Global, orders: &[Order]) -> Result<Plan, Refusal>
-    ensures { IfOk result (λ plan. plan ≡ plan_of (map ask_of orders.now)) }
+// Returns the orders that a plan is of: those of all that the script asks for, if they are known, and else those that
+// are served.
+fn orders_of(work: &Workload) -> &[Order]
+    ensures { map ask_of result.now ≡ planned_orders (asks_in work.now.whole) (map ask_of work.now.orders.items) }
 {
-    match requests_of(alloc, orders) {
-        Ok(requests) => Plan::new(alloc, requests),
+    match &work.whole {
+        Some(whole) => whole.orders.as_slice(),
+        None => work.orders.as_slice(),
+    }
+}
+
+/// Makes the plan that a run starts under, if its requests are one. It is resumed if it is of all that the script asks
+/// for: then some of it may be done.
+pub(crate) fn plan_for(alloc: Global, work: &Workload) -> Result<Option<StartPlan>, Refusal>
+    ensures { IfOk result (λ plan. plan
+        ≡ start_by work.now.planned (asks_in work.now.whole) (map ask_of work.now.orders.items)) }
+{
+    if !work.planned {
+        return Ok(None);
+    }
+    let requests = match requests_of(alloc, orders_of(work)) {
+        Ok(requests) => requests,
+        Err(refusal) => return Err(refusal),
+    };
+    match Plan::new(alloc, requests) {
+        Ok(plan) => Ok(Some(StartPlan {
+            plan,
+            resumed: work.whole.is_some(),
+        })),
         Err(refusal) => Err(refusal),
     }
 }
 
-/// Returns why a run under the plan of these orders doesn't begin.
-pub(crate) fn plan_fault(
+/// Returns why a run doesn't begin.
+pub(crate) fn start_fault(
     alloc: Global,
     memory: &Memory,
-    orders: &[Order],
+    work: &Workload,
     refusal: Refusal,
 ) -> Reason {
     match refusal {
-        Refusal::BadPlan => bad_plan(alloc, memory, orders),
+        Refusal::BadPlan => bad_plan(alloc, memory, orders_of(work)),
         _ => Reason::Memory,
     }
 }

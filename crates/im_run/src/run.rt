@@ -1,9 +1,10 @@
 //! A script's requests, by servers over the session of an image.
-ghost use Rattle.std.specs.Prelude.{◌≡◌, ◌≤◌, true, ◌⊎◌, [], map, IsOk, Some, None};
+ghost use Rattle.std.specs.Prelude.{◌≡◌, ◌≤◌, true, ◌⊎◌, [], map, IsOk, None};
 ghost use Rattle.{im_session.specs.Kept.Kept, im_text.specs.Said.output_by};
+ghost use Rattle.im_controller.specs.Planned.{MayStart, plan_in};
 ghost use Rattle.im_serial.specs.{Once.HasServedNothing, Serving.seen_by};
-ghost use Rattle.im_run.specs.{Once.RunWhen, Orders.ask_of, Orders.asks_in, Orders.bases_first, Planned.FitsIfNew};
-ghost use Rattle.im_run.specs.{Planned.plan_of, Planned.planned_orders, Running.EndedOn, Running.ServersEnded};
+ghost use Rattle.im_run.specs.{Orders.ask_of, Orders.asks_in, Orders.bases_first, Planned.start_by};
+ghost use Rattle.im_run.specs.Running.{EndedOn, RunOn, ServersEnded};
 
 use crate::beginning::begin;
 use crate::calls::Calls;
@@ -12,7 +13,7 @@ use crate::context::RunContext;
 use crate::late::tell_late;
 use crate::orders::read_orders;
 use crate::served::{ServedRun, serve_orders};
-use crate::sheet::{Commission, Workload};
+use crate::sheet::{RunTask, Workload};
 use crate::tracing::Trace;
 use crate::unserved::with_whole;
 use im_controller::Opening;
@@ -47,10 +48,10 @@ fn serve_opening<
     V: Observer<Standing> + Teller + Copy + Send,
     R: Host,
 >(context: &RunContext<'_, G, V, R>, opening: Opening<D>, work: Workload) -> (Ending<D>, Calls)
-    requires plan { work.planned ≡ true → opening.plan
-        ≡ Some (plan_of (planned_orders (asks_in work.whole) (map ask_of work.orders.items))) }
-    requires fits { work.planned ≡ true → FitsIfNew (asks_in work.whole) opening.session.engine.memory
-        (plan_of (planned_orders (asks_in work.whole) (map ask_of work.orders.items))) }
+    requires plan { opening.plan
+        ≡ plan_in (start_by work.planned (asks_in work.whole) (map ask_of work.orders.items)) }
+    requires fits { MayStart opening.session.engine.memory
+        (start_by work.planned (asks_in work.whole) (map ask_of work.orders.items)) }
     requires kept { Kept D.Disk opening.session }
     ensures ended { ServersEnded D.Disk work.planned (asks_in work.whole) (map ask_of work.orders.items)
         opening.session result.0.session.engine result.1.items result.0.did.items (IsOk result.0.done) }
@@ -145,7 +146,7 @@ pub(crate) fn run_server<
 >(
     context: &RunContext<'_, G, V, R>,
     server: Server<D>,
-    asked: Commission<'_, '_>,
+    asked: RunTask<'_, '_>,
     out: &mut W,
     observer: &mut N,
 ) -> (u8, D, Trace, bool)
@@ -153,7 +154,7 @@ pub(crate) fn run_server<
     requires ready { HasServedNothing (seen_by server (W.contents out.old)) [] }
     requires bases { server.bases.items ≡ bases_first asked.once server.session.engine.memory asked.script.now }
     ensures status { (result.0 ≤ 1) ⊎ (result.0 ≡ STALLED) }
-    ensures run { RunWhen D.Disk asked.entry.once asked.entry.planned asked.entry.script.now server.session.start
+    ensures run { RunOn D.Disk asked.entry.once asked.entry.planned asked.entry.script.now server.session.start
         result.1 (output_by server.lines (W.contents out.old)) (W.contents out.new, result.3) result.2 result.0 }
     ensures recorded { context.now.recorded ≡ true → result.2.recorded ≡ true }
 {

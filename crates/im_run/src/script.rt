@@ -2,16 +2,16 @@
 ghost use Rattle.std.specs.Prelude.{◌≡◌, ◌≤◌, true, ◌⊎◌};
 ghost use Rattle.im_text.specs.Said.{output, output_by};
 ghost use Rattle.im_serial.specs.{Once.HasServedNothing, Serving.seen_by};
-ghost use Rattle.im_run.specs.{Once.EndsWhen, Once.RunsWhen, Running.RunsOn, Running.RunsPlanOn};
+ghost use Rattle.im_run.specs.Once.{RunsFrom, RunsOn};
 
 use crate::context::RunContext;
 use crate::once::run_rest;
 use crate::opening::open_server;
 use crate::run::{STALLED, run_server};
-use crate::sheet::Commission;
+use crate::sheet::RunTask;
 use crate::tracing::Trace;
 use im_disk::Disk;
-use im_serial::{Server, StyledScript};
+use im_serial::Server;
 use im_serving::{Gate, Host, Standing, Teller};
 use im_text::News;
 use im_types::Observer;
@@ -29,54 +29,26 @@ fn run_opened<
 >(
     context: &RunContext<'_, G, V, R>,
     server: Server<D>,
-    asked: Commission<'_, '_>,
+    asked: RunTask<'_, '_>,
     out: &mut W,
     observer: &mut N,
 ) -> (u8, D, Trace, bool)
     requires ready { HasServedNothing (seen_by server (W.contents out.old)) server.bases.items }
     ensures status { (result.0 ≤ 1) ⊎ (result.0 ≡ STALLED) }
-    ensures ends { EndsWhen D.Disk asked.entry.once asked.entry.planned asked.entry.script.now server.session.start
+    ensures ends { RunsFrom D.Disk asked.entry.once asked.entry.planned asked.entry.script.now server.session.start
         result.1 (output_by server.lines (W.contents out.old)) (W.contents out.new, result.3) result.2 result.0 }
     ensures recorded { context.now.recorded ≡ true → result.2.recorded ≡ true }
 {
     if asked.once {
         return run_rest(context, server, asked, out, observer);
     }
-    let asked = Commission {
+    let asked = RunTask {
         script: asked.script,
         style: asked.style,
         once: false,
         planned: asked.planned,
     };
     run_server(context, server, asked, out, observer)
-}
-
-/// Opens the image of a disk, and runs a script on it, or the rest of it. Returns the status, the disk, the trace, and
-/// whether a line told an error.
-pub(crate) fn run_script<
-    D: Disk + Drop + Send,
-    W: Write,
-    N: Observer<News>,
-    G: Gate + Sync,
-    V: Observer<Standing> + Teller + Copy + Send,
-    R: Host,
->(
-    context: &RunContext<'_, G, V, R>,
-    disk: D,
-    asked: Commission<'_, '_>,
-    out: &mut W,
-    observer: &mut N,
-) -> (u8, D, Trace, bool)
-    ensures status { (result.0 ≤ 1) ⊎ (result.0 ≡ STALLED) }
-    ensures run { RunsWhen D.Disk asked.entry.once asked.entry.planned asked.entry.script.now disk result.1
-        (output asked.entry.style (W.contents out.old)) (W.contents out.new, result.3) result.2 result.0 }
-    ensures recorded { context.now.recorded ≡ true → result.2.recorded ≡ true }
-{
-    let alloc = context.alloc;
-    match open_server(alloc, asked.style, disk, out, observer) {
-        Ok(server) => run_opened(context, server, asked, out, observer),
-        Err((status, disk)) => (status, disk, Trace::new(alloc), false),
-    }
 }
 
 /// Runs a script on the image of a disk, with a server for each element and all of them at once, prints their answers,
@@ -110,6 +82,23 @@ pub(crate) fn run_script<
 /// That thread tells its observer how many servers wait and what room there is. The servers' calls are recorded only if
 /// the context says so; else no memory is held for them.
 ///
+/// If the script is done once, what the image doesn't have of it is run: the n-th request of an element in the script
+/// has number n, and the blocks of the setup are element 0's first requests. So a script that was stopped is gone on
+/// with by the same call. First come the lines of each request that the image has, in the script's order: `K.N REPLY`,
+/// what is kept for it, or `K.N done` if it was confirmed. They are written out before anything is served. The lines
+/// above are then of the requests that are sent: those that the image doesn't have, and those from an element's first
+/// one on that waits. The latter are sent again under their numbers, and answered as before, or since. Glances have no
+/// number: all of them are made. Nothing more is confirmed at the end, so that one more call prints the last replies
+/// again. [`run_over_stops`](crate::run_over_stops) says what any number of such calls comes to.
+///
+/// Before anything is printed, such a script is compared with what the image has of it, and refused if another script
+/// used the image, as [`serial_once_on`](im_serial::serial_once_on) says.
+///
+/// If the script is a plan, that is of all requests of its parts, under their numbers; if it is done once, those that
+/// aren't sent are of it, too. If they make no plan that fits the memory after the setup, none of them is served, and
+/// it is refused with `BadPlan`. If it is done once, the plan has to be under way in that memory, as calls with this
+/// script leave it.
+///
 /// Ensures, in words:
 ///
 /// - `status`: it is 0, 1 or 3.
@@ -131,6 +120,11 @@ pub(crate) fn run_script<
 ///   what was found later under its number. What a glance tells was seen by its element's reader.
 /// - `run`, nobody else: with status 0 each line that the servers left in the trace is of a request of the script's
 ///   parts, under its number, or of a confirmation or a collect of an element that has a part.
+/// - `run`, once: with status 0 each request of a part was sent now, or is before its element's first one that waits:
+///   confirmed, or kept with its operation. Each number of the script was used at the end.
+/// - `run`, planned: the plan fits the memory after the setup, or is under way there. The servers' requests are of the
+///   plan, and so are those in doubt. An entry kept for a request has its result by the plan, or it waits. With status
+///   0 all were served, and that memory and the plan alone say what is kept, whatever stops came before.
 /// - `recorded`: the servers' calls are in the trace, if the context says so.
 /// - `run`, honesty: the disk was honest at the start, if it is at the end. All else holds of such a disk.
 pub fn run_on<
@@ -143,56 +137,18 @@ pub fn run_on<
 >(
     context: &RunContext<'_, G, V, R>,
     disk: D,
-    styled: &StyledScript<'_>,
+    asked: RunTask<'_, '_>,
     out: &mut W,
     observer: &mut N,
 ) -> (u8, D, Trace, bool)
     ensures status { (result.0 ≤ 1) ⊎ (result.0 ≡ STALLED) }
-    ensures run { RunsOn D.Disk styled.now.script.now disk result.1 (output styled.now.style (W.contents out.old))
-        (W.contents out.new, result.3) result.2 result.0 }
+    ensures run { RunsOn D.Disk asked.entry.once asked.entry.planned asked.entry.script.now disk result.1
+        (output asked.entry.style (W.contents out.old)) (W.contents out.new, result.3) result.2 result.0 }
     ensures recorded { context.now.recorded ≡ true → result.2.recorded ≡ true }
 {
-    let asked = Commission {
-        script: styled.script,
-        style: styled.style,
-        once: false,
-        planned: false,
-    };
-    run_script(context, disk, asked, out, observer)
-}
-
-/// Does what [`run_on`] does, by a plan: that of all requests of the script's parts, under their numbers. If they make
-/// no plan that fits the memory after the setup, none of them is served, and it is refused with `BadPlan`.
-///
-/// Ensures, in words, beside what [`run_on`] does:
-///
-/// - `run`, the plan: it fits the memory after the setup. The servers' requests are of the plan, and so are those in
-///   doubt. An entry kept for a request has its result by the plan, or it waits. With status 0 all were served, and
-///   that memory and the plan alone say what is kept.
-pub fn run_on_plan<
-    D: Disk + Drop + Send,
-    W: Write,
-    N: Observer<News>,
-    G: Gate + Sync,
-    V: Observer<Standing> + Teller + Copy + Send,
-    R: Host,
->(
-    context: &RunContext<'_, G, V, R>,
-    disk: D,
-    styled: &StyledScript<'_>,
-    out: &mut W,
-    observer: &mut N,
-) -> (u8, D, Trace, bool)
-    ensures status { (result.0 ≤ 1) ⊎ (result.0 ≡ STALLED) }
-    ensures run { RunsPlanOn D.Disk styled.now.script.now disk result.1 (output styled.now.style (W.contents out.old))
-        (W.contents out.new, result.3) result.2 result.0 }
-    ensures recorded { context.now.recorded ≡ true → result.2.recorded ≡ true }
-{
-    let asked = Commission {
-        script: styled.script,
-        style: styled.style,
-        once: false,
-        planned: true,
-    };
-    run_script(context, disk, asked, out, observer)
+    let alloc = context.alloc;
+    match open_server(alloc, asked.style, disk, out, observer) {
+        Ok(server) => run_opened(context, server, asked, out, observer),
+        Err((status, disk)) => (status, disk, Trace::new(alloc), false),
+    }
 }

@@ -31,25 +31,14 @@ pub struct AllOrders {
     pub orders: Vec<Order>,
 }
 
-/// A script that is run once, whatever stops it.
-#[derive(Clone, Copy)]
-pub struct Assignment<'s, 'a> {
-    /// The script.
-    pub script: &'s Script<'a>,
-    /// How its lines are said.
-    pub style: Style,
-    /// Whether its requests are a plan.
-    pub planned: bool,
-}
-
 /// A script that is to be run, and how.
 #[derive(Clone, Copy)]
-pub struct Commission<'s, 'a> {
+pub struct RunTask<'s, 'a> {
     /// The script.
     pub script: &'s Script<'a>,
     /// How its lines are said.
     pub style: Style,
-    /// Whether it is done once: then what is settled of it isn't asked for anew.
+    /// Whether it is done once: what is settled of it isn't asked for anew.
     pub once: bool,
     /// Whether its requests are a plan.
     pub planned: bool,

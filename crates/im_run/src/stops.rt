@@ -1,5 +1,5 @@
 //! Runs of a script that are stopped, and gone on with, and laws of what they come to. This is a client's view of
-//! [`run_once_on`].
+//! [`run_on`].
 ghost use Rattle.std.specs.Prelude.{◌≡◌, ℕ, ◌<◌, ◌≤◌, true, ◌⊎◌, List, Some};
 ghost use Rattle.im_types.specs.Types.{Command, Limits, Contents, full_at, accept_each, Means};
 ghost use Rattle.{im_session.specs.Carrying.LedBy, im_serial.specs.Begun.new_memory};
@@ -7,9 +7,9 @@ ghost use Rattle.im_run.specs.Stops.{ActInOrder, CarriesOver, CarriesPlanOver, H
 ghost use Rattle.im_run.specs.Stops.{HaveSameEntries, KeepsRuns, LeadTo};
 
 use crate::context::RunContext;
-use crate::once::run_once_on;
 use crate::run::STALLED;
-use crate::sheet::Assignment;
+use crate::script::run_on;
+use crate::sheet::RunTask;
 use im_disk::{Disk, FuseDisk, MemDisk};
 use im_serial::Interrupted;
 use im_serving::{Gate, Host, Standing, Teller};
@@ -42,7 +42,7 @@ pub fn planned_scripts_have_one_end()
         → HaveSameEntries it.parts.plan m n }
 {}
 
-// Runs a script once. Returns the status and the disk.
+// Runs a script once, whatever its task says. Returns the status and the disk.
 fn run_in<
     D: Disk + Drop + Send,
     W: Write,
@@ -53,19 +53,25 @@ fn run_in<
 >(
     context: &RunContext<'_, G, V, R>,
     disk: D,
-    asked: Assignment<'_, '_>,
+    asked: RunTask<'_, '_>,
     out: &mut W,
     observer: &mut N,
 ) -> (u8, D)
     ensures status { (result.0 ≤ 1) ⊎ (result.0 ≡ STALLED) }
     ensures keeps { KeepsRuns D.Disk asked.entry.planned asked.entry.script.now disk result.1 result.0 }
 {
-    let (status, disk, _trace, _faulted) = run_once_on(context, disk, asked, out, observer);
+    let asked = RunTask {
+        script: asked.script,
+        style: asked.style,
+        once: true,
+        planned: asked.planned,
+    };
+    let (status, disk, _trace, _faulted) = run_on(context, disk, asked, out, observer);
     (status, disk)
 }
 
 /// Runs a script once, whatever stops it: a run for each stop, each behind the crash of the one before it, and then one
-/// more. Returns the status of the last run, and the disk.
+/// more. It is done once also if the task doesn't say so. Returns the status of the last run, and the disk.
 ///
 /// If each file that a crash may leave at first means a memory to which accepted commands lead from a new image, so
 /// does each that is left in the end. If the status is 0, that memory has all of the script: each block of its setup
@@ -85,7 +91,7 @@ pub fn run_over_stops<
 >(
     context: &RunContext<'_, G, V, R>,
     image: Interrupted,
-    asked: Assignment<'_, '_>,
+    asked: RunTask<'_, '_>,
     out: &mut W,
     observer: &mut N,
 ) -> (u8, MemDisk)

@@ -5,7 +5,7 @@ ghost use Rattle.im_controller.specs.Kept.{IsOriginOf};
 use crate::disks::{EngineState, has_answered, state};
 use crate::requests::{ALL, FIRST, add_answer, lacks_memory, request};
 use crate::served::serve_rest;
-use im_controller::{Controller, Name, Opening, Port, finish, start, start_planned};
+use im_controller::{Controller, Name, Opening, Port, StartPlan, finish, start};
 use im_disk::{Disk, FuseDisk};
 use im_planning::Plan;
 use im_story::Saying;
@@ -18,10 +18,13 @@ use std::sync::Wait;
 // How many lines a trace has room for.
 const LINES: usize = 8;
 
-// Returns all requests but the first ones, as a plan.
-fn plan(alloc: Global) -> Result<Plan, Refusal> {
+// Returns all requests but the first ones, as a plan of which nothing is done.
+fn plan(alloc: Global) -> Result<StartPlan, Refusal> {
     match (FIRST..ALL).map(request).collect::<Vec<Request>>(alloc) {
-        Ok(requests) => Plan::new(alloc, requests),
+        Ok(requests) => Ok(StartPlan {
+            plan: Plan::new(alloc, requests)?,
+            resumed: false,
+        }),
         Err(_) => Err(Refusal::NoMemory),
     }
 }
@@ -39,10 +42,9 @@ pub fn begin<R: Wait>(
     let Some(engine) = place.engine.take() else {
         return Err(Refusal::Failed);
     };
-    let started = match (begin_session(engine), plan) {
-        (Ok(session), Some(plan)) => start_planned(rt, alloc, session, plan, lines),
-        (Ok(session), None) => start(rt, alloc, session, lines),
-        (Err(engine), _) => {
+    let started = match begin_session(engine) {
+        Ok(session) => start(rt, alloc, session, plan, Some(lines)),
+        Err(engine) => {
             place.engine = Some(engine);
             return Err(Refusal::Failed);
         }

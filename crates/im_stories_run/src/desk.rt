@@ -6,9 +6,8 @@ use crate::heard::Hearing;
 use crate::scripts::script_of;
 use im_disk::{Disk, Mode};
 use im_report::inspect_on;
-use im_run::{Assignment, RunContext, Trace, run_on, run_on_plan, run_once_on, write_trace};
+use im_run::{RunContext, RunTask, Trace, run_on, write_trace};
 use im_script::{Script, read_script_with_glances};
-use im_serial::StyledScript;
 use im_serving::{EarlierAnswer, Gate, Host, Open};
 use im_story::{Printout, Saying};
 use im_story_disk::StoryFile;
@@ -91,20 +90,13 @@ fn run_as<D: Disk + Drop + Send, G: Gate + Sync, R: Host>(
     noted: &mut Noted,
 ) -> (u8, D, Trace, bool) {
     let Task { script, how } = task;
-    let (style, planned) = (Style::Text, how.planned);
-    if how.once {
-        let asked = Assignment {
-            script,
-            style,
-            planned,
-        };
-        return run_once_on(context, disk, asked, out, noted);
-    }
-    let styled = StyledScript { script, style };
-    if planned {
-        return run_on_plan(context, disk, &styled, out, noted);
-    }
-    run_on(context, disk, &styled, out, noted)
+    let asked = RunTask {
+        script,
+        style: Style::Text,
+        once: how.once,
+        planned: how.planned,
+    };
+    run_on(context, disk, asked, out, noted)
 }
 
 /// An image, what was printed, and what is told.

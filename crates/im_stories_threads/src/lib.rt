@@ -23,7 +23,7 @@ use crate::acts::{Act, act_on, new_memory};
 use crate::plans::show_plans;
 use crate::plays::{PLAYS, Play};
 use crate::stops::show_stops;
-use im_controller::{start, start_unrecorded};
+use im_controller::start;
 use im_serving::Host;
 use im_story::Saying;
 
@@ -34,11 +34,7 @@ fn show_play<R: Host>(rt: &R, play: &Play, said: &mut Saying) {
     let Some(session) = new_memory(alloc, play.sizes) else {
         return said.text("  no image\n");
     };
-    let opening = match play.room {
-        Some(lines) => start(rt, alloc, session, lines),
-        None => start_unrecorded(rt, alloc, session),
-    };
-    match opening {
+    match start(rt, alloc, session, None, play.room) {
         Ok(opening) => said.also(&act_on(rt, alloc, Act::Plays(play), opening)),
         Err(_) => said.text("  no memory\n"),
     }

@@ -4,7 +4,7 @@ use crate::acts::{Act, Sizes, act_on, new_memory};
 use crate::casts::{Cast, keep};
 use crate::gates::{NUMBERS, OneOrder, is_order, turn};
 use crate::servers::Wish;
-use im_controller::{Finished, Name, Opening, Traced, start_planned};
+use im_controller::{Finished, Name, Opening, StartPlan, Traced, start};
 use im_disk::FuseDisk;
 use im_planning::Plan;
 use im_serving::{Host, Open};
@@ -110,7 +110,11 @@ fn begin<R: Wait>(
     for (element, number, op) in wishes {
         keep(&mut requests, asked(*element, *number, *op), said)
     }
-    match start_planned(rt, alloc, session, Plan::new(alloc, requests)?, 100) {
+    let plan = StartPlan {
+        plan: Plan::new(alloc, requests)?,
+        resumed: false,
+    };
+    match start(rt, alloc, session, Some(plan), Some(100)) {
         Ok(opening) => Ok(opening),
         Err((refusal, _)) => Err(refusal),
     }

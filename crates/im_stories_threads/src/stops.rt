@@ -97,7 +97,7 @@ fn stop_at<R: Host>(rt: &R, image: &StoryFile, passes: u64, act: Act, said: &mut
     let Ok(session) = begin_session(engine) else {
         return false;
     };
-    let Ok(opening) = start(rt, image.alloc, session, 100) else {
+    let Ok(opening) = start(rt, image.alloc, session, None, Some(100)) else {
         return false;
     };
     let told = act_on(rt, image.alloc, act, opening);

@@ -4,8 +4,8 @@ use Rattle.std.proofs.{Common.◌∙◌, Crossing.crosses}
 use Rattle.im_program.proofs.{Crosses.FileDisk-row-send, SourceLemmas.text_as}
 use Rattle.im_program.proofs.running.run_file.Goals as goal
 
-pub run_task-requires-send-D : goal.run_task-requires-send-D
-run_task-requires-send-D g c κs within =
+pub run_on-requires-send-D : goal.run_on-requires-send-D
+run_on-requires-send-D g c κs within =
     let disk = FileDisk-row-send (param 1 g.row.S) g.S.Start c.type_bounds.send-S in
     search (sendable, crosses) depth 40 fits 30000
 
@@ -19,16 +19,16 @@ returns-clause-ran g c = record {
       (c.in_ok-script.ensures.text ∙ c.as_slice.ensures.value)
       (rw c.parts-input.ensures.input at c.in_ok-text.ensures.text);
   run = record {
-    faulted = c.run_task-status.result.3;
-    plain = c.run_task-status.result.0;
-    done = c.run_task-status.ensures.run;
+    faulted = c.run_on-status.result.3;
+    plain = c.run_on-status.result.0;
+    done = c.run_on-status.ensures.run;
     status_is = c.strict_status.ensures.status;
   };
 }
 
 pub returns-clause-named : goal.returns-clause-named
-returns-clause-named g c = λ honest. c.in_ok-disk.ensures.named (c.run_task-status.ensures.run.honest honest)
+returns-clause-named g c = λ honest. c.in_ok-disk.ensures.named (c.run_on-status.ensures.run.honest honest)
 
 pub returns-clause-recorded : goal.returns-clause-recorded
 returns-clause-recorded g c = λ asked.
-    c.run_task-status.ensures.recorded (c.new-context.ensures.recorded ∙ c.is_some.ensures ∙ asked)
+    c.run_on-status.ensures.recorded (c.new-context.ensures.recorded ∙ c.is_some.ensures ∙ asked)

@@ -6,8 +6,8 @@ use Rattle.im_serial.specs.{Asked.standing, Noted.notes}
 use Rattle.im_serial.specs.Serving.{EndedAt, GoingAt, seen_by, server_of}
 use Rattle.im_run.proofs.BlocksLemmas.{begun, names_made, sets_up, setup_course}
 use Rattle.im_run.{proofs.OrdersLemmas.if_ok_at, proofs.OrdersLemmas.match_ok, proofs.RunningLemmas.ended_run}
-use Rattle.im_run.{proofs.RunningLemmas.halted_run, specs.Orders.ask_of, specs.Orders.asks_in, specs.Orders.scope_when}
-use Rattle.im_run.specs.{Once.RunWhen, Running.EndedOn, Tracing.TraceState}
+use Rattle.im_run.{proofs.RunningLemmas.halted_run, specs.Orders.ask_of, specs.Orders.asks_in, specs.Orders.scope_of}
+use Rattle.im_run.specs.{Running.EndedOn, Running.RunOn, Tracing.TraceState}
 use Rattle.im_run.proofs.run.run_server.Goals as goal
 
 pub returns-in-Ok-clause-run : goal.returns-in-Ok-clause-run
@@ -22,7 +22,7 @@ returns-in-Ok-clause-run g c =
     let planned = c.args.asked.planned in
     let script = c.args.asked.script.now in
     let known = c.requires.bases in
-    let scope = scope_when once m script in
+    let scope = scope_of once m script in
     let course = setup_course scope m server.bases.items known in
     let r = c.read_orders-read in
     let from = g.W.Write.contents r.new.out in
@@ -41,7 +41,7 @@ returns-in-Ok-clause-run g c =
     let is : Written = (g.W.Write.contents s.new.out, s.result.3) in
     let calls : TraceState =
     record { setup = r.result.1.items; served = s.result.2.items; recorded = s.result.2.recorded } in
-    subst (λ (x : SessionStart g.row.D.Denot). RunWhen d once planned script x s.result.1 held is calls s.result.0) (sym
+    subst (λ (x : SessionStart g.row.D.Denot). RunOn d once planned script x s.result.1 held is calls s.result.0) (sym
     at)
     (ended_run d once planned script start t bases whole orders there (notes after.waited.items
     after.places.marks.items) going.text held from is after.lines s.result.1 calls s.result.0 it going.printed
@@ -65,7 +65,7 @@ returns-in-Err-clause-run g c =
     let planned = c.args.asked.planned in
     let script = c.args.asked.script.now in
     let known = c.requires.bases in
-    let scope = scope_when once m script in
+    let scope = scope_of once m script in
     let course = setup_course scope m server.bases.items known in
     let r = c.read_orders-read in
     let v = c.leave-session in
@@ -87,7 +87,7 @@ returns-in-Err-clause-run g c =
     (r.ensures.served.ends server.session.start held (Some course) []
     (begun course (seen_by server held.held) [] c.requires.ready refl))) in
     let over = ended.over in
-    subst (λ (x : SessionStart g.row.D.Denot). RunWhen d once planned script x k.result.1 held is calls k.result.0) (sym
+    subst (λ (x : SessionStart g.row.D.Denot). RunOn d once planned script x k.result.1 held is calls k.result.0) (sym
     at)
     (halted_run d once planned script start t (Some course) w ended.text held from is lines n.result.did.items
     k.result.1 calls k.result.0 over k.ensures.kept ended.printed n.ensures.none k.ensures.disk k.ensures.works

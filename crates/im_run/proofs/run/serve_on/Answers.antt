@@ -1,20 +1,20 @@
 use Rattle.std.proofs.Common.{◌≡◌, map, IsOk, sym, ◌∙◌, subst, inr}
 use Rattle.{im_types.specs.Types.IsLegal, im_session.specs.Kept.Kept, im_session.specs.Kept.SessionState}
-use Rattle.im_text.specs.{declared.Lines.Lines, Said.Written}
+use Rattle.{im_controller.specs.Planned.MayStart, im_text.specs.declared.Lines.Lines, im_text.specs.Said.Written}
 use Rattle.im_run.proofs.{DoingLemmas.none_of_all, RunningLemmas.ended_weaker, RunningLemmas.kept_as}
-use Rattle.im_run.specs.{Orders.ask_of, Orders.asks_in, Running.Closes, Running.EndedOn, Running.ServersEnded}
-use Rattle.im_run.specs.Planned.{FitsIfNew, plan_of, planned_orders}
+use Rattle.im_run.specs.{Orders.ask_of, Orders.asks_in, Planned.start_by}
+use Rattle.im_run.specs.Running.{Closes, EndedOn, ServersEnded}
 use Rattle.im_run.proofs.run.serve_on.Goals as goal
 
 pub serve_opening-ending-requires-clause-plan : goal.serve_opening-ending-requires-clause-plan
 serve_opening-ending-requires-clause-plan g c κs within = c.in-Ok.ensures.plan
 
 pub serve_opening-ending-requires-clause-fits : goal.serve_opening-ending-requires-clause-fits
-serve_opening-ending-requires-clause-fits g c κs within = λ planned.
+serve_opening-ending-requires-clause-fits g c κs within =
     let whole = asks_in c.args.work.whole in
     let orders = map ask_of c.args.work.orders.items in
-    subst (λ (x : SessionState g.row.D.Denot). FitsIfNew whole x.engine.memory (plan_of (planned_orders whole orders)))
-    (sym c.in-Ok.ensures.found) (c.in-Ok.ensures.fits planned)
+    subst (λ (x : SessionState g.row.D.Denot). MayStart x.engine.memory (start_by c.args.work.planned whole orders))
+    (sym c.in-Ok.ensures.found) c.in-Ok.ensures.fits
 
 pub serve_opening-ending-requires-clause-kept : goal.serve_opening-ending-requires-clause-kept
 serve_opening-ending-requires-clause-kept g c κs within =

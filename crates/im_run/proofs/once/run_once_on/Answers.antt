@@ -1,2 +1,0 @@
-pub returns-clause-run : Rattle.im_run.proofs.once.run_once_on.Goals.returns-clause-run
-returns-clause-run g c = c.run_script.ensures.run
