@@ -1,5 +1,5 @@
 -- A script that is run once, whatever stopped it before. (Own.)
-use Rattle.std.specs.Prelude.{◌≡◌, ℕ, Bool, true, false, ◌⊎◌, List, [], ◌++◌, Option}
+use Rattle.std.specs.Prelude.{◌≡◌, ℕ, Bool, true, false, ◌⊎◌, List, [], ◌++◌}
 use Rattle.im_types.specs.Types.{Command, Line, Contents, after}
 use Rattle.{im_plans.specs.Runs.HasServed, im_disk.specs.declared.Disk.Ghosts, im_engine.specs.State.EngineState}
 use Rattle.{im_script.specs.declared.Heard.Heard, im_text.specs.declared.OutputLine.OutputLine}
