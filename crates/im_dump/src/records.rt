@@ -31,7 +31,7 @@ pub(crate) fn record_in(part: &[u8], at: usize, size: usize) -> &[u8]
 }
 
 /// Adds the line of a record that can't be read.
-pub(crate) fn add_damaged(out: &mut String, word: &str, n: u32) -> Result<(), AllocError>
+pub(crate) fn add_damaged(out: &mut String, n: u32, word: &str) -> Result<(), AllocError>
     ensures { OnOk result (string_bytes out.new ≡ string_bytes out.old ++ damaged_line word.now n) }
 {
     writeln!(out, "{word} {n} damaged")
@@ -110,7 +110,7 @@ fn add_cell(
     ensures { OnOk result (string_bytes out.new ≡ string_bytes out.old ++ record_told a before cell) }
 {
     match cell {
-        None => add_damaged(out, "cell", a),
+        None => add_damaged(out, a, "cell"),
         Some(CellRecord::Free { .. }) => Ok(()),
         Some(CellRecord::Held { block, tag }) => {
             add_named(out, a, before, block)?;
@@ -170,7 +170,7 @@ fn add_node(out: &mut String, n: u32, node: Option<NodeRecord>) -> Result<(), Al
     ensures { OnOk result (string_bytes out.new ≡ string_bytes out.old ++ node_told n node) }
 {
     match node {
-        None => add_damaged(out, "node", n),
+        None => add_damaged(out, n, "node"),
         Some(NodeRecord::Free { .. }) => Ok(()),
         Some(NodeRecord::Listed { next, waiter }) => {
             let element = waiter.element;

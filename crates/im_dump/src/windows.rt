@@ -79,7 +79,7 @@ fn add_element(
 {
     match read_session(version, session_in(version, part, element)) {
         Some(window) => add_told_window(out, element, &window),
-        None => add_damaged(out, "element", element as u32),
+        None => add_damaged(out, element as u32, "element"),
     }
 }
 

@@ -6,7 +6,7 @@ ghost use Rattle.im_migration.specs.Migration.{LeavesLaid, moved_header};
 ghost use Rattle.im_program.specs.Places.{IsOpenAt};
 
 use crate::descriptors::Descriptors;
-use crate::opening::{format_reason, give_up, reason_of};
+use crate::opening::{format_reason, give_up, is_folder, reason_of};
 use crate::shelf::{KeptBackup, shelve};
 use im_damage::Damage;
 use im_dialogue::{BackupFault, BackupName, Backups};
@@ -146,6 +146,14 @@ fn keep_in<R: Files<File = File> + AllocGlobal>(
 }
 
 // ---- the folder
+
+/// Whether the folder for backups is there, if one is given.
+pub(crate) fn has_folder<R: Files<File = File>>(rt: &R, backups: Option<&str>) -> bool {
+    match backups {
+        Some(folder) => !folder.is_empty() && is_folder(rt, folder),
+        None => true,
+    }
+}
 
 /// The folder in which a dialogue keeps its backups, or none.
 #[derive(Drop)]

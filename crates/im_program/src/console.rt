@@ -157,6 +157,14 @@ impl<'a, R: Files<File = File> + Eprint + AllocGlobal> Console<'a, R> {
         self.tell_trace(trace, reason);
     }
 
+    /// Prints that a folder for backups isn't there, and so no line is read.
+    pub(crate) fn refuse_folder(&mut self, folder: &str) {
+        self.refused = Some(Reason::File(PathFault::NoFolder));
+        self.waits = false;
+        let path = EscapedName(folder);
+        let _printed = eprintln!(self.rt; "imem: the folder {path} isn't there");
+    }
+
     // Prints which call failed, if the last refusal waits for it or a note is needed.
     fn tell_failed(&mut self, reason: Reason, noting: Noting) {
         if self.waits || noting != Noting::Unneeded {

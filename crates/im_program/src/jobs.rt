@@ -3,7 +3,7 @@ ghost use Rattle.std.specs.Prelude.{◌≡◌, ◌≤◌, ◌⊎◌, IfSome, IfO
 ghost use Rattle.im_words.specs.Words.{texts_in};
 ghost use Rattle.im_program.specs.{Places.file_of, Places.IsOpenAt, Told.LineDone, Working.MakesImage};
 
-use crate::backups::Folder;
+use crate::backups::{Folder, has_folder};
 use crate::console::Console;
 use crate::copying::copy_file;
 use crate::demonstrating::demonstrate;
@@ -112,8 +112,8 @@ fn may_format<R: Files<File = File> + AllocGlobal + Eprint, I: BufRead>(
     formatting.is_new || may_be_made(rt, formatting.image, input, console, loss)
 }
 
-/// Whether the work may be done. If that is asked, it makes an image. If nobody can be asked, `loss` becomes what is
-/// lost.
+/// Whether the work may be done: not if it makes an image and a person says no, or if a dialogue's folder for backups
+/// isn't there. If nobody can be asked, `loss` becomes what is lost.
 pub(crate) fn may_do<R: Files<File = File> + AllocGlobal + Eprint, I: BufRead>(
     rt: &R,
     work: &Work<&str>,
@@ -125,6 +125,7 @@ pub(crate) fn may_do<R: Files<File = File> + AllocGlobal + Eprint, I: BufRead>(
 {
     match *work {
         Work::Format(formatting) => may_format(rt, &formatting, input, console, loss),
+        Work::Serve(talking) => has_folder(rt, talking.backups),
         _ => true,
     }
 }

@@ -15,8 +15,8 @@ use std::os::unix::fs::MetadataExt;
 use std::path::Path;
 use std::rt::Files;
 
-// Whether there is a folder at the path. An empty path stands for `.`.
-fn is_folder<R: Files<File = File>>(rt: &R, path: &str) -> bool {
+/// Whether there is a folder at the path. An empty path stands for `.`.
+pub(crate) fn is_folder<R: Files<File = File>>(rt: &R, path: &str) -> bool {
     match fs::metadata(rt, if path.is_empty() { "." } else { path }) {
         Ok(data) => data.is_dir(),
         Err(_) => false,

@@ -13,7 +13,7 @@ use im_listening::Ear;
 use im_run::STALLED;
 use im_text::{FAULTY, News, PathFault, Reason, Style, put_refusal};
 use im_types::{Observer, Refusal};
-use im_words::CommandLine;
+use im_words::{CommandLine, Talking, Work};
 use std::alloc::Global;
 use std::fs::File;
 use std::io::{BufRead, Eprint, Write};
@@ -34,6 +34,23 @@ fn or_refused<S: Start, T: Start, W: Write>(
         Ok(done) => done,
         Err(refusal) => (refuse(alloc, style, refusal, out), None, None),
     }
+}
+
+// Tells why work may not be done.
+fn tell_forbidden<R: Files<File = File> + AllocGlobal + Eprint>(
+    work: &Work<&str>,
+    console: &mut Console<'_, R>,
+) {
+    if let Work::Serve(
+        Talking {
+            backups: Some(folder),
+            ..
+        },
+    ) = *work
+    {
+        return console.refuse_folder(folder);
+    }
+    console.tell(News::Refused(Reason::File(PathFault::Exists)));
 }
 
 /// Does the work of a command line. Returns the status that the program ends with: 0; 1 if something was refused or a
@@ -60,10 +77,11 @@ fn or_refused<S: Start, T: Start, W: Write>(
 /// can't be made, nothing is run, and the work is refused with `Device`. If it can't be written, a person is told, and
 /// the status is that of the run.
 ///
-/// Refusals: `Device` for a file that isn't to be replaced; `BadLimits` for a number out of its range, and then no file
-/// is made; and the errors of [`format_file`], [`serve_file`], [`run_file`], [`talk_file`], [`inspect_file`],
-/// [`dump_file`], [`load_file`], [`migrate_file`] and [`copy_file`]. If a disk is returned, the status and the output
-/// are those of the function that was called. Else the status is 1, or that of [`demonstrate`].
+/// Refusals: `Device` for a file that isn't to be replaced, or a folder for backups that isn't there; `BadLimits` for a
+/// number out of its range, and then no file is made; and the errors of [`format_file`], [`serve_file`], [`run_file`],
+/// [`talk_file`], [`inspect_file`], [`dump_file`], [`load_file`], [`migrate_file`] and [`copy_file`]. If a disk is
+/// returned, the status and the output are those of the function that was called. Else the status is 1, or that of
+/// [`demonstrate`].
 ///
 /// The first of `starts` stands for what the image, or the new file of a migration or a copy, holds when it is opened.
 /// The other one stands for what the old file holds. They are used up, and no code reads them.
@@ -88,7 +106,7 @@ pub fn act<
     let work = &line.work;
     let mut loss = Loss::none();
     if !may_do(rt, work, input, console, &mut loss) {
-        console.tell(News::Refused(Reason::File(PathFault::Exists)));
+        tell_forbidden(work, console);
         let status = refuse(rt.alloc(), style_of(work), Refusal::Device, out);
         return (status, None, None);
     }

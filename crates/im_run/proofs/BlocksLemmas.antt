@@ -1,6 +1,6 @@
 -- The setup of a script: its blocks, as its lines are read, and the bases of its names. (Own.)
-use Rattle.std.proofs.Common.{◌≡◌, ℕ, true, List, [], ◌∷◌, ◌++◌, map, length, Some, None, Option, Result, sym, refl, ap}
-use Rattle.std.proofs.Common.{◌∙◌, subst, Bor}
+use Rattle.std.proofs.Common.{◌≡◌, ℕ, true, List, [], ◌∷◌, ◌++◌, map, length, Some, None, Option, Result, sym, ap, ◌∙◌}
+use Rattle.std.proofs.Common.{subst, Bor}
 use Rattle.std.specs.Option.{option_map_or}
 use Rattle.im_types.specs.Types.{Command, Contents, IsMemory}
 use Rattle.im_session.specs.Kept.{SessionState}

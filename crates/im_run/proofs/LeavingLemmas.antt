@@ -1,6 +1,6 @@
 -- What runs of a script that is done once leave on a disk, whatever stopped them. (Own.)
-use Rattle.std.proofs.Common.{◌≡◌, ℕ, zero, suc, ◌+◌, Bool, true, false, ◌⊎◌, List, [], ◌++◌, length, take, Some}
-use Rattle.std.proofs.Common.{Option, sym, refl, ap, ◌∙◌, subst, inl, inr, ⊎_elim, append-nil, arith, length-append}
+use Rattle.std.proofs.Common.{◌≡◌, ℕ, zero, suc, ◌+◌, Bool, true, false, ◌⊎◌, List, [], ◌++◌, length, take, Some, sym}
+use Rattle.std.proofs.Common.{refl, ap, ◌∙◌, subst, inl, inr, ⊎_elim, append-nil, arith, length-append}
 use Rattle.im_types.specs.Types.{Command, Limits, Contents, after, accept_each, Means}
 use Rattle.{im_laws.proofs.RunLemmas.after-append, im_engine.proofs.Keeping.accept_both}
 use Rattle.im_disk.{proofs.SinceLemmas.leaves_now, specs.declared.Disk.Ghosts, specs.Moment.Left, specs.Since.LeavesNow}

@@ -1,6 +1,6 @@
 -- A script that is run once: what is known at its end. (Own.)
-use Rattle.std.proofs.Common.{◌≡◌, ℕ, Bool, true, false, ◌⊎◌, List, [], ◌++◌, length, Option, sym, refl, ap, ◌∙◌, subst}
-use Rattle.std.proofs.Common.{inl, inr, ⊎_elim}
+use Rattle.std.proofs.Common.{◌≡◌, ℕ, Bool, true, false, ◌⊎◌, List, [], ◌++◌, length, sym, refl, ap, ◌∙◌, subst, inl}
+use Rattle.std.proofs.Common.{inr, ⊎_elim}
 use Rattle.im_types.specs.Types.{Command, Contents, IsMemory}
 use Rattle.{im_disk.specs.declared.Disk.Ghosts, im_text.proofs.SaidLemmas.prints_none}
 use Rattle.im_session.specs.Kept.{IsFresh, Kept, session_of, SessionStart, SessionState}

@@ -15,7 +15,7 @@ use Rattle.im_text.specs.Said.{IsLast, Output, Prints, PrintsMore, replies, Says
 use Rattle.im_serial.specs.{Asked.Course, Asked.Standing, Asked.Wanted, Noted.Notes, Serving.IsOver, Serving.IsServing}
 use Rattle.im_run.{proofs.DoingLemmas.told_weaker, specs.Doing.AreAllTold, specs.Tracing.TraceState}
 use Rattle.im_run.specs.declared.{run.TheConstants.STALLED, served.Did.Did}
-use Rattle.im_run.specs.Orders.{AreOrders, ArePartsThere, AreOfAll, Ask, bases_made, IsOfAll, Scope, scope_of}
+use Rattle.im_run.specs.Orders.{AreOfAll, AreOrders, ArePartsThere, Ask, bases_made, IsOfAll, Scope, scope_of}
 use Rattle.im_run.specs.Orders.{script_heard, SetsUp}
 use Rattle.im_run.specs.Planned.{EndsOnPlan, FitsIfNew, HasServedWhole, plan_of, planned_orders, start_by}
 use Rattle.im_run.specs.Running.{BeginsFinals, Closes, EndedOn, final_line, finals, PrintsFinals, RunOn, ServersEnded}

@@ -8,7 +8,7 @@ use Rattle.im_serving.specs.{declared.Glanced.Glanced, Elements.Asked, Elements.
 use Rattle.im_serving.specs.declared.Intent.{Intent, TheVariants.Glance, TheVariants.Request}
 use Rattle.im_serving.specs.Serving.{AreDone, AreGlanced, HasAnswers, IsGlanced, ops_of, requests, sites}
 use Rattle.im_run.specs.{Alone.AreCallsOf, declared.served.Did.Did, Planned.EndsOnPlan, Planned.plan_of}
-use Rattle.im_run.specs.Orders.{AreOrders, ArePartsThere, AreOfAll, Ask, bases_made, scope_of, script_heard, SetsUp}
+use Rattle.im_run.specs.Orders.{AreOfAll, AreOrders, ArePartsThere, Ask, bases_made, scope_of, script_heard, SetsUp}
 use mathlib.Core.List.{IsPrefix}
 use Rattle.im_run.specs.declared.served.Did.TheVariants as did
 

@@ -1,6 +1,6 @@
 -- What runs of a script leave, whatever stopped them. (Own.)
-use Rattle.std.proofs.Common.{◌≡◌, ℕ, ◌+◌, false, ◌⊎◌, List, [], ◌++◌, length, Some, Option, sym, refl, ap, ◌∙◌, subst}
-use Rattle.std.proofs.Common.{inl, inr, ⊎_elim, append-nil, arith, length-append}
+use Rattle.std.proofs.Common.{◌≡◌, ℕ, ◌+◌, false, ◌⊎◌, List, [], ◌++◌, length, Some, sym, refl, ap, ◌∙◌, subst, inl}
+use Rattle.std.proofs.Common.{inr, ⊎_elim, append-nil, arith, length-append}
 use Rattle.im_types.specs.Types.{Command, Limits, after, accept_each, Means}
 use Rattle.im_disk.proofs.SinceLemmas.{leaves_now, leaves_weaker}
 use Rattle.im_disk.specs.{declared.Disk.Ghosts, Moment.Left, Moment.Moment, Moment.Outside}

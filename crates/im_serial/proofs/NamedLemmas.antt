@@ -1,10 +1,9 @@
 -- The entries of earlier scripts that were named. (Own.)
-use Rattle.std.proofs.Common.{◌≡◌, ℕ, suc, ◌+◌, ◌≤◌, List, ◌∷◌, Some, None, Option, sym, refl, ap, ◌∙◌, subst, ⊎_elim}
-use Rattle.std.proofs.Common.{arith}
+use Rattle.std.proofs.Common.{◌≡◌, ℕ, suc, ◌+◌, ◌≤◌, List, ◌∷◌, Some, None, sym, refl, ap, ◌∙◌, subst, ⊎_elim, arith}
 use Rattle.std.proofs.lemmas.{Bool.cases_lt, Option.same_Some}
 use Rattle.im_types.specs.Types.{Kept, Contents, kept_for}
 use Rattle.im_text.specs.declared.Waited.{Waited}
-use Rattle.im_serial.specs.Named.{AreNamed, IsNamed}
+use Rattle.im_serial.{proofs.NotedLemmas.none_some, specs.Named.AreNamed, specs.Named.IsNamed}
 
 -- one was named last
 pub named_last : (old new : List Waited) (w : Waited) → new ≡ w ∷ old → IsNamed new w
@@ -13,9 +12,6 @@ named_last old new w is = subst (λ (l : List Waited). IsNamed l w) (sym is) (0,
 -- and those before it
 pub named_behind : (old new : List Waited) (w other : Waited) → new ≡ w ∷ old → IsNamed old other → IsNamed new other
 named_behind old new w other is there = subst (λ (l : List Waited). IsNamed l other) (sym is) (suc there.0, there.1)
-
-no_kept : (o : Option Kept) (k : Kept) → o ≡ None → o ≡ Some k → ⊥
-no_kept o k none some = cc
 
 module _ (m : Contents) (last element : ℕ) where
   -- no number
@@ -41,7 +37,7 @@ module _ (m : Contents) (last element : ℕ) where
       → AreNamed m last element number (number + 1) named
   named_unkept number named none other j low high few found =
       let same : number ≡ other = omega (arith, low, high) in
-      absurd (no_kept _ j (ap (λ (n : ℕ). kept_for m.windows (record { element = element; number = n })) (sym same)
+      absurd (none_some _ j (ap (λ (n : ℕ). kept_for m.windows (record { element = element; number = n })) (sym same)
       ∙ none) found)
 
   -- one number more

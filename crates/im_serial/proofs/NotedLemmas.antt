@@ -48,7 +48,7 @@ forgotten_none : (windows : List Window) (who : Waiter) → IsForgotten windows 
 forgotten_none windows who f = kept_for-here windows who.element f.window who f.there refl
     ∙ kept_under-below f.window who.number f.below
 
-none_some : (o : Option Kept) (k : Kept) → o ≡ None → o ≡ Some k → ⊥
+pub none_some : (o : Option Kept) (k : Kept) → o ≡ None → o ≡ Some k → ⊥
 none_some o k none some = cc
 
 -- ---- places

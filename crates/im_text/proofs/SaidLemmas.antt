@@ -1,13 +1,12 @@
 -- Lines on their way to a writer, and the lines of commands. (Own.)
-use Rattle.std.proofs.Common.{◌≡◌, ℕ, Bool, true, false, ◌||◌, ◌⊎◌, List, [], ◌∷◌, ◌++◌, Ok, Err, Option, Result, sym}
-use Rattle.std.proofs.Common.{refl, ap, ◌∙◌, subst, ap₂, inl, inr, append_assoc, append-nil}
-use Rattle.std.proofs.{KnownBytes.Appends-nil, lemmas.List.Folds.list_any-append, Math.Bool.or_assoc}
-use Rattle.std.specs.List.{list_any}
+use Rattle.std.proofs.Common.{◌≡◌, ℕ, Bool, false, ◌||◌, ◌⊎◌, List, [], ◌∷◌, ◌++◌, Option, sym, refl, ap, ◌∙◌, subst}
+use Rattle.std.proofs.Common.{ap₂, inl, inr, append_assoc, append-nil}
+use Rattle.std.proofs.{KnownBytes.Appends-nil, lemmas.List.Folds.list_any-append}
+use Rattle.std.{proofs.Math.Bool.or-false, proofs.Math.Bool.or_assoc, specs.List.list_any}
 use Rattle.im_types.specs.Types.{Waiter, Command, Refusal, Contents, step, after}
 use Rattle.im_text.proofs.PrintingLemmas.{batches_after, batches_all, batches_begin, batches_none}
-use Rattle.im_text.specs.declared.lines.Lines.{Lines}
+use Rattle.im_text.specs.{declared.lines.Lines.Lines, Printing.Batches, Printing.BatchesMore, Printing.BatchesOn}
 use Rattle.im_text.specs.declared.said.{OutputLine.OutputLine, OutputLine.TheVariants.Refused, Style.Style}
-use Rattle.im_text.specs.Printing.{Batches, BatchesMore, BatchesOn, TakesText}
 use Rattle.im_text.specs.Said.{is_fault_line, is_faulted, IsLast, Output, output_by, output_from, Prints, PrintsMore}
 use Rattle.im_text.specs.Said.{PrintsOn, replies, reply_line, said_all, said_in, SaysLast, SaysSome, SaysWhole, waits}
 use Rattle.im_text.specs.Said.{waits_by, Written}
@@ -30,10 +29,6 @@ unfolding said_all
 said_nothing style = refl
 
 -- ---- which of them tell a fault
-
-or_false : (a : Bool) → (a || false) ≡ a
-or_false true = refl
-or_false false = refl
 
 -- one time after another
 faulted_both : (from : Output) (b : Bool) (some more : List OutputLine) → b ≡ is_faulted from some
@@ -60,7 +55,7 @@ pub prints_more : (was is : Option (List ℕ)) (before after : Lines) (line : Ou
     → BatchesMore was before.batch is after.batch text → PrintsMore was before is after (line ∷ [])
 prints_more was is before after line text same told made more from said it = record {
   styled = same ∙ it.styled;
-  told = told ∙ ap (λ (b : Bool). before.faulted || b) (sym (or_false (is_fault_line line)))
+  told = told ∙ ap (λ (b : Bool). before.faulted || b) (sym (or-false (is_fault_line line)))
       ∙ faulted_both from before.faulted said (line ∷ []) it.told;
   printed = subst (Batches from.held is after.batch)
       (ap (λ (l : List ℕ). said_all from.style said ++ l) (made ∙ ap (λ (s : Style). said_in s line) it.styled
@@ -90,7 +85,7 @@ pub prints_none : (held : Option (List ℕ)) (lines : Lines) → lines.batch.pen
     → Prints (output_by lines held) held lines []
 prints_none held lines none = record {
   styled = refl;
-  told = sym (or_false lines.faulted);
+  told = sym (or-false lines.faulted);
   printed = subst (Batches held held lines.batch) (sym (said_nothing lines.style)) (batches_none held lines.batch none);
 }
 

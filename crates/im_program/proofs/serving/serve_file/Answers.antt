@@ -32,6 +32,6 @@ returns-clause-served g c = λ honest. rw c.if-once.false (record {
     faulted = c.serial_on-status.result.2;
     plain = c.serial_on-status.result.0;
     done = c.serial_on-status.ensures.served honest;
-    status_is = c.strict_status.ensures.status;
+    status_is = c.strict_status-else-once.ensures.status;
   };
 })

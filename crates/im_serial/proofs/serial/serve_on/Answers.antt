@@ -1,4 +1,4 @@
-use Rattle.std.proofs.Common.{Bool, [], length, Some, sym, refl, ap, ◌∙◌, subst}
+use Rattle.std.proofs.Common.{Bool, [], length, Some, sym, ap, ◌∙◌, subst}
 use Rattle.{im_engine.specs.State.EngineState, im_text.proofs.PrintingLemmas.on_ok_by}
 use Rattle.im_session.specs.Kept.{SessionStart, SessionState}
 use Rattle.im_text.specs.{declared.Lines.Lines, Said.nows, Said.output_by, Said.PrintsMore, Said.PrintsNows}
