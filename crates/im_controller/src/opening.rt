@@ -165,8 +165,8 @@ pub(crate) fn begin_planned<D: Disk + Drop, R: Wait>(
 ) -> Result<Opening<D>, (Refusal, Session<D>)>
     ensures found { IfOk result (λ o. OpensAs room (Some asked.plan) session o) }
     ensures ports { IfOk result (λ o. o.ports ≡ length session.engine.memory.windows) }
-    ensures starts { OnOk result (PlanGoesOn session.engine.memory asked.plan
-        × MayStartUnder asked.resumed session.engine.memory asked.plan) }
+    ensures fits { OnOk result (MayStartUnder asked.resumed session.engine.memory asked.plan) }
+    ensures goes_on { OnOk result (PlanGoesOn session.engine.memory asked.plan) }
     ensures bad { IfErr result (λ e. (e.0 ≡ BadPlan)
         ↔ (MayStartUnder asked.resumed session.engine.memory asked.plan → ⊥)) }
     ensures refused { IfErr result (λ e. ((e.0 ≡ NoMemory) ⊎ (e.0 ≡ BadPlan)) × (e.1 ≡ session)) }

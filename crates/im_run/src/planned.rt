@@ -1,5 +1,5 @@
 //! A script's requests as a plan.
-ghost use Rattle.std.specs.Prelude.{◌≡◌, ◌++◌, map, IfOk, OnOk};
+ghost use Rattle.std.specs.Prelude.{◌≡◌, ◌++◌, map, is_some, IfOk, OnOk, Some};
 ghost use Rattle.im_run.specs.Orders.{ask_of, asks_in};
 ghost use Rattle.im_run.specs.Planned.{number_behind, plan_of, planned_orders, request_by, requests_from, start_by};
 
@@ -120,15 +120,13 @@ fn orders_of(work: &Workload) -> &[Order]
     }
 }
 
-/// Makes the plan that a run starts under, if its requests are one. It is resumed if it is of all that the script asks
-/// for: then some of it may be done.
-pub(crate) fn plan_for(alloc: Global, work: &Workload) -> Result<Option<StartPlan>, Refusal>
-    ensures { IfOk result (λ plan. plan
-        ≡ start_by work.now.planned (asks_in work.now.whole) (map ask_of work.now.orders.items)) }
+// Makes the plan of a run. It is resumed if it is of all that the script asks for: then some of it may be done.
+fn make_plan(alloc: Global, work: &Workload) -> Result<Option<StartPlan>, Refusal>
+    ensures { IfOk result (λ plan. plan ≡ Some (record {
+      plan = plan_of (planned_orders (asks_in work.now.whole) (map ask_of work.now.orders.items));
+      resumed = is_some (asks_in work.now.whole);
+    })) }
 {
-    if !work.planned {
-        return Ok(None);
-    }
     let requests = match requests_of(alloc, orders_of(work)) {
         Ok(requests) => requests,
         Err(refusal) => return Err(refusal),
@@ -140,6 +138,17 @@ pub(crate) fn plan_for(alloc: Global, work: &Workload) -> Result<Option<StartPla
         })),
         Err(refusal) => Err(refusal),
     }
+}
+
+/// Makes the plan that a run starts under, if its requests are one.
+pub(crate) fn plan_for(alloc: Global, work: &Workload) -> Result<Option<StartPlan>, Refusal>
+    ensures { IfOk result (λ plan. plan
+        ≡ start_by work.now.planned (asks_in work.now.whole) (map ask_of work.now.orders.items)) }
+{
+    if work.planned {
+        return make_plan(alloc, work);
+    }
+    Ok(None)
 }
 
 /// Returns why a run doesn't begin.
