@@ -135,6 +135,28 @@ static void ask_below(void) {
     lt_close(image);
 }
 
+/* With a full journal, and nothing ahead, a repeat is told as before, and another request that there is no room. */
+static void ask_without_room(void) {
+    struct lt_command block = {LT_ALLOC_M, 0, 4, 1, 0}, put = {LT_PUT, 1, 0, 0, 5};
+    struct lt_advanced done = {0, 0, 0};
+    struct lt_outcome outcome = {0, 0, 0};
+    struct lt_image image = {NULL};
+    fail("format", "refusal", lt_format(CELLS, 4, 16, &image), 0);
+    fail("a block", "refusal", lt_serve(image, &block, &image, &outcome), 0);
+    for (put.number = 1; put.number < 16; put.number++)
+        fail("a put", "refusal", lt_serve(image, &put, &image, &outcome), 0);
+    lt_front_submit(image, 1, &put, &image);
+    lt_front_submit(image, 2, &block, &image);
+    lt_front_advance(image, &image, &done, told, MEMBERS);
+    fail("no room", "told", done.answered, 1);
+    fail("no room", "refusal", told[0].outcome.refusal, LT_JOURNAL_FULL);
+    lt_front_advance(image, &image, &done, told, MEMBERS);
+    fail("a repeat", "told", done.answered, 1);
+    check("a repeat", 0, 2, LT_BASE, 0);
+    fail("a repeat", "steps", lt_steps(&image), 0);
+    lt_close(image);
+}
+
 int main(int words, char **word) {
     if (words != 2 || ltf_create(word[1], CELLS, 8, SLOTS, &file)) return 2;
     memset(told, 0, sizeof told);
@@ -142,6 +164,7 @@ int main(int words, char **word) {
     fill_groups();
     give_numbers();
     ask_below();
+    ask_without_room();
     ltf_close(file);
     printf(faults ? "%d faults\n" : "told in order\n", faults);
     return faults != 0;
